@@ -1,0 +1,11 @@
+pub mod Tools
+pub mod Limits
+pub mod Field
+pub mod Code
+pub mod Weights
+pub mod Bound
+pub mod Polynomial
+pub mod Roots
+pub mod Listing
+pub mod Refusals
+pub mod Answers
