@@ -1,0 +1,10 @@
+-- The numbers that document 01 gives to each case of an answer that counts what is written.
+-- Assumes nothing.
+use Rattle.code.specs.declared.Counted.{Counted}
+use Rattle.code.specs.declared.Counted.the-variants.{Count, Refused}
+use Rattle.definitions.specs.Answers.{Answer, counted}
+use Rattle.field.specs.Told.{toldRefusal}
+
+abbrev pub toldCounted : Counted → Answer
+toldCounted (Count n) = counted n
+toldCounted (Refused r) = toldRefusal r

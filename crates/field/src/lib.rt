@@ -1,0 +1,65 @@
+// The field of sixteen symbols: sum, product and inverse, each refusing what is no symbol.
+ghost use mathlib.Core.Path.{_≡_};
+ghost use Rattle.definitions.specs.Field.{sixteen};
+ghost use Rattle.definitions.specs.Answers.{sumAnswer, productAnswer, inverseAnswer};
+ghost use Rattle.field.specs.Told.{toldElement};
+
+pub mod inside;
+
+pub const GREATEST_SYMBOL: u8 = 15;
+
+// The lines of the table of refusals.
+pub enum Refusal {
+    Sizes,
+    Setting,
+    Length,
+    Room,
+    Symbol(usize),
+    Column(usize),
+    Cost,
+    Zero,
+}
+
+pub enum Element {
+    Of(u8),
+    Refused(Refusal),
+}
+
+pub fn sum(a: u8, b: u8) -> Element
+    ensures { λ r. ⌜ toldElement r ≡ sumAnswer sixteen a b ⌝ }
+{
+    if GREATEST_SYMBOL < a {
+        return Element::Refused(Refusal::Symbol(0));
+    }
+    if GREATEST_SYMBOL < b {
+        return Element::Refused(Refusal::Symbol(1));
+    }
+    Element::Of(a ^ b)
+}
+
+pub fn product(a: u8, b: u8) -> Element
+    ensures { λ r. ⌜ toldElement r ≡ productAnswer sixteen a b ⌝ }
+{
+    if GREATEST_SYMBOL < a {
+        return Element::Refused(Refusal::Symbol(0));
+    }
+    if GREATEST_SYMBOL < b {
+        return Element::Refused(Refusal::Symbol(1));
+    }
+    let table = inside::products();
+    Element::Of(inside::look(&table, a, b))
+}
+
+pub fn inverse(a: u8) -> Element
+    ensures { λ r. ⌜ toldElement r ≡ inverseAnswer sixteen a ⌝ }
+{
+    if GREATEST_SYMBOL < a {
+        return Element::Refused(Refusal::Symbol(0));
+    }
+    if a == 0 {
+        return Element::Refused(Refusal::Zero);
+    }
+    let table = inside::inverses();
+    let at = inside::wide(a);
+    Element::Of(table[at])
+}
