@@ -1,0 +1,3 @@
+pub mod Tools
+pub mod Codeword
+pub mod Refusals

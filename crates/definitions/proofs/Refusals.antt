@@ -1,0 +1,91 @@
+-- The laws of the refusals: the first line that is given decides, and the first number above the greatest is found in order.
+-- Assumes nothing.
+use mathlib.Core.Bool.{true, false}
+use mathlib.Core.List.{List, [], _∷_}
+use mathlib.Core.Path.{_≡_, refl}
+use Prim.Native.Nat.{ℕ, zero, suc, _+_, _≤_, _<_}
+use native.Mathlib.Decide.{decLt}
+use native.Mathlib.Nat.{le-of-suc-le-suc, not-suc-le-zero}
+use native.Mathlib.Numerals.{add-one}
+use native.Mathlib.Omega.{arith}
+use borrow.Author.Tests.{lt-ltb, le-ltb}
+use lib.ListN.{length, getD, drop, drop-of-length-le, List·getD-eq-default}
+use lib.Seq.{drop-cons}
+use Rattle.definitions.specs.Refusals.{Line, tried, firstAbove}
+
+module _ {ℓ} {A : Type ℓ} (l : Line) (table : List Line) (refused : ℕ → ℕ → A) (accepted : A) where
+  -- a line that is given decides
+  pub tried-given : l .given ≡ true → tried (l ∷ table) refused accepted ≡ refused (l .number) (l .place)
+  tried-given e = rw e
+
+  -- a line that is not is passed over
+  pub tried-passed : l .given ≡ false → tried (l ∷ table) refused accepted ≡ tried table refused accepted
+  tried-passed e = rw e
+
+module _ (greatest : ℕ) where
+  -- the clauses of firstAbove
+  first-nil : firstAbove greatest [] ≡ 0
+  unfolding firstAbove
+  first-nil = refl
+
+  first-stop : (x : ℕ) (l : List ℕ) → greatest < x → firstAbove greatest (x ∷ l) ≡ 0
+  unfolding firstAbove
+  first-stop x l h = rw (lt-ltb greatest x h)
+
+  first-step : (x : ℕ) (l : List ℕ) → x ≤ greatest → firstAbove greatest (x ∷ l) ≡ suc (firstAbove greatest l)
+  unfolding firstAbove
+  first-step x l h = rw (le-ltb greatest x h)
+
+  -- from place i on: it is there
+  pub firstAbove-stop : (l : List ℕ) (i : ℕ) → i < length l → greatest < getD l i 0 → firstAbove greatest (drop i l) ≡ 0
+  firstAbove-stop l i h g = rw (drop-cons l i 0 h) (first-stop (getD l i 0) (drop (suc i) l) g)
+
+  -- it is not there, and is looked for from the next place on
+  pub firstAbove-step : (l : List ℕ) (i : ℕ) → i < length l → getD l i 0 ≤ greatest → firstAbove greatest (drop i l) ≡ suc (firstAbove greatest (drop (i + 1) l))
+  firstAbove-step l i h g = rw (add-one, drop-cons l i 0 h) (first-step (getD l i 0) (drop (suc i) l) g)
+
+  -- there is no place left
+  pub firstAbove-end : (l : List ℕ) (i : ℕ) → length l ≤ i → firstAbove greatest (drop i l) ≡ 0
+  firstAbove-end l i h = rw (drop-of-length-le l h) first-nil
+
+  -- the place lies within the list, or at its end
+  pub firstAbove-le : (l : List ℕ) → firstAbove greatest l ≤ length l
+  firstAbove-le [] = rw first-nil (omega arith)
+  firstAbove-le (x ∷ l) =
+      elim (decLt greatest x) [
+        | yes h ↦ rw (first-stop x l h) (omega arith)
+        | no n ↦ let r = firstAbove-le l in rw (first-step x l (omega arith)) (omega arith)
+      ]
+
+  -- what stands there is above
+  pub first-above : (l : List ℕ) → firstAbove greatest l < length l → greatest < getD l (firstAbove greatest l) 0
+  first-above [] h = absurd (not-suc-le-zero h)
+  first-above (x ∷ l) h =
+      elim (decLt greatest x) [
+        | yes a ↦ rw (first-stop x l a) a
+        | no n ↦
+            let e = first-step x l (omega arith) in
+            rw e (first-above l (le-of-suc-le-suc (rw e at h)))
+      ]
+
+  -- what stands before it is not
+  pub before-above : (l : List ℕ) (j : ℕ) → j < firstAbove greatest l → getD l j 0 ≤ greatest
+  before-above [] j h = omega arith
+  before-above (x ∷ l) zero h =
+      elim (decLt greatest x) [
+        | yes a ↦ absurd (not-suc-le-zero (rw (first-stop x l a) at h))
+        | no n ↦ omega arith
+      ]
+  before-above (x ∷ l) (suc j) h =
+      elim (decLt greatest x) [
+        | yes a ↦ absurd (not-suc-le-zero (rw (first-stop x l a) at h))
+        | no n ↦ before-above l j (le-of-suc-le-suc (rw (first-step x l (omega arith)) at h))
+      ]
+
+  -- where it lies at the end, no number is above
+  pub none-above : (l : List ℕ) → length l ≤ firstAbove greatest l → (j : ℕ) → getD l j 0 ≤ greatest
+  none-above l h j =
+      elim (decLt j (length l)) [
+        | yes a ↦ before-above l j (omega arith)
+        | no n ↦ rw (List·getD-eq-default l 0 {n = j} (omega arith)) (omega arith)
+      ]
