@@ -1,6 +1,6 @@
 -- Tests of all numbers below a limit, computed, and what they prove.
 -- Assumes nothing.
-use mathlib.Core.Bool.{Bool, true, false, _&&_}
+use mathlib.Core.Bool.{Bool, true, false, _&&_, _||_}
 use mathlib.Core.Path.{subst, sym}
 use Prim.Native.Nat.{ℕ, zero, suc, _<_}
 use native.Mathlib.Decide.{ℕ-discrete}
@@ -40,3 +40,8 @@ every-at (suc q) test t a h =
 -- where all pairs below q pass, each does
 pub everyPair-at : (q : ℕ) (test : ℕ → ℕ → Bool) → T (everyPair q test) → (a b : ℕ) → a < q → b < q → T (test a b)
 everyPair-at q test t a b ha hb = every-at q (λ y. test a y) (every-at q (λ x. every q (λ y. test x y)) t a ha) b hb
+
+-- of two tests of which one passes the second does, where the first does not
+pub other-passes : (a b : Bool) → T (a || b) → (T a → ⊥) → T b
+other-passes true b t n = absurd (n tt)
+other-passes false b t n = t

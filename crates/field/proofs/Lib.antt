@@ -1,3 +1,4 @@
+pub mod Instance
 pub mod Order
 pub mod Tables
 pub mod Unique
