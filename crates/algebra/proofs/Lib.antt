@@ -1,3 +1,4 @@
 pub mod Tests
 pub mod Sums
 pub mod Finite
+pub mod Closed

@@ -1,3 +1,4 @@
 pub mod Tools
 pub mod Codeword
 pub mod Refusals
+pub mod Table

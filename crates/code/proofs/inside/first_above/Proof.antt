@@ -1,0 +1,55 @@
+use mathlib.Core.Path.{_≡_}
+use Prim.Native.Nat.{_+_, _-_, _≤_}
+use native.Mathlib.Omega.{arith}
+use lib.ListN.{length, drop}
+use Rattle.definitions.proofs.Refusals.{firstAbove-stop, firstAbove-step, firstAbove-end}
+use Rattle.definitions.specs.Refusals.{firstAbove}
+use Rattle.code.proofs.inside.first_above.Statement.{statement}
+use Rattle.code.proofs.inside.first_above.Tie as tie
+
+abbrev Inv-loop : tie.InvT-loop
+Inv-loop greatest list i₀ i = (i ≤ length list) × (firstAbove greatest list ≡ i + firstAbove greatest (drop i list))
+
+abbrev μ-loop : tie.MeasureT-loop
+μ-loop greatest list i₀ i = length list - i
+
+loop-holds : tie.Need-loop-holds Inv-loop μ-loop
+loop-holds c = omega arith
+
+shared-slice-read-if1 : tie.Need-shared-slice-read-if1 Inv-loop μ-loop
+shared-slice-read-if1 c = omega arith
+
+returns : tie.Need-returns Inv-loop μ-loop
+returns c =
+    let l = c .before .before .before in
+    omega (arith, firstAbove-stop _ (l .before .args .list .now) (l .loop .i) (c .before .before .loop-test .taken) (c .if1 .taken))
+
+add-i : tie.Need-add-i Inv-loop μ-loop
+add-i c = omega arith
+
+loop-less : tie.Need-loop-less Inv-loop μ-loop
+loop-less c = omega arith
+
+loop-again : tie.Need-loop-again Inv-loop μ-loop
+loop-again c =
+    let l = c .before .before .before in
+    omega (arith, firstAbove-step _ (l .before .args .list .now) (l .loop .i) (c .before .before .loop-test .taken) (c .if1 .left))
+
+returns-2 : tie.Need-returns-2 Inv-loop μ-loop
+returns-2 c =
+    let l = c .before in
+    omega (arith, firstAbove-end (l .before .args .greatest) (l .before .args .list .now) (l .loop .i) (c .loop-test .left))
+
+pub first-above-spec : {M : Type 1} → statement M
+first-above-spec =
+    tie.close
+    (tie.spec
+    Inv-loop
+    μ-loop
+    loop-holds
+    shared-slice-read-if1
+    returns
+    add-i
+    loop-less
+    loop-again
+    returns-2)

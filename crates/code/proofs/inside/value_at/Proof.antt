@@ -1,0 +1,62 @@
+use mathlib.Core.Path.{_≡_}
+use Prim.Native.Nat.{ℕ, _-_, _≤_}
+use native.Mathlib.Omega.{arith}
+use lib.ListN.{length, drop}
+use Rattle.code.proofs.Laws.{empty-value, value-more, value-so-far}
+use Rattle.definitions.specs.Field.{numbers, value, sixteen}
+use Rattle.code.proofs.inside.value_at.Statement.{statement}
+use Rattle.code.proofs.inside.value_at.Tie as tie
+
+abbrev Inv-loop : tie.InvT-loop
+Inv-loop table f x y₀ j₀ y j = (j ≤ length f) × (y ≡ value (numbers sixteen) x (drop j f))
+
+abbrev μ-loop : tie.MeasureT-loop
+μ-loop table f x y₀ j₀ y j = j
+
+loop-holds : tie.Need-loop-holds Inv-loop μ-loop
+loop-holds c = (omega arith, empty-value (c .before .args .x) (c .before .args .f .now))
+
+sub-j : tie.Need-sub-j Inv-loop μ-loop
+sub-j c = omega arith
+
+shared-slice-read-y : tie.Need-shared-slice-read-y Inv-loop μ-loop
+shared-slice-read-y c = omega arith
+
+look-requires : tie.Need-look-requires Inv-loop μ-loop
+look-requires c κs =
+    let l = c .before .before in
+    let s = l .before .before in
+    let small = value-so-far (s .args .x) (s .args .f .now) (l .loop .j) (l .loop .y) (s .pre .1 .1) (s .pre .1 .0) (l .loop .inv .1) in
+    (s .pre .0, (s .pre .1 .1, small))
+
+loop-less : tie.Need-loop-less Inv-loop μ-loop
+loop-less c = omega arith
+
+loop-again : tie.Need-loop-again Inv-loop μ-loop
+loop-again c =
+    let l = c .before .before .before in
+    let s = l .before .before in
+    let lower = l .loop .inv .0 in (
+      omega arith,
+      value-more (s .args .x) (s .args .f .now) (l .loop .j) (l .loop .y) (c .look .result) (omega arith) lower (l .loop .inv .1) (c .look .ensures),
+    )
+
+returns : tie.Need-returns Inv-loop μ-loop
+returns c =
+    let l = c .before in
+    let e : l .loop .j ≡ 0 = omega arith in
+    rw e at (l .loop .inv .1)
+
+pub value-at-spec : {M : Type 1} → statement M
+value-at-spec =
+    tie.close
+    (tie.spec
+    Inv-loop
+    μ-loop
+    loop-holds
+    sub-j
+    shared-slice-read-y
+    look-requires
+    loop-less
+    loop-again
+    returns)
