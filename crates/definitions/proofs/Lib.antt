@@ -1,3 +1,4 @@
 pub mod Tools
 pub mod Codeword
+pub mod Weights
 pub mod Refusals
