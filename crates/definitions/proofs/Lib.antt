@@ -1,4 +1,5 @@
 pub mod Tools
 pub mod Codeword
 pub mod Weights
+pub mod Bound
 pub mod Refusals

@@ -1,7 +1,7 @@
 -- The laws of multiplicities, matrix and cost, for loops over the entries.
 -- Assumes nothing.
 use mathlib.Core.List.{List, [], _∷_, _++_, map, map-append}
-use mathlib.Core.Path.{_≡_}
+use mathlib.Core.Path.{_≡_, refl}
 use Prim.Native.Nat.{ℕ, suc, _+_, _*_, _/_, _≤_, _<_}
 use native.Mathlib.Nat.{mul-le-mul, mul-le-mul-left, div-le-of-le-mul}
 use native.Mathlib.Omega.{arith}
@@ -9,7 +9,7 @@ use lib.ListN.{length, getD, take, length-map}
 use lib.Seq.{take-suc}
 use Rattle.definitions.specs.Limits.{columnSum}
 use Rattle.definitions.specs.Tools.{sum}
-use Rattle.definitions.specs.Weights.{multiplicity, matrix}
+use Rattle.definitions.specs.Weights.{multiplicity, matrix, cost}
 use Rattle.definitions.proofs.Tools.{sum-zero, sum-suc, sum-bound, map-at}
 
 -- no multiplicity is above the level
@@ -26,9 +26,12 @@ matrix-at L r i h = map-at (multiplicity L) r i 0 0 h
 pub map-take : {B : Type 0} (f : ℕ → B) (l : List ℕ) (i : ℕ) → i < length l → map f (take (suc i) l) ≡ map f (take i l) ++ (f (getD l i 0) ∷ [])
 map-take f l i h = rw (take-suc l i 0 h) (map-append f (take i l) (getD l i 0 ∷ []))
 
--- the cost of the first j entries; `cost m` is that of `length m` of them
+-- the cost of the first j entries
 abbrev pub costOf : List ℕ → ℕ → ℕ
 costOf m j = sum j (λ (j : ℕ). getD m j 0 * (getD m j 0 + 1) / 2)
+
+pub cost-is : (m : List ℕ) → cost m ≡ costOf m (length m)
+cost-is m = refl
 
 pub cost-zero : (m : List ℕ) → costOf m 0 ≡ 0
 cost-zero m = sum-zero (λ (j : ℕ). getD m j 0 * (getD m j 0 + 1) / 2)
