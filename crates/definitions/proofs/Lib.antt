@@ -2,6 +2,7 @@ pub mod Tools
 pub mod Ordered
 pub mod Joined
 pub mod Codeword
+pub mod Messages
 pub mod Weights
 pub mod Bound
 pub mod Monomials
