@@ -1,4 +1,10 @@
 pub mod Tools
+pub mod Ordered
+pub mod Joined
 pub mod Codeword
+pub mod Messages
+pub mod Weights
+pub mod Bound
+pub mod Monomials
 pub mod Refusals
 pub mod Table
