@@ -1,24 +1,19 @@
 -- The steps of the loops, over plain numbers and lists.
 -- Assumes nothing.
-use mathlib.Core.List.{List, [], _∷_, _++_, map, append-assoc}
-use mathlib.Core.Path.{_≡_, sym, _∙_, ap, ap₂}
-use Prim.Native.Nat.{ℕ, suc, _+_, _-_, _≤_, _<_}
+use mathlib.Core.List.{List, _++_, map}
+use mathlib.Core.Path.{_≡_, sym, _∙_, ap}
+use Prim.Native.Nat.{ℕ, _+_, _-_, _≤_, _<_}
 use native.Mathlib.Numerals.{add-one}
-use native.Mathlib.Omega.{arith}
 use lib.Bits.{bitXor}
 use lib.ListN.{length, drop, getD, set}
-use lib.Seq.{drop-cons, drop-length, set-at, getD-drop}
+use lib.Seq.{drop-length, getD-drop}
 use Rattle.algebra.proofs.Closed.{point-symbol, value-symbol}
 use Rattle.definitions.proofs.Codeword.{power-zero, power-suc, value-nil, value-step, length-codeword, codeword-suc}
+use Rattle.definitions.proofs.Loops.{put-more}
 use Rattle.definitions.proofs.Tools.{below-zero}
 use Rattle.definitions.specs.Code.{Symbols, point, codeword}
 use Rattle.definitions.specs.Field.{numbers, value, sixteen, sumOf}
 use Rattle.field.proofs.Instance.{sixteen-field}
-
--- one entry more is put behind those that are there
-pub put-more : {A : Type 0} (z : A) (done rest : List A) (i : ℕ) (v : A) → length done ≡ i → i < length rest
-    → set (done ++ drop i rest) i v ≡ (done ++ (v ∷ [])) ++ drop (i + 1) rest
-put-more z done rest i v e h = rw (add-one, drop-cons rest i z, append-assoc) (set-at done (getD rest i z) (drop (suc i) rest) v i e)
 
 -- before Horner's first step
 pub empty-value : (x : ℕ) (f : List ℕ) → 0 ≡ value (numbers sixteen) x (drop (length f) f)

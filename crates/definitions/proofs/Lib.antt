@@ -8,3 +8,5 @@ pub mod Bound
 pub mod Monomials
 pub mod Refusals
 pub mod Table
+pub mod Loops
+pub mod Sums

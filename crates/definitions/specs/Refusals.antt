@@ -34,12 +34,18 @@ abbrev pub sizes : Code → ℕ → ℕ → Line
 sizes C n k = line 1 (not (sizesFit C n k))
 
 -- "roots, which have no n: not 2 ≤ k ≤ 15; multiplicities, which have no k: not 2 ≤ n ≤ 15"
+abbrev pub sizeFits : Code → ℕ → Bool
+sizeFits C n = leb 2 n && leb n (C .positions)
+
 abbrev pub size : Code → ℕ → Line
-size C n = line 1 (not (leb 2 n && leb n (C .positions)))
+size C n = line 1 (not (sizeFits C n))
 
 -- "2 setting: L not 1 to 4; cost limit G above 150; N(D) above 256"
+abbrev pub levelFits : ℕ → Bool
+levelFits L = leb 1 L && leb L greatestLevel
+
 abbrev pub level : ℕ → Line
-level L = line 2 (not (leb 1 L && leb L greatestLevel))
+level L = line 2 (not (levelFits L))
 
 abbrev pub limit : ℕ → Line
 limit G = line 2 (ltb greatestLimit G)

@@ -25,8 +25,11 @@ abbrev pub matrix : ℕ → List ℕ → List ℕ
 matrix L r = map (multiplicity L) r
 
 -- "Cost C is the sum of m(m+1)/2 over all entries"
+abbrev pub entryCost : ℕ → ℕ
+entryCost m = m * (m + 1) / 2
+
 abbrev pub cost : List ℕ → ℕ
-cost m = sum (length m) (λ (j : ℕ). getD m j 0 * (getD m j 0 + 1) / 2)
+cost m = sum (length m) (λ (j : ℕ). entryCost (getD m j 0))
 
 -- "The score of a codeword is the sum, over positions, of the entry at its symbol"
 abbrev pub score : Code → ℕ → List ℕ → List ℕ → ℕ

@@ -1,0 +1,35 @@
+-- Sums taken apart: in two, in blocks of equal size, and without a tail of zeros.
+-- Assumes nothing.
+use mathlib.Core.Path.{_≡_, sym, _∙_, ap, ap₂}
+use Prim.Native.Nat.{ℕ, zero, suc, _+_, _*_, _-_, _≤_, _<_}
+use native.Mathlib.Nat.{add-zero, add-suc, mul-zero, mul-suc, add-assoc}
+use native.Mathlib.Omega.{arith}
+use Rattle.definitions.proofs.Tools.{sum-zero, sum-suc, sum-ext}
+use Rattle.definitions.specs.Tools.{sum}
+
+pub sum-append : (m n : ℕ) (f : ℕ → ℕ) → sum (m + n) f ≡ sum m f + sum n (λ j. f (m + j))
+sum-append m zero f = let e = sum-zero (λ j. f (m + j)) in rw (add-zero m) (omega arith)
+sum-append m (suc n) f =
+    let e = sum-append m n f in
+    let g = sum-suc n (λ j. f (m + j)) in
+    rw (add-suc m n, sum-suc (m + n) f) (omega arith)
+
+-- block after block of q
+pub sum-blocks : (q n : ℕ) (f : ℕ → ℕ) → sum (q * n) f ≡ sum n (λ i. sum q (λ b. f (q * i + b)))
+sum-blocks q zero f = rw (mul-zero q, sum-zero f) (sym (sum-zero (λ i. sum q (λ b. f (q * i + b)))))
+sum-blocks q (suc n) f =
+    rw (mul-suc q n)
+    (sum-append (q * n) q f ∙ ap (λ (s : ℕ). s + sum q (λ b. f (q * n + b))) (sum-blocks q n f)
+    ∙ sym (sum-suc n (λ i. sum q (λ b. f (q * i + b)))))
+
+sum-of-zeros : (n : ℕ) (f : ℕ → ℕ) → ((j : ℕ) → f j ≡ 0) → sum n f ≡ 0
+sum-of-zeros zero f z = sum-zero f
+sum-of-zeros (suc n) f z = let e = sum-of-zeros n f z in let g = z n in rw (sum-suc n f) (omega arith)
+
+-- what is zero from m on adds nothing
+pub sum-tail : (m n : ℕ) (f : ℕ → ℕ) → m ≤ n → ((j : ℕ) → m ≤ j → f j ≡ 0) → sum n f ≡ sum m f
+sum-tail m n f h z =
+    let e : n ≡ m + (n - m) = omega arith in
+    let r = sum-of-zeros (n - m) (λ j. f (m + j)) (λ j. z (m + j) (omega arith)) in
+    let a = sum-append m (n - m) f in
+    ap (λ (k : ℕ). sum k f) e ∙ a ∙ ap (λ (s : ℕ). sum m f + s) r ∙ add-zero (sum m f)

@@ -1,0 +1,90 @@
+-- The steps of the loops over weights and columns, and that their numbers fit.
+-- Assumes nothing.
+use mathlib.Core.Bool.{false, not}
+use mathlib.Core.List.{List, [], _∷_, _++_, map}
+use mathlib.Core.Path.{_≡_, refl, sym, _∙_, ap}
+use Prim.Native.Nat.{ℕ, suc, _+_, _*_, _-_, _/_, _≤_, _<_}
+use native.Mathlib.Nat.{mul-comm, mul-le-mul, le-div-iff-mul-le, div-le-self}
+use native.Mathlib.Numerals.{add-one}
+use native.Mathlib.Omega.{arith}
+use borrow.Author.Count.{below-more}
+use borrow.Author.Tests.{eq-eqb, ne-eqb}
+use lib.ListN.{length, take, drop, getD, set, replicate, length-drop, length-map}
+use lib.Seq.{take-suc, length-take-le, getD-drop}
+use Rattle.definitions.proofs.Bound.{count-above, bound-is}
+use Rattle.definitions.proofs.Loops.{put-more}
+use Rattle.definitions.proofs.Tools.{below-zero, length-below, map-below, smallest-is}
+use Rattle.definitions.proofs.Weights.{map-take}
+use Rattle.definitions.specs.Bound.{count, bound}
+use Rattle.definitions.specs.Field.{sixteen}
+use Rattle.definitions.specs.Limits.{columnSum}
+use Rattle.definitions.specs.Refusals.{badColumn}
+use Rattle.definitions.specs.Tools.{below, smallest}
+use Rattle.definitions.specs.Weights.{sumOfColumn, multiplicity, matrix}
+use Rattle.weights.specs.Matrix.{columnOf, matrixOf}
+
+-- one multiplicity more is written
+pub multiplicity-more : (L : ℕ) (r out now : List ℕ) (i x : ℕ) → i < length r → i < length out → now ≡ matrix L (take i r) ++ drop i out
+    → x ≡ multiplicity L (getD r i 0) → set now i x ≡ matrix L (take (i + 1) r) ++ drop (i + 1) out
+multiplicity-more L r out now i x hr ho e ex =
+    rw (e, ex)
+    (put-more 0 (matrix L (take i r)) out i (multiplicity L (getD r i 0)) (length-map (take i r) (multiplicity L) ∙ length-take-le i r (omega arith)) ho
+    ∙ ap (λ (l : List ℕ). l ++ drop (i + 1) out) (sym (map-take (multiplicity L) r i hr) ∙ ap (λ (n : ℕ). matrix L (take n r)) (sym (add-one i))))
+
+-- one entry more of a column is copied
+pub entry-more : (m rest now : List ℕ) (at b x : ℕ) → b < length rest → at + b < length m → now ≡ take b (drop at m) ++ drop b rest
+    → x ≡ getD m (at + b) 0 → set now b x ≡ take (b + 1) (drop at m) ++ drop (b + 1) rest
+entry-more m rest now at b x h l e ex =
+    let long : b < length (drop at m) = rw length-drop (omega arith) in
+    let size : length (take b (drop at m)) ≡ b = length-take-le b (drop at m) (omega arith) in
+    let grown : take (b + 1) (drop at m) ≡ take b (drop at m) ++ (x ∷ []) =
+    rw (add-one, take-suc (drop at m) b 0 long, getD-drop at m b 0, ex) in
+    rw (e, grown) (put-more 0 (take b (drop at m)) rest b x size h)
+
+-- one column more is loaded
+pub column-more : (m : List ℕ) (rest now : List (List ℕ)) (i : ℕ) (col : List ℕ) → i < length rest → now ≡ map (columnOf m) (below i) ++ drop i rest
+    → col ≡ columnOf m i → set now i col ≡ map (columnOf m) (below (i + 1)) ++ drop (i + 1) rest
+column-more m rest now i col h e ec =
+    rw (e, ec)
+    (put-more [] (map (columnOf m) (below i)) rest i (columnOf m i) (length-map (below i) (columnOf m) ∙ length-below i) h
+    ∙ ap (λ (l : List (List ℕ)). l ++ drop (i + 1) rest) (sym (map-below (columnOf m) i) ∙ ap (λ (n : ℕ). map (columnOf m) (below n)) (sym (add-one i))))
+
+-- a level of at most 4 times a reliability
+pub level-fits : (L r : ℕ) → L ≤ 4 → r < 65536 → L * r ≤ 262140
+level-fits L r hl hr = mul-le-mul {n₁ = L} {m₁ = r} {n₂ = 4} {m₂ = 65535} hl (omega arith)
+
+-- m(m+1)/2 of a byte
+pub cost-fits : (m : ℕ) → m < 256 → m * (m + 1) ≤ 65280
+cost-fits m h = mul-le-mul {n₁ = m} {m₁ = m + 1} {n₂ = 255} {m₂ = 256} (omega arith) (omega arith)
+
+-- a power of y that is counted
+pub power-fits : (v d b : ℕ) → 0 < v → b ≤ d / v → (v * b ≤ d) × (b ≤ d)
+power-fits v d b pos h =
+    let product : b * v ≤ d = (le-div-iff-mul-le pos) .0 h in
+    let turned = mul-comm v b in
+    let quotient = div-le-self d v in
+    (omega arith, omega arith)
+
+-- no column is loaded yet
+pub none-loaded : (m : List ℕ) → replicate 15 (replicate 16 0) ≡ matrixOf m 0
+none-loaded m = ap (λ (l : List ℕ). map (columnOf m) l ++ replicate 15 (replicate 16 0)) (sym below-zero)
+
+-- the columns that a search has passed sum to 4,096
+module _ (r : List ℕ) (n i : ℕ) (passed : (j : ℕ) → j < i → badColumn sixteen r j ≡ false) where
+  pub column-found : (total : ℕ) → i < n → total ≡ sumOfColumn sixteen r i → (total ≡ columnSum → ⊥) → i ≡ smallest (badColumn sixteen r) n
+  column-found total h e bad =
+      sym (smallest-is (badColumn sixteen r) n i (omega arith) passed (λ _. ap not (ne-eqb (sumOfColumn sixteen r i) columnSum (λ q. bad (e ∙ q)))))
+
+  pub column-passed : (total : ℕ) → total ≡ sumOfColumn sixteen r i → total ≡ columnSum → (j : ℕ) → j < i + 1 → badColumn sixteen r j ≡ false
+  column-passed total e right = below-more (λ (j : ℕ). badColumn sixteen r j ≡ false) i passed (ap not (eq-eqb (sumOfColumn sixteen r i) columnSum (sym e ∙ right)))
+
+  pub no-column : i ≤ n → n ≤ i → i ≡ smallest (badColumn sixteen r) n
+  no-column h k = sym (smallest-is (badColumn sixteen r) n i h passed (λ l. let z : ⊥ = omega arith in absurd z))
+
+-- the degrees that a search has passed have too few monomials
+module _ (v C d : ℕ) (pos : 0 < v) (passed : (e : ℕ) → e < d → count v e ≤ C) where
+  pub degree-found : (n : ℕ) → n ≡ count v d → C < n → d ≡ bound v C
+  degree-found n e h = sym (bound-is v pos C d (omega arith) passed)
+
+  pub degree-passed : (n : ℕ) → n ≡ count v d → n ≤ C → (d + 1 ≤ C) × ((e : ℕ) → e < d + 1 → count v e ≤ C)
+  degree-passed n e h = let above = count-above v pos d in (omega arith, below-more (λ (e : ℕ). count v e ≤ C) d passed (omega arith))

@@ -1,0 +1,65 @@
+use Rattle.weights.proofs.Laws.{entry-more}
+use mathlib.Core.Path.{_≡_, refl, sym, _∙_, ap}
+use Prim.Native.Nat.{ℕ, _+_, _*_, _-_, _/_, _≤_, _<_}
+use mathlib.Core.List.{_++_, append-nil}
+use lib.ListN.{take, drop, replicate}
+use native.Mathlib.Omega.{arith}
+use Rattle.weights.proofs.inside.column.Statement.{statement}
+use Rattle.weights.proofs.inside.column.Tie as tie
+
+abbrev Inv-loop : tie.InvT-loop
+Inv-loop matrix i col₀ b₀ col b = (b ≤ 16) × (col ≡ take b (drop (16 * i) matrix) ++ drop b (replicate 16 0))
+
+abbrev μ-loop : tie.MeasureT-loop
+μ-loop matrix i col₀ b₀ col b = 16 - b
+
+loop-holds : tie.Need-loop-holds Inv-loop μ-loop
+loop-holds c = (omega arith, refl)
+
+mul-col : tie.Need-mul-col Inv-loop μ-loop
+mul-col c = omega arith
+
+add-col : tie.Need-add-col Inv-loop μ-loop
+add-col c = omega arith
+
+shared-slice-read-col : tie.Need-shared-slice-read-col Inv-loop μ-loop
+shared-slice-read-col c = omega arith
+
+array-write-col : tie.Need-array-write-col Inv-loop μ-loop
+array-write-col c = omega arith
+
+add-b : tie.Need-add-b Inv-loop μ-loop
+add-b c = omega arith
+
+loop-less : tie.Need-loop-less Inv-loop μ-loop
+loop-less c = omega arith
+
+loop-again : tie.Need-loop-again Inv-loop μ-loop
+loop-again c =
+    let l = c .before .before in
+    let s = l .before in (
+      omega arith,
+      entry-more (s .args .matrix .now) (replicate 16 0) (l .loop .col) (16 * s .args .i) (l .loop .b) _ (c .before .loop-test .taken) (omega arith) (l .loop .inv .1) refl,
+    )
+
+returns : tie.Need-returns Inv-loop μ-loop
+returns c =
+    let l = c .before in
+    let e : l .loop .b ≡ 16 = omega arith in
+    rw (e, append-nil) at (l .loop .inv .1)
+
+pub column-spec : {M : Type 1} → statement M
+column-spec =
+    tie.close
+    (tie.spec
+    Inv-loop
+    μ-loop
+    loop-holds
+    mul-col
+    add-col
+    shared-slice-read-col
+    array-write-col
+    add-b
+    loop-less
+    loop-again
+    returns)

@@ -1,0 +1,77 @@
+use lib.Seq.{take-length}
+use Rattle.weights.proofs.Laws.{multiplicity-more}
+use mathlib.Core.Path.{_≡_, refl, sym, _∙_, ap}
+use Prim.Native.Nat.{ℕ, _+_, _*_, _-_, _/_, _≤_, _<_}
+use mathlib.Core.List.{_++_}
+use lib.ListN.{length, take, drop, length-set}
+use Rattle.definitions.specs.Weights.{matrix}
+use native.Mathlib.Omega.{arith}
+use borrow.Author.Needs.{needs}
+use Rattle.weights.proofs.inside.multiplicities_into.Statement.{statement}
+use Rattle.weights.proofs.inside.multiplicities_into.Tie as tie
+
+abbrev Inv-loop : tie.InvT-loop
+Inv-loop level reliabilities out₀ i₀ out i = (i ≤ length reliabilities) × (length out ≡ length out₀) × (out ≡ matrix level (take i reliabilities) ++ drop i out₀)
+
+abbrev μ-loop : tie.MeasureT-loop
+μ-loop level reliabilities out₀ i₀ out i = length reliabilities - i
+
+loop-holds : tie.Need-loop-holds Inv-loop μ-loop
+loop-holds c = (omega arith, refl, refl)
+
+mul-multiplicity-of : tie.Need-mul-multiplicity-of Inv-loop μ-loop
+mul-multiplicity-of c = omega arith
+
+shared-slice-read-multiplicity-of : tie.Need-shared-slice-read-multiplicity-of Inv-loop μ-loop
+shared-slice-read-multiplicity-of c = omega arith
+
+multiplicity-of-requires : tie.Need-multiplicity-of-requires Inv-loop μ-loop
+multiplicity-of-requires c κs = search needs
+
+slice-write-out : tie.Need-slice-write-out Inv-loop μ-loop
+slice-write-out c = omega arith
+
+add-i : tie.Need-add-i Inv-loop μ-loop
+add-i c = omega arith
+
+loop-less : tie.Need-loop-less Inv-loop μ-loop
+loop-less c = omega arith
+
+loop-again : tie.Need-loop-again Inv-loop μ-loop
+loop-again c =
+    let l = c .before .before .before in
+    let s = l .before .before .before in
+    let more : l .loop .i < length (s .args .reliabilities .now) = omega arith in (
+      omega arith,
+      length-set (l .loop .out) (l .loop .i) (c .multiplicity-of .result) ∙ l .loop .inv .1,
+      multiplicity-more (s .args .level) (s .args .reliabilities .now) (s .args .out .now) (l .loop .out) (l .loop .i) (c .multiplicity-of .result) more
+          (omega arith) (l .loop .inv .2) (c .multiplicity-of .ensures),
+    )
+
+same-length : tie.Need-same-length Inv-loop μ-loop
+same-length c = omega arith
+
+returns : tie.Need-returns Inv-loop μ-loop
+returns c =
+    let l = c .before in
+    let s = l .before .before .before in
+    let r = s .args .reliabilities .now in
+    let e : l .loop .i ≡ length r = omega arith in
+    rw (e, take-length r) at (l .loop .inv .2)
+
+pub multiplicities-into-spec : {M : Type 1} → statement M
+multiplicities-into-spec =
+    tie.close
+    (tie.spec
+    Inv-loop
+    μ-loop
+    loop-holds
+    mul-multiplicity-of
+    shared-slice-read-multiplicity-of
+    multiplicity-of-requires
+    slice-write-out
+    add-i
+    loop-less
+    loop-again
+    same-length
+    returns)
