@@ -6,4 +6,5 @@ pub mod Messages
 pub mod Weights
 pub mod Bound
 pub mod Monomials
+pub mod Listing
 pub mod Refusals

@@ -192,6 +192,15 @@ module _ {B : Type 0} (test : B → Bool) where
       (λ n. rw (select-no b l n)
       (⊎-elim (λ e. absurd (true≢false (sym p ∙ ap test e ∙ n))) (λ t. select-keeps l x p t) (List·Memᴰ·cases-cons m)))
 
+  -- where none of the list passes, none is selected; where all do, all are
+  pub select-none : (l : List B) → ((x : B) → List·Memᴰ x l → test x ≡ false) → select test l ≡ []
+  select-none [] h = select-nil
+  select-none (b ∷ l) h = select-no b l (h b (List·Memᴰ·head refl)) ∙ select-none l (λ x m. h x (List·Memᴰ·tail m))
+
+  pub select-all : (l : List B) → ((x : B) → List·Memᴰ x l → test x ≡ true) → select test l ≡ l
+  select-all [] h = select-nil
+  select-all (b ∷ l) h = rw (select-yes b l (h b (List·Memᴰ·head refl)), select-all l (λ x m. h x (List·Memᴰ·tail m)))
+
   pub select-append : (l m : List B) → select test (l ++ m) ≡ select test l ++ select test m
   select-append [] m = rw select-nil
   select-append (b ∷ l) m =
