@@ -41,7 +41,7 @@ earlier-irreflexive v m e = ⊎-elim (λ h. let z : ⊥ = omega arith in z) (λ 
 module _ (v : ℕ) (pos : 1 ≤ v) where
   -- those of weighted degree w: their number
   length-of : (w : ℕ) → length (monomialsOf v w) ≡ w / v + 1
-  length-of w = length-map (below (w / v + 1)) (λ (b : ℕ). (w - v * b, b)) ∙ length-below (w / v + 1)
+  length-of w = simp (length-map, length-below)
 
   -- a power of y up to w/v leaves room for a power of x
   room : (w b : ℕ) → List·Memᴰ b (below (w / v + 1)) → v * b ≤ w
@@ -53,7 +53,7 @@ module _ (v : ℕ) (pos : 1 ≤ v) where
   -- each is of weighted degree w
   of-degree : (w : ℕ) (m : ℕ × ℕ) → List·Memᴰ m (monomialsOf v w) → weighted v m ≡ w
   of-degree w m k =
-      let r = Memᴰ·of-map (λ (b : ℕ). (w - v * b, b)) (below (w / v + 1)) k in
+      let r = Memᴰ·of-map _ (below (w / v + 1)) k in
       let h = room w (r .0) (r .1) in
       ap (weighted v) (sym (r .2)) ∙ omega arith
 
@@ -63,12 +63,12 @@ module _ (v : ℕ) (pos : 1 ≤ v) where
       let h : m .1 ≤ weighted v m / v = (le-div-iff-mul-le pos) .1 (omega arith) in
       let e : m .0 ≡ weighted v m - v * m .1 = omega arith in
       Memᴰ·cast (ap (λ (a : ℕ). (a, m .1)) e)
-      (Memᴰ·map (λ (b : ℕ). (weighted v m - v * b, b)) (below-member (weighted v m / v + 1) (m .1) (omega arith)))
+      (Memᴰ·map _ (below-member (weighted v m / v + 1) (m .1) (omega arith)))
 
   -- by the power of y
   of-ordered : (w : ℕ) → Ordered (Earlier v) (monomialsOf v w)
   of-ordered w =
-      ordered-map (Earlier v) _<_ (λ (b : ℕ). (w - v * b, b)) (below (w / v + 1))
+      ordered-map (Earlier v) _<_ _ (below (w / v + 1))
       (λ a b s t h. let k = room w a s in let l = room w b t in inr (omega arith, h)) (below-ordered (w / v + 1))
 
   size-of : (D : ℕ) → length (flatMap (monomialsOf v) (below (suc D))) ≡ count v D

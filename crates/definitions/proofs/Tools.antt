@@ -81,6 +81,9 @@ pub sum-suc : (n : ℕ) (f : ℕ → ℕ) → sum (suc n) f ≡ sum n f + f n
 unfolding sum
 sum-suc n f = refl
 
+pub sum-one : (f : ℕ → ℕ) → sum 1 f ≡ f 0
+sum-one f = sum-suc 0 f ∙ rw (sum-zero f) (omega arith)
+
 -- equal terms, equal sums
 pub sum-ext : (n : ℕ) (f g : ℕ → ℕ) → ((j : ℕ) → j < n → f j ≡ g j) → sum n f ≡ sum n g
 sum-ext zero f g h = sum-zero f ∙ sym (sum-zero g)

@@ -12,6 +12,10 @@ use Rattle.definitions.specs.Tools.{sum}
 use Rattle.definitions.specs.Weights.{multiplicity, matrix, cost}
 use Rattle.definitions.proofs.Tools.{sum-zero, sum-suc, sum-bound, map-at}
 
+-- "the whole part of L times the reliability over 4,096"
+pub multiplicity-whole : (L r : ℕ) → (multiplicity L r * columnSum ≤ L * r) × (L * r < (multiplicity L r + 1) * columnSum)
+multiplicity-whole L r = omega arith
+
 -- no multiplicity is above the level
 pub multiplicity-le : (L r : ℕ) → r ≤ columnSum → multiplicity L r ≤ L
 multiplicity-le L r h = div-le-of-le-mul columnSum (let e = mul-le-mul-left L h in omega arith)
