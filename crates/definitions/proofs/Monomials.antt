@@ -84,7 +84,7 @@ module _ (v : ℕ) (pos : 1 ≤ v) where
   ordered-of : (D : ℕ) → Ordered (Earlier v) (monomials v D)
   ordered-of D =
       ordered-join (monomialsOf v) (Earlier v) _<_ of-ordered
-      (λ a b x y h s t. let k = of-degree a x s in let l = of-degree b y t in inl (omega arith)) (below (D + 1)) (below-ordered (D + 1))
+      (λ a b x y h s t. let k = of-degree a x s in let l = of-degree b y t in inl (omega arith)) _ (below-ordered _)
 
   -- the monomials stand in document 01's order
   pub monomials-in-order : (D : ℕ) → MonomialOrder v D

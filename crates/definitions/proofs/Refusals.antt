@@ -28,13 +28,13 @@ module _ (greatest : ℕ) where
   unfolding firstAbove
   first-nil = refl
 
-  first-stop : (x : ℕ) (l : List ℕ) → greatest < x → firstAbove greatest (x ∷ l) ≡ 0
-  unfolding firstAbove
-  first-stop x l h = ap (λ (t : Bool). cond t 0 (suc (firstAbove greatest l))) (lt-ltb greatest x h)
-
   first-step : (x : ℕ) (l : List ℕ) → x ≤ greatest → firstAbove greatest (x ∷ l) ≡ suc (firstAbove greatest l)
   unfolding firstAbove
   first-step x l h = ap (λ (t : Bool). cond t 0 (suc (firstAbove greatest l))) (le-ltb greatest x h)
+
+  first-stop : (x : ℕ) (l : List ℕ) → greatest < x → firstAbove greatest (x ∷ l) ≡ 0
+  unfolding firstAbove
+  first-stop x l h = ap (λ (t : Bool). cond t 0 (suc (firstAbove greatest l))) (lt-ltb greatest x h)
 
   -- from place i on: it is there
   pub firstAbove-stop : (l : List ℕ) (i : ℕ) → i < length l → greatest < getD l i 0 → firstAbove greatest (drop i l) ≡ 0
