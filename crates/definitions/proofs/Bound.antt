@@ -34,6 +34,7 @@ module _ (v : ℕ) (pos : 1 ≤ v) where
         | no n ↦ inl (omega arith)
       ]
 
+  -- of degree 0 there is one monomial
   pub count-zero : count v 0 ≡ 1
   count-zero = rw (zero-div v, sum-one) (omega arith)
 
@@ -66,10 +67,12 @@ module _ (v : ℕ) (pos : 1 ≤ v) where
         | no n ↦ let e : D ≡ E = omega arith in rw e (omega arith)
       ]
 
+  -- there are more than D monomials up to degree D: one for each power of x
   pub count-above : (D : ℕ) → D < count v D
   count-above zero = rw count-zero (omega arith)
   count-above (suc D) = let r = count-above D in let s = count-suc D in omega arith
 
+  -- the bound is never above the cost
   pub bound-le : (C : ℕ) → bound v C ≤ C
   bound-le C = smallest-le _ C
 

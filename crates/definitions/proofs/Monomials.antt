@@ -27,11 +27,13 @@ Earlier v m n = (weighted v m < weighted v n) ⊎ ((weighted v m ≡ weighted v 
 pub record MonomialOrder (v D : ℕ) : Type 0 where
   -- "N(D) counts the monomials of weighted degree at most D"
   pub size : length (monomials v D) ≡ count v D
-  -- all of them are of weighted degree at most D, and every such monomial is among them
+  -- each is of weighted degree at most D
   pub within : (m : ℕ × ℕ) → List·Memᴰ m (monomials v D) → weighted v m ≤ D
+  -- every monomial of weighted degree at most D is among them
   pub each : (m : ℕ × ℕ) → weighted v m ≤ D → List·Memᴰ m (monomials v D)
-  -- in order, and so no two places hold the same
+  -- by weighted degree, then by the power of y
   pub ordered : Ordered (Earlier v) (monomials v D)
+  -- no two places hold the same
   pub once : (i j : ℕ) → i < length (monomials v D) → j < length (monomials v D) → getD (monomials v D) i (0, 0) ≡ getD (monomials v D) j (0, 0) → i ≡ j
 
 -- no monomial is earlier than itself
@@ -71,6 +73,7 @@ module _ (v : ℕ) (pos : 1 ≤ v) where
       ordered-map (Earlier v) _<_ _ (below (w / v + 1))
       (λ a b s t h. let k = room w a s in let l = room w b t in inr (omega arith, h)) (below-ordered (w / v + 1))
 
+  -- degree by degree they are as many as N(D) counts
   size-of : (D : ℕ) → length (flatMap (monomialsOf v) (below (suc D))) ≡ count v D
   size-of zero =
       let a : length (flatMap (monomialsOf v) (below 0)) ≡ 0 = rw (below-zero, join-nil (monomialsOf v)) in
@@ -81,6 +84,7 @@ module _ (v : ℕ) (pos : 1 ≤ v) where
       rw (join-below (monomialsOf v) (suc D), length-append (flatMap (monomialsOf v) (below (suc D))) (monomialsOf v (suc D)), size-of D, length-of (suc D))
       (sym (count-suc v pos D))
 
+  -- degree by degree they stand in order
   ordered-of : (D : ℕ) → Ordered (Earlier v) (monomials v D)
   ordered-of D =
       ordered-join (monomialsOf v) (Earlier v) _<_ of-ordered

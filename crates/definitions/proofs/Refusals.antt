@@ -23,15 +23,17 @@ module _ {ℓ} {A : Type ℓ} (l : Line) (table : List Line) (refused : ℕ → 
   tried-passed e = rw e
 
 module _ (greatest : ℕ) where
-  -- the clauses of firstAbove
+  -- in an empty list there is none
   first-nil : firstAbove greatest [] ≡ 0
   unfolding firstAbove
   first-nil = refl
 
+  -- a number that is not above is passed over
   first-step : (x : ℕ) (l : List ℕ) → x ≤ greatest → firstAbove greatest (x ∷ l) ≡ suc (firstAbove greatest l)
   unfolding firstAbove
   first-step x l h = ap (λ (t : Bool). cond t 0 (suc (firstAbove greatest l))) (le-ltb greatest x h)
 
+  -- a number that is above is the first
   first-stop : (x : ℕ) (l : List ℕ) → greatest < x → firstAbove greatest (x ∷ l) ≡ 0
   unfolding firstAbove
   first-stop x l h = ap (λ (t : Bool). cond t 0 (suc (firstAbove greatest l))) (lt-ltb greatest x h)
