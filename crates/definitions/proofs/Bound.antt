@@ -7,10 +7,9 @@ use native.Mathlib.Decide.{decLt}
 use native.Mathlib.Nat.{not-suc-le-zero, zero-div, mul-div-le, lt-mul-div-succ, lt-of-mul-lt-mul-left, mul-le-mul-left}
 use native.Mathlib.Omega.{arith}
 use borrow.Author.Tests.{ltb-true, ltb-false, lt-ltb, le-ltb}
-use lib.Dec.{ltb}
 use Rattle.definitions.specs.Bound.{count, bound}
 use Rattle.definitions.specs.Tools.{sum}
-use Rattle.definitions.proofs.Tools.{sum-zero, sum-suc, smallest-le, smallest-fails, smallest-passes, smallest-is}
+use Rattle.definitions.proofs.Tools.{sum-zero, sum-suc, sum-one, smallest-le, smallest-fails, smallest-passes, smallest-is}
 
 -- each term one more, the sum n more
 sum-more : (n : ℕ) (f g : ℕ → ℕ) → ((j : ℕ) → j < n → g j ≡ f j + 1) → sum n g ≡ sum n f + n
@@ -35,8 +34,9 @@ module _ (v : ℕ) (pos : 1 ≤ v) where
         | no n ↦ inl (omega arith)
       ]
 
+  -- of degree 0 there is one monomial
   pub count-zero : count v 0 ≡ 1
-  count-zero = rw (zero-div v) (rw (sum-suc 0 (λ (b : ℕ). 1 - v * b), sum-zero (λ (b : ℕ). 1 - v * b)) (omega arith))
+  count-zero = rw (zero-div v, sum-one) (omega arith)
 
   -- up to the power of y of degree D each power gains one monomial
   each-gains : (D : ℕ) → sum (D / v + 1) (λ (b : ℕ). suc D + 1 - v * b) ≡ count v D + (D / v + 1)
@@ -67,27 +67,29 @@ module _ (v : ℕ) (pos : 1 ≤ v) where
         | no n ↦ let e : D ≡ E = omega arith in rw e (omega arith)
       ]
 
+  -- there are more than D monomials up to degree D: one for each power of x
   pub count-above : (D : ℕ) → D < count v D
   count-above zero = rw count-zero (omega arith)
   count-above (suc D) = let r = count-above D in let s = count-suc D in omega arith
 
+  -- the bound is never above the cost
   pub bound-le : (C : ℕ) → bound v C ≤ C
-  bound-le C = smallest-le (λ (D : ℕ). ltb C (count v D)) C
+  bound-le C = smallest-le _ C
 
   -- the bound is the smallest D with N(D) > C
   pub bound-is-least : (C : ℕ) → (C < count v (bound v C)) × ((D : ℕ) → D < bound v C → count v D ≤ C)
   bound-is-least C = (
     elim (decLt (bound v C) C) [
-      | yes l ↦ ltb-true C (count v (bound v C)) (smallest-passes (λ (D : ℕ). ltb C (count v D)) C l)
+      | yes l ↦ ltb-true C (count v (bound v C)) (smallest-passes _ C l)
       | no n ↦ let e : bound v C ≡ C = (let b = bound-le C in omega arith) in rw e (count-above C)
     ],
-    λ D l. ltb-false C (count v D) (smallest-fails (λ (D : ℕ). ltb C (count v D)) C D l),
+    λ D l. ltb-false C (count v D) (smallest-fails _ C D l),
   )
 
   -- what a search upward from 0 comes to is the bound
   pub bound-is : (C D : ℕ) → C < count v D → ((E : ℕ) → E < D → count v E ≤ C) → bound v C ≡ D
   bound-is C D a f =
-      smallest-is (λ (D : ℕ). ltb C (count v D)) C D
+      smallest-is _ C D
       (elim (decLt C D) [
         | yes l ↦ let g = count-above C in let k = f C l in let z : ⊥ = omega arith in absurd z
         | no n ↦ omega arith

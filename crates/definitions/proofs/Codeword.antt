@@ -16,18 +16,22 @@ module _ (A : Ops) where
 
   infixl 60 _⊕_
   infixl 70 _⊗_
+  -- the power 0 is one
   pub power-zero : (x : K) → power A x 0 ≡ i
   unfolding power
   power-zero x = refl
 
+  -- one power more, one factor more
   pub power-suc : (x : K) (n : ℕ) → power A x (suc n) ≡ x ⊗ power A x n
   unfolding power
   power-suc x n = refl
 
+  -- with no coefficients the value is zero
   pub value-nil : (x : K) → value A x [] ≡ o
   unfolding value
   value-nil x = refl
 
+  -- one lowest coefficient more
   pub value-cons : (x c : K) (f : List K) → value A x (c ∷ f) ≡ c ⊕ x ⊗ value A x f
   unfolding value
   value-cons x c f = refl
@@ -39,6 +43,7 @@ module _ (A : Ops) where
       rw (drop-cons f (j - 1) o (omega arith), e) (value-cons x (getD f (j - 1) o) (drop j f))
 
 module _ (C : Code) (f : List ℕ) where
+  -- a codeword has n symbols
   pub length-codeword : (n : ℕ) → length (codeword C n f) ≡ n
   length-codeword n = length-map (below n) (λ (i : ℕ). value (numbers C) (point C i) f) ∙ length-below n
 

@@ -9,14 +9,17 @@ use Rattle.definitions.proofs.Tools.{below-suc}
 use Rattle.definitions.proofs.Ordered.{Ordered, ordered-append}
 
 module _ {A B : Type 0} (f : A → List B) where
+  -- over no entry nothing is joined
   pub join-nil : flatMap f [] ≡ []
   unfolding flatMap
   join-nil = refl
 
+  -- over one entry more at the front its list comes first
   pub join-cons : (a : A) (l : List A) → flatMap f (a ∷ l) ≡ f a ++ flatMap f l
   unfolding flatMap
   join-cons a l = refl
 
+  -- over two lists, the one after the other
   pub join-append : (l m : List A) → flatMap f (l ++ m) ≡ flatMap f l ++ flatMap f m
   join-append [] m = rw join-nil
   join-append (a ∷ l) m = rw (join-cons a (l ++ m), join-cons a l, join-append l m) (sym (append-assoc (f a) (flatMap f l) (flatMap f m)))

@@ -6,6 +6,7 @@ pub mod Messages
 pub mod Weights
 pub mod Bound
 pub mod Monomials
+pub mod Listing
 pub mod Refusals
 pub mod Table
 pub mod Loops

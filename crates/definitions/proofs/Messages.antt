@@ -21,12 +21,15 @@ Before (a ∷ f) [] = ⊥
 Before (a ∷ f) (b ∷ g) = (a < b) ⊎ ((a ≡ b) × Before f g)
 
 pub record AllMessages (C : Code) (k : ℕ) : Type 0 where
-  -- "A message is k symbols": each is one, and every one is there
+  -- "A message is k symbols"
   pub sized : (f : List ℕ) → List·Memᴰ f (messages C k) → length f ≡ k
+  -- every entry is a symbol
   pub symbols : (f : List ℕ) → List·Memᴰ f (messages C k) → Symbols C f
+  -- every list of k symbols is among them
   pub each : (f : List ℕ) → length f ≡ k → Symbols C f → List·Memᴰ f (messages C k)
-  -- in order, and so no two places hold the same
+  -- by the first symbol, then the second and so on
   pub ordered : Ordered Before (messages C k)
+  -- no two places hold the same
   pub once : (i j : ℕ) → i < length (messages C k) → j < length (messages C k) → getD (messages C k) i [] ≡ getD (messages C k) j [] → i ≡ j
 
 -- no list is before itself
@@ -35,6 +38,7 @@ before-irreflexive [] b = b
 before-irreflexive (a ∷ f) b = ⊎-elim (λ h. let z : ⊥ = omega arith in z) (λ h. before-irreflexive f (h .1)) b
 
 module _ (C : Code) where
+  -- of no symbols there is one message
   pub messages-zero : messages C 0 ≡ [] ∷ []
   unfolding messages
   messages-zero = refl
@@ -43,6 +47,7 @@ module _ (C : Code) where
   abbrev pub beginning : ℕ → ℕ → List (List ℕ)
   beginning k c = map (λ (f : List ℕ). c ∷ f) (messages C k)
 
+  -- those of one symbol more, by their first symbol
   pub messages-suc : (k : ℕ) → messages C (suc k) ≡ flatMap (beginning k) (below (C .symbols))
   unfolding messages
   messages-suc k = refl
@@ -53,20 +58,24 @@ module _ (C : Code) where
       let r = member-join (beginning k) (below (C .symbols)) f (rw (messages-suc k) at m) in
       (r .0, member-below (C .symbols) (r .0) (r .1), Memᴰ·of-map (λ (f : List ℕ). r .0 ∷ f) (messages C k) (r .2))
 
+  -- each has k symbols
   sized-of : (k : ℕ) (f : List ℕ) → List·Memᴰ f (messages C k) → length f ≡ k
   sized-of zero f m = ap length (List·Memᴰ·eq-of-singleton (rw messages-zero at m))
   sized-of (suc k) f m = let r = parts k f m in ap length (sym (r .2 .2)) ∙ ap suc (sized-of k (r .2 .0) (r .2 .1))
 
+  -- a symbol before symbols
   cons-symbols : (c : ℕ) (f : List ℕ) → c < C .symbols → Symbols C f → Symbols C (c ∷ f)
   cons-symbols c f h s zero = h
   cons-symbols c f h s (suc j) = s j
 
+  -- each entry is a symbol
   symbols-of : 0 < C .symbols → (k : ℕ) (f : List ℕ) → List·Memᴰ f (messages C k) → Symbols C f
   symbols-of pos zero f m = subst (Symbols C) (sym (List·Memᴰ·eq-of-singleton (rw messages-zero at m))) (λ j. pos)
   symbols-of pos (suc k) f m =
       let r = parts k f m in
       subst (Symbols C) (r .2 .2) (cons-symbols (r .0) (r .2 .0) (r .1) (symbols-of pos k (r .2 .0) (r .2 .1)))
 
+  -- every list of k symbols is among them
   each-of : (k : ℕ) (f : List ℕ) → length f ≡ k → Symbols C f → List·Memᴰ f (messages C k)
   each-of zero [] e s = rw messages-zero (List·Memᴰ·head refl)
   each-of zero (c ∷ f) e s = absurd (suc-ne-zero (length f) e)
@@ -76,6 +85,7 @@ module _ (C : Code) where
       (join-member (beginning k) (below (C .symbols)) c (c ∷ f) (below-member (C .symbols) c (s 0))
       (Memᴰ·map (λ (f : List ℕ). c ∷ f) (each-of k f (suc-inj e) (λ j. s (suc j)))))
 
+  -- they stand in order, for those of k + 1 symbols by the first, then as those of k
   ordered-of : (k : ℕ) → Ordered Before (messages C k)
   ordered-of zero = rw messages-zero (λ y m. absurd (List·Memᴰ·not-nil m), tt)
   ordered-of (suc k) =

@@ -27,11 +27,13 @@ Earlier v m n = (weighted v m < weighted v n) ⊎ ((weighted v m ≡ weighted v 
 pub record MonomialOrder (v D : ℕ) : Type 0 where
   -- "N(D) counts the monomials of weighted degree at most D"
   pub size : length (monomials v D) ≡ count v D
-  -- all of them are of weighted degree at most D, and every such monomial is among them
+  -- each is of weighted degree at most D
   pub within : (m : ℕ × ℕ) → List·Memᴰ m (monomials v D) → weighted v m ≤ D
+  -- every monomial of weighted degree at most D is among them
   pub each : (m : ℕ × ℕ) → weighted v m ≤ D → List·Memᴰ m (monomials v D)
-  -- in order, and so no two places hold the same
+  -- by weighted degree, then by the power of y
   pub ordered : Ordered (Earlier v) (monomials v D)
+  -- no two places hold the same
   pub once : (i j : ℕ) → i < length (monomials v D) → j < length (monomials v D) → getD (monomials v D) i (0, 0) ≡ getD (monomials v D) j (0, 0) → i ≡ j
 
 -- no monomial is earlier than itself
@@ -41,7 +43,7 @@ earlier-irreflexive v m e = ⊎-elim (λ h. let z : ⊥ = omega arith in z) (λ 
 module _ (v : ℕ) (pos : 1 ≤ v) where
   -- those of weighted degree w: their number
   length-of : (w : ℕ) → length (monomialsOf v w) ≡ w / v + 1
-  length-of w = length-map (below (w / v + 1)) (λ (b : ℕ). (w - v * b, b)) ∙ length-below (w / v + 1)
+  length-of w = simp (length-map, length-below)
 
   -- a power of y up to w/v leaves room for a power of x
   room : (w b : ℕ) → List·Memᴰ b (below (w / v + 1)) → v * b ≤ w
@@ -53,7 +55,7 @@ module _ (v : ℕ) (pos : 1 ≤ v) where
   -- each is of weighted degree w
   of-degree : (w : ℕ) (m : ℕ × ℕ) → List·Memᴰ m (monomialsOf v w) → weighted v m ≡ w
   of-degree w m k =
-      let r = Memᴰ·of-map (λ (b : ℕ). (w - v * b, b)) (below (w / v + 1)) k in
+      let r = Memᴰ·of-map _ (below (w / v + 1)) k in
       let h = room w (r .0) (r .1) in
       ap (weighted v) (sym (r .2)) ∙ omega arith
 
@@ -63,14 +65,15 @@ module _ (v : ℕ) (pos : 1 ≤ v) where
       let h : m .1 ≤ weighted v m / v = (le-div-iff-mul-le pos) .1 (omega arith) in
       let e : m .0 ≡ weighted v m - v * m .1 = omega arith in
       Memᴰ·cast (ap (λ (a : ℕ). (a, m .1)) e)
-      (Memᴰ·map (λ (b : ℕ). (weighted v m - v * b, b)) (below-member (weighted v m / v + 1) (m .1) (omega arith)))
+      (Memᴰ·map _ (below-member (weighted v m / v + 1) (m .1) (omega arith)))
 
   -- by the power of y
   of-ordered : (w : ℕ) → Ordered (Earlier v) (monomialsOf v w)
   of-ordered w =
-      ordered-map (Earlier v) _<_ (λ (b : ℕ). (w - v * b, b)) (below (w / v + 1))
+      ordered-map (Earlier v) _<_ _ (below (w / v + 1))
       (λ a b s t h. let k = room w a s in let l = room w b t in inr (omega arith, h)) (below-ordered (w / v + 1))
 
+  -- degree by degree they are as many as N(D) counts
   size-of : (D : ℕ) → length (flatMap (monomialsOf v) (below (suc D))) ≡ count v D
   size-of zero =
       let a : length (flatMap (monomialsOf v) (below 0)) ≡ 0 = rw (below-zero, join-nil (monomialsOf v)) in
@@ -81,10 +84,11 @@ module _ (v : ℕ) (pos : 1 ≤ v) where
       rw (join-below (monomialsOf v) (suc D), length-append (flatMap (monomialsOf v) (below (suc D))) (monomialsOf v (suc D)), size-of D, length-of (suc D))
       (sym (count-suc v pos D))
 
+  -- degree by degree they stand in order
   ordered-of : (D : ℕ) → Ordered (Earlier v) (monomials v D)
   ordered-of D =
       ordered-join (monomialsOf v) (Earlier v) _<_ of-ordered
-      (λ a b x y h s t. let k = of-degree a x s in let l = of-degree b y t in inl (omega arith)) (below (D + 1)) (below-ordered (D + 1))
+      (λ a b x y h s t. let k = of-degree a x s in let l = of-degree b y t in inl (omega arith)) _ (below-ordered _)
 
   -- the monomials stand in document 01's order
   pub monomials-in-order : (D : ℕ) → MonomialOrder v D

@@ -1,8 +1,8 @@
 -- The laws of the refusals: the first line that is given decides, and the first number above the greatest is found in order.
 -- Assumes nothing.
-use mathlib.Core.Bool.{true, false}
+use mathlib.Core.Bool.{Bool, true, false, cond}
 use mathlib.Core.List.{List, [], _∷_}
-use mathlib.Core.Path.{_≡_, refl}
+use mathlib.Core.Path.{_≡_, refl, ap}
 use Prim.Native.Nat.{ℕ, zero, suc, _+_, _≤_, _<_}
 use native.Mathlib.Decide.{decLt}
 use native.Mathlib.Nat.{le-of-suc-le-suc, not-suc-le-zero}
@@ -23,18 +23,20 @@ module _ {ℓ} {A : Type ℓ} (l : Line) (table : List Line) (refused : ℕ → 
   tried-passed e = rw e
 
 module _ (greatest : ℕ) where
-  -- the clauses of firstAbove
+  -- in an empty list there is none
   first-nil : firstAbove greatest [] ≡ 0
   unfolding firstAbove
   first-nil = refl
 
-  first-stop : (x : ℕ) (l : List ℕ) → greatest < x → firstAbove greatest (x ∷ l) ≡ 0
-  unfolding firstAbove
-  first-stop x l h = rw (lt-ltb greatest x h)
-
+  -- a number that is not above is passed over
   first-step : (x : ℕ) (l : List ℕ) → x ≤ greatest → firstAbove greatest (x ∷ l) ≡ suc (firstAbove greatest l)
   unfolding firstAbove
-  first-step x l h = rw (le-ltb greatest x h)
+  first-step x l h = ap (λ (t : Bool). cond t 0 (suc (firstAbove greatest l))) (le-ltb greatest x h)
+
+  -- a number that is above is the first
+  first-stop : (x : ℕ) (l : List ℕ) → greatest < x → firstAbove greatest (x ∷ l) ≡ 0
+  unfolding firstAbove
+  first-stop x l h = ap (λ (t : Bool). cond t 0 (suc (firstAbove greatest l))) (lt-ltb greatest x h)
 
   -- from place i on: it is there
   pub firstAbove-stop : (l : List ℕ) (i : ℕ) → i < length l → greatest < getD l i 0 → firstAbove greatest (drop i l) ≡ 0

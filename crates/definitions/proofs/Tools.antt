@@ -25,14 +25,17 @@ map-at f (x ∷ l) (suc i) d e h = map-at f l i d e (le-of-suc-le-suc h)
 
 -- ---- below
 
+-- below 0 there is no number
 pub below-zero : below 0 ≡ []
 unfolding below
 below-zero = refl
 
+-- below n + 1 there is n besides, at the end
 pub below-suc : (n : ℕ) → below (suc n) ≡ below n ++ (n ∷ [])
 unfolding below
 below-suc n = refl
 
+-- there are n of them
 pub length-below : (n : ℕ) → length (below n) ≡ n
 length-below zero = rw below-zero
 length-below (suc n) = rw (below-suc n, length-append (below n) (n ∷ []), length-below n) (omega arith)
@@ -56,7 +59,7 @@ map-below f n = rw (below-suc n) (map-append f (below n) (n ∷ []))
 pub map-below-at : {B : Type 0} (f : ℕ → B) (n i : ℕ) (e : B) → i < n → getD (map f (below n)) i e ≡ f i
 map-below-at f n i e h = map-at f (below n) i 0 e (rw (length-below n) h) ∙ ap f (below-at n i h)
 
--- those below n are members, and no others
+-- a number below n is a member
 pub below-member : (n m : ℕ) → m < n → List·Memᴰ m (below n)
 below-member zero m h = absurd (not-suc-le-zero h)
 below-member (suc n) m h =
@@ -65,6 +68,7 @@ below-member (suc n) m h =
       | no b ↦ rw (below-suc n) (Memᴰ·append-right (below n) (List·Memᴰ·head (omega arith)))
     ]
 
+-- a member is below n
 pub member-below : (n m : ℕ) → List·Memᴰ m (below n) → m < n
 member-below zero m h = absurd (List·Memᴰ·not-nil (rw below-zero at h))
 member-below (suc n) m h =
@@ -73,13 +77,19 @@ member-below (suc n) m h =
 
 -- ---- sum
 
+-- no terms
 pub sum-zero : (f : ℕ → ℕ) → sum 0 f ≡ 0
 unfolding sum
 sum-zero f = refl
 
+-- one term more
 pub sum-suc : (n : ℕ) (f : ℕ → ℕ) → sum (suc n) f ≡ sum n f + f n
 unfolding sum
 sum-suc n f = refl
+
+-- one term
+pub sum-one : (f : ℕ → ℕ) → sum 1 f ≡ f 0
+sum-one f = sum-suc 0 f ∙ rw (sum-zero f) (omega arith)
 
 -- equal terms, equal sums
 pub sum-ext : (n : ℕ) (f g : ℕ → ℕ) → ((j : ℕ) → j < n → f j ≡ g j) → sum n f ≡ sum n g
@@ -105,14 +115,17 @@ sum-bound (suc n) c f h =
 -- ---- smallest
 
 module _ (test : ℕ → Bool) where
+  -- up to 0 there is only 0
   smallest-zero : smallest test 0 ≡ 0
   unfolding smallest
   smallest-zero = refl
 
+  -- where 0 passes it is 0
   smallest-here : (n : ℕ) → test 0 ≡ true → smallest test (suc n) ≡ 0
   unfolding smallest
   smallest-here n e = rw e
 
+  -- where 0 fails it is looked for from 1 on
   smallest-later : (n : ℕ) → test 0 ≡ false → smallest test (suc n) ≡ suc (smallest (λ m. test (suc m)) n)
   unfolding smallest
   smallest-later n e = rw e
@@ -155,14 +168,17 @@ smallest-is test n j l f p =
 -- ---- select
 
 module _ {B : Type 0} (test : B → Bool) where
+  -- of none, none
   pub select-nil : select test [] ≡ []
   unfolding select
   select-nil = refl
 
+  -- one that passes is kept
   pub select-yes : (b : B) (l : List B) → test b ≡ true → select test (b ∷ l) ≡ b ∷ select test l
   unfolding select
   select-yes b l e = rw e
 
+  -- one that fails is left out
   pub select-no : (b : B) (l : List B) → test b ≡ false → select test (b ∷ l) ≡ select test l
   unfolding select
   select-no b l e = rw e
@@ -192,18 +208,31 @@ module _ {B : Type 0} (test : B → Bool) where
       (λ n. rw (select-no b l n)
       (⊎-elim (λ e. absurd (true≢false (sym p ∙ ap test e ∙ n))) (λ t. select-keeps l x p t) (List·Memᴰ·cases-cons m)))
 
+  -- where none of the list passes, none is selected
+  pub select-none : (l : List B) → ((x : B) → List·Memᴰ x l → test x ≡ false) → select test l ≡ []
+  select-none [] h = select-nil
+  select-none (b ∷ l) h = select-no b l (h b (List·Memᴰ·head refl)) ∙ select-none l (λ x m. h x (List·Memᴰ·tail m))
+
+  -- where all of the list pass, all are selected
+  pub select-all : (l : List B) → ((x : B) → List·Memᴰ x l → test x ≡ true) → select test l ≡ l
+  select-all [] h = select-nil
+  select-all (b ∷ l) h = rw (select-yes b l (h b (List·Memᴰ·head refl)), select-all l (λ x m. h x (List·Memᴰ·tail m)))
+
+  -- of two lists, one after the other
   pub select-append : (l m : List B) → select test (l ++ m) ≡ select test l ++ select test m
   select-append [] m = rw select-nil
   select-append (b ∷ l) m =
       split (test b) (λ y. rw (select-yes b (l ++ m) y, select-yes b l y, select-append l m))
       (λ n. rw (select-no b (l ++ m) n, select-no b l n, select-append l m))
 
+  -- no more are selected than there are
   pub length-select : (l : List B) → length (select test l) ≤ length l
   length-select [] = rw select-nil (omega arith)
   length-select (b ∷ l) =
       let r = length-select l in
       split (test b) (λ y. rw (select-yes b l y) (omega arith)) (λ n. rw (select-no b l n) (omega arith))
 
+-- what a list under a map selects, by the test before the map
 pub select-map : {A B : Type 0} (test : B → Bool) (g : A → B) (l : List A) → select test (map g l) ≡ map g (select (λ (a : A). test (g a)) l)
 select-map {A} test g [] = rw (select-nil test, select-nil (λ (a : A). test (g a)))
 select-map {A} test g (a ∷ l) =

@@ -12,13 +12,19 @@ use Rattle.definitions.specs.Tools.{sum}
 use Rattle.definitions.specs.Weights.{multiplicity, matrix, cost}
 use Rattle.definitions.proofs.Tools.{sum-zero, sum-suc, sum-bound, map-at}
 
+-- "the whole part of L times the reliability over 4,096"
+pub multiplicity-whole : (L r : ℕ) → (multiplicity L r * columnSum ≤ L * r) × (L * r < (multiplicity L r + 1) * columnSum)
+multiplicity-whole L r = omega arith
+
 -- no multiplicity is above the level
 pub multiplicity-le : (L r : ℕ) → r ≤ columnSum → multiplicity L r ≤ L
 multiplicity-le L r h = div-le-of-le-mul columnSum (let e = mul-le-mul-left L h in omega arith)
 
+-- a matrix has an entry for each reliability
 pub length-matrix : (L : ℕ) (r : List ℕ) → length (matrix L r) ≡ length r
 length-matrix L r = length-map r (multiplicity L)
 
+-- entry i is the multiplicity of reliability i
 pub matrix-at : (L : ℕ) (r : List ℕ) (i : ℕ) → i < length r → getD (matrix L r) i 0 ≡ multiplicity L (getD r i 0)
 matrix-at L r i h = map-at (multiplicity L) r i 0 0 h
 
@@ -30,12 +36,15 @@ map-take f l i h = rw (take-suc l i 0 h) (map-append f (take i l) (getD l i 0 �
 abbrev pub costOf : List ℕ → ℕ → ℕ
 costOf m j = sum j (λ (j : ℕ). getD m j 0 * (getD m j 0 + 1) / 2)
 
+-- the cost is that of all entries
 pub cost-is : (m : List ℕ) → cost m ≡ costOf m (length m)
 cost-is m = refl
 
+-- no entries cost nothing
 pub cost-zero : (m : List ℕ) → costOf m 0 ≡ 0
 cost-zero m = sum-zero (λ (j : ℕ). getD m j 0 * (getD m j 0 + 1) / 2)
 
+-- one entry more
 pub cost-suc : (m : List ℕ) (j : ℕ) → costOf m (suc j) ≡ costOf m j + getD m j 0 * (getD m j 0 + 1) / 2
 cost-suc m j = sum-suc j (λ (j : ℕ). getD m j 0 * (getD m j 0 + 1) / 2)
 
