@@ -52,6 +52,10 @@ module _ (m : List ℕ) (n : ℕ) (small : n ≤ 15) (size : length m ≡ 16 * n
       ∙ sym (sum-blocks 16 15 (λ j. entryCost (getD m j 0)))
       ∙ sum-tail (length m) 240 (λ j. entryCost (getD m j 0)) (omega arith) (λ j h. ap entryCost (List·getD-eq-default m 0 {n = j} h))
 
+  -- so of the matrix that is loaded from them
+  pub loaded-cost : (columns : List (List ℕ)) (price : ℕ) → columns ≡ matrixOf m n → price ≡ matrixCost columns → price ≡ cost m
+  loaded-cost columns price ec ep = ep ∙ ap matrixCost ec ∙ matrix-cost
+
   -- with entries of at most 4 it is at most 2,400
   pub cost-small : ((j : ℕ) → getD m j 0 ≤ 4) → cost m ≤ 2400
   cost-small h = let bounded = cost-le m 4 h (length m) in omega arith
