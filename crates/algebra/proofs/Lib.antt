@@ -16,3 +16,5 @@ pub mod Hasse
 pub mod KeyLemma
 pub mod Theorem
 pub mod Numbers
+pub mod Score
+pub mod Linear
