@@ -53,21 +53,18 @@ module _ (C : Code) (F : FieldOf C) where
   pub number-value : (x : F .ring .ops .K) (f : List ℕ) → Symbols C f → F .number .φ (value (F .ring .ops) x (elements f)) ≡ value (numbers C) (F .number .φ x) f
   number-value x f s = carry-value G N (F .number) x (elements f) ∙ ap (value N (φ x)) (numbers-elements f s)
 
-  number-terms : (q : List ℕ) (l : List (ℕ × ℕ)) → Symbols C q
-      → map (λ (m : Term G). (φ (m .0), m .1, m .2)) (terms G (elements q) l) ≡ terms N q l
-  number-terms q l s = carry-terms G N (F .number) (elements q) l ∙ ap (λ (p : List ℕ). terms N p l) (numbers-elements q s)
-
-  pub number-hasse : (q : List ℕ) (l : List (ℕ × ℕ)) → Symbols C q → (s t : ℕ) (x y : F .ring .ops .K)
-      → F .number .φ (hasse (F .ring .ops) (terms (F .ring .ops) (elements q) l) s t x y)
-      ≡ hasse (numbers C) (terms (numbers C) q l) s t (F .number .φ x) (F .number .φ y)
-  number-hasse q l sq s t x y =
-      carry-hasse G N (F .number) (terms G (elements q) l) s t x y
-      ∙ ap (λ (p : List (Term N)). hasse N p s t (φ x) (φ y)) (number-terms q l sq)
+  -- the number of a Hasse derivative
+  pub number-hasse : (q : List (F .ring .ops .K)) (l : List (ℕ × ℕ)) (s t : ℕ) (x y : F .ring .ops .K)
+      → F .number .φ (hasse (F .ring .ops) (terms (F .ring .ops) q l) s t x y)
+      ≡ hasse (numbers C) (terms (numbers C) (map (F .number .φ) q) l) s t (F .number .φ x) (F .number .φ y)
+  number-hasse q l s t x y =
+      carry-hasse G N (F .number) (terms G q l) s t x y ∙ ap (λ (p : List (Term N)). hasse N p s t (φ x) (φ y)) (carry-terms G N (F .number) q l)
 
   number-compose : (f q : List ℕ) (l : List (ℕ × ℕ)) → Symbols C f → Symbols C q
       → map φ (compose G (elements f) (terms G (elements q) l)) ≡ compose N f (terms N q l)
   number-compose f q l sf sq =
-      carry-compose G N (F .number) (elements f) (terms G (elements q) l) ∙ ap₂ (compose N) (numbers-elements f sf) (number-terms q l sq)
+      carry-compose G N (F .number) (elements f) (terms G (elements q) l)
+      ∙ ap₂ (compose N) (numbers-elements f sf) (carry-terms G N (F .number) (elements q) l ∙ ap (λ (p : List ℕ). terms N p l) (numbers-elements q sq))
 
   -- Q(x, f(x)) of numbers is zero where that of the elements is
   pub compose-zero : (f q : List ℕ) (l : List (ℕ × ℕ)) → Symbols C f → Symbols C q
