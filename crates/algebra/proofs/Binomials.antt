@@ -9,12 +9,13 @@ use native.Mathlib.Omega.{arith}
 use lib.ListN.{getD}
 use Rattle.definitions.specs.Field.{Ops, power}
 use Rattle.definitions.specs.Polynomial.{binomial, modulo2, derivative}
-use Rattle.definitions.specs.Roots.{plus, scaled, times, powers}
+use Rattle.definitions.specs.Roots.{times, powers}
 use Rattle.algebra.specs.Ring.{Ring}
-use Rattle.algebra.proofs.Polynomials.{power-zero, power-suc, coefficient-plus, coefficient-scaled}
+use Rattle.algebra.proofs.Polynomials.{power-suc, coefficient-plus, coefficient-scaled}
 use Rattle.algebra.proofs.RingLaws.{ring, plus-zero, zero-plus, plus-self, times-one, zero-times}
-use Rattle.algebra.proofs.Series.{Series, linear, constant, linear-mul-zero, linear-mul-suc, constant-zero, constant-suc}
+use Rattle.algebra.proofs.Series.{Series, linear, constant, linear-mul-zero, linear-mul-suc}
 
+-- nothing can be taken in one way
 binomial-zero : (n : ℕ) → binomial n zero ≡ 1
 unfolding binomial
 binomial-zero zero = refl
@@ -37,14 +38,17 @@ module _ (R : Ring) where
 
   infixl 60 _⊕_
   infixl 70 _⊗_
+  -- 0 counts as the zero of the ring
   modulo2-zero : modulo2 (R .ops) 0 ≡ o
   unfolding modulo2
   modulo2-zero = refl
 
+  -- 1 counts as its one
   modulo2-one : modulo2 (R .ops) 1 ≡ i
   unfolding modulo2
   modulo2-one = refl
 
+  -- two bits: four cases, and 1 + 1 is 0 in characteristic 2
   bits-add : (r s : ℕ) → r < 2 → s < 2 → modulo2 (R .ops) (r + s) ≡ modulo2 (R .ops) r ⊕ modulo2 (R .ops) s
   unfolding modulo2
   bits-add zero zero h k = sym (plus-zero R o)
@@ -55,6 +59,7 @@ module _ (R : Ring) where
   bits-add (suc zero) (suc (suc s)) h k = let z : ⊥ = omega arith in absurd z
   bits-add (suc (suc r)) s h k = let z : ⊥ = omega arith in absurd z
 
+  -- only the remainder counts
   modulo2-bit : (m n : ℕ) → m % 2 ≡ n % 2 → modulo2 (R .ops) m ≡ modulo2 (R .ops) n
   unfolding modulo2
   modulo2-bit m n e = rw e
@@ -65,18 +70,22 @@ module _ (R : Ring) where
       modulo2-bit (m + n) (m % 2 + n % 2) (omega arith) ∙ bits-add (m % 2) (n % 2) (omega arith) (omega arith)
       ∙ ap₂ _⊕_ (modulo2-bit (m % 2) m (omega arith)) (modulo2-bit (n % 2) n (omega arith))
 
+  -- the definition, as an equation
   derivative-at : (a s : ℕ) (x : K) → derivative (R .ops) a s x ≡ modulo2 (R .ops) (binomial a s) ⊗ power (R .ops) x (a - s)
   unfolding derivative
   derivative-at a s x = refl
 
+  -- 1 has the derivative 1 of order 0
   pub derivative-zero-zero : (x : K) → derivative (R .ops) zero zero x ≡ i
   unfolding derivative modulo2 binomial power
   derivative-zero-zero x = times-one R i
 
+  -- and 0 of any other order
   pub derivative-zero-suc : (s : ℕ) (x : K) → derivative (R .ops) zero (suc s) x ≡ o
   unfolding derivative modulo2 binomial
   derivative-zero-suc s x = zero-times R (power (R .ops) x (zero - suc s))
 
+  -- the derivative of order 0 is the power itself
   pub derivative-suc-zero : (a : ℕ) (x : K) → derivative (R .ops) (suc a) zero x ≡ x ⊗ derivative (R .ops) a zero x
   derivative-suc-zero a x =
       let e : suc a - zero ≡ suc (a - zero) = omega arith in
@@ -97,15 +106,17 @@ module _ (R : Ring) where
       let e : suc a - suc s ≡ a - s = omega arith in
       rw (lower a s x, derivative-at (suc a) (suc s) x, derivative-at a s x, binomial-suc a s, e, modulo2-add (binomial a s) (binomial a (suc s))) (simp ring)
 
+  -- the coefficients of the polynomial 0
   coefficient-o : (t : ℕ) → getD (o ∷ []) t o ≡ o
   coefficient-o zero = refl
   coefficient-o (suc t) = refl
 
-  -- the coefficients of Y + x times p
+  -- the constant of Y + x times p
   coefficient-linear-zero : (x : K) (p : List K) → getD (times (R .ops) (x ∷ i ∷ []) p) zero o ≡ x ⊗ getD p zero o
   unfolding times
   coefficient-linear-zero x p = simp (coefficient-plus, coefficient-scaled, ring)
 
+  -- its other coefficients
   coefficient-linear-suc : (x : K) (p : List K) (t : ℕ) → getD (times (R .ops) (x ∷ i ∷ []) p) (suc t) o ≡ x ⊗ getD p (suc t) o ⊕ getD p t o
   unfolding times
   coefficient-linear-suc x p t = simp (coefficient-plus, coefficient-scaled, coefficient-o, ring)

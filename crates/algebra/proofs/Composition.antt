@@ -1,15 +1,17 @@
 -- Q(x, f(x)): its value at r is that of Q at (r, f(r)), and its degree is at most the weighted degree of Q.
 -- Assumes nothing.
-use mathlib.Core.List.{List, [], _∷_}
-use mathlib.Core.Path.{_≡_, refl}
+use mathlib.Core.List.{List, [], _∷_, map}
+use mathlib.Core.Path.{_≡_}
 use Prim.Native.Nat.{ℕ, suc, _+_, _*_, _≤_}
 use native.Mathlib.Omega.{arith}
 use lib.ListN.{length}
-use Rattle.definitions.specs.Field.{Ops, power, value}
+use Rattle.definitions.specs.Field.{Ops, power}
 use Rattle.definitions.specs.Polynomial.{Term}
 use Rattle.definitions.specs.Roots.{scaled, times, powers, compose}
-use Rattle.algebra.specs.Ring.{Ring}
-use Rattle.algebra.proofs.Polynomials.{value-nil, value-cons, value-plus, value-scaled, value-times, value-powers, length-plus, length-scaled, length-times, length-powers}
+use Rattle.algebra.specs.Ring.{Ring, Hom}
+use Rattle.algebra.proofs.Carry.{carried}
+use Rattle.algebra.proofs.Evaluation.{evaluate, evaluate-sum, evaluate-multiple, evaluate-product, evaluate-power}
+use Rattle.algebra.proofs.Polynomials.{value-nil, value-cons, length-plus, length-scaled, length-times, length-powers}
 use Rattle.algebra.proofs.RingLaws.{ring, times-assoc}
 use Rattle.algebra.proofs.Tools.{All}
 
@@ -44,16 +46,18 @@ module _ (R : Ring) where
   valueAt x y [] = o
   valueAt x y (m ∷ q) = m .0 ⊗ power (R .ops) x (m .1) ⊗ power (R .ops) y (m .2) ⊕ valueAt x y q
 
-  valueAt-cons : (x y : K) (m : Term (R .ops)) (q : List (Term (R .ops)))
-      → valueAt x y (m ∷ q) ≡ m .0 ⊗ power (R .ops) x (m .1) ⊗ power (R .ops) y (m .2) ⊕ valueAt x y q
-  unfolding valueAt
-  valueAt-cons x y m q = refl
+module _ (A R : Ring) (h : Hom (A .ops) (R .ops)) where
+  open Ops (R .ops) using (K, o, i)
+  open Hom h using (φ, φ-zero, φ-one)
 
-  value-x : (r : K) → value (R .ops) r (o ∷ i ∷ []) ≡ r
-  value-x r = simp (value-cons, value-nil, ring)
+  -- the polynomial x has the value r at r
+  evaluate-x : (r : K) → evaluate A R h r (A .ops .o ∷ A .ops .i ∷ []) ≡ r
+  evaluate-x r = simp (value-cons, value-nil, φ-zero, φ-one, ring)
 
-  -- the value of Q(x, f(x)) at r is that of Q at (r, f(r))
-  pub value-compose : (r : K) (f : List K) (q : List (Term (R .ops))) → value (R .ops) r (compose (R .ops) f q) ≡ valueAt r (value (R .ops) r f) q
+  -- in any algebra, the value of Q(x, f(x)) at r is that of Q at (r, f(r))
+  pub evaluate-compose : (r : K) (f : List (A .ops .K)) (q : List (Term (A .ops)))
+      → evaluate A R h r (compose (A .ops) f q) ≡ valueAt R r (evaluate A R h r f) (map (carried (A .ops) (R .ops) h) q)
   unfolding compose valueAt
-  value-compose r f [] = value-nil (R .ops) r
-  value-compose r f (m ∷ q) = simp (value-plus, value-scaled, value-times, value-powers, value-x, value-compose r f q, valueAt-cons, times-assoc)
+  evaluate-compose r f [] = value-nil (R .ops) r
+  evaluate-compose r f (m ∷ q) =
+      simp (evaluate-sum, evaluate-multiple, evaluate-product, evaluate-power, evaluate-x, evaluate-compose r f q, times-assoc)

@@ -26,9 +26,11 @@ module _ (R : Ring) where
   around x b [] = []
   around x b (m ∷ q) = plus (R .ops) (scaled (R .ops) (m .0 ⊗ power (R .ops) x (m .1)) (powers (R .ops) (b ∷ i ∷ []) (m .2))) (around x b q)
 
+  -- the value of Y + b
   value-linear : (r b : K) → value (R .ops) r (b ∷ i ∷ []) ≡ b ⊕ r
   value-linear r b = simp (value-cons, value-nil, ring)
 
+  -- its value at r is Q at (x, b + r)
   pub value-around : (x b r : K) (q : List (Term (R .ops))) → value (R .ops) r (around x b q) ≡ valueAt R x (b ⊕ r) q
   unfolding around valueAt
   value-around x b r [] = value-nil (R .ops) r
@@ -59,10 +61,12 @@ module _ (A : Ring) where
       mulS-comm A (mulS A (constant A c) f) (constant A d) s ∙ constant-mul A d (mulS A (constant A c) f) s
       ∙ ap (λ (x : K). d ⊗ x) (constant-mul A c f s) ∙ times-comm A d (c ⊗ f s)
 
+  -- the polynomial without terms
   around-nil : (x b : ℕ → K) (t s : ℕ) → getD (around (Series A) x b []) t (Series A .ops .o) s ≡ o
   unfolding around
   around-nil x b t s = zeroS-at A s
 
+  -- a single term
   hasse-of-term : (a b : K) (m : Term (A .ops)) (s t : ℕ)
       → mulS A (mulS A (constant A (m .0)) (power (Series A .ops) (linear A a) (m .1))) (derivative (Series A .ops) (m .2) t (constant A b)) s
       ≡ m .0 ⊗ derivative (A .ops) (m .1) s a ⊗ derivative (A .ops) (m .2) t b

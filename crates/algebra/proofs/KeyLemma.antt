@@ -1,6 +1,6 @@
 -- The key lemma: where Q has order m at (a, f(a)), Q(x, f(x)) has order m at a.
 -- Assumes nothing.
-use mathlib.Core.List.{List, [], _∷_, map}
+use mathlib.Core.List.{List, [], _∷_}
 use mathlib.Core.Path.{_≡_, sym, _∙_, ap, ap₂}
 use Prim.Native.Nat.{ℕ, zero, suc, _+_, _<_}
 use native.Mathlib.Nat.{not-suc-le-zero}
@@ -10,8 +10,8 @@ use Rattle.definitions.specs.Field.{Ops, value}
 use Rattle.definitions.specs.Polynomial.{Term, Passes}
 use Rattle.definitions.specs.Roots.{compose}
 use Rattle.algebra.specs.Ring.{Ring}
-use Rattle.algebra.proofs.Carry.{carry-compose}
-use Rattle.algebra.proofs.Composition.{valueAt, value-compose}
+use Rattle.algebra.proofs.Composition.{valueAt, evaluate-compose}
+use Rattle.algebra.proofs.Evaluation.{evaluate}
 use Rattle.algebra.proofs.Hasse.{around, value-around, inSeries, hasse-is-coefficient}
 use Rattle.algebra.proofs.Polynomials.{value-nil, value-cons}
 use Rattle.algebra.proofs.RingLaws.{ring, plus-self, plus-self-left}
@@ -38,21 +38,25 @@ module _ (A : Ring) where
   unfolding taylor
   key-lemma f q a m passes = rw whole (order-value rest rest-zero w m (λ s t l. hasse-is-coefficient A a b q s t ∙ passes s t l))
     where
+      -- the symbol that f has at a
       b : K
       b = value (A .ops) a f
 
+      -- f(X + a) without its constant
       rest : ℕ → K
       rest = addS A (constant A b) (taylor A a f)
 
+      -- it has none
       rest-zero : rest zero ≡ o
       rest-zero = addS-at A (constant A b) (taylor A a f) zero ∙ ap₂ _⊕_ (constant-zero A b) (taylor-zero A a f) ∙ plus-self A b
 
+      -- Q(X + a, b + Y)
       w : List (ℕ → K)
       w = around (Series A) (linear A a) (constant A b) (inSeries A q)
 
-      whole : value (Series A .ops) (linear A a) (map (constant A) (compose (A .ops) f q)) ≡ value (Series A .ops) rest w
+      -- Q(X + a, f(X + a)) is its value at that rest
+      whole : evaluate A (Series A) (constants A) (linear A a) (compose (A .ops) f q) ≡ value (Series A .ops) rest w
       whole =
-          ap (value (Series A .ops) (linear A a)) (carry-compose (A .ops) (Series A .ops) (constants A) f q)
-          ∙ value-compose (Series A) (linear A a) (map (constant A) f) (inSeries A q)
+          evaluate-compose A (Series A) (constants A) (linear A a) f q
           ∙ ap (λ (y : ℕ → K). valueAt (Series A) (linear A a) y (inSeries A q)) (sym (plus-self-left (Series A) (constant A b) (taylor A a f)))
           ∙ sym (value-around (Series A) (linear A a) (constant A b) rest (inSeries A q))

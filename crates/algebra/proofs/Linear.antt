@@ -23,22 +23,21 @@ module _ (A : Ops) where
   dot zero r q = o
   dot (suc n) r q = dot n r q ⊕ r n ⊗ q n
 
+  -- a sum of nothing
   pub dot-none : (r q : ℕ → K) → dot zero r q ≡ o
   unfolding dot
   dot-none r q = refl
-
-  pub dot-last : (n : ℕ) (r q : ℕ → K) → dot (suc n) r q ≡ dot n r q ⊕ r n ⊗ q n
-  unfolding dot
-  dot-last n r q = refl
 
   -- the row of the condition of order (s, t) at (x, y): its entry at each monomial
   abbrev pub row : List (ℕ × ℕ) → ℕ → ℕ → K → K → ℕ → K
   row l s t x y k = derivative A (getD l k (0, 0) .0) s x ⊗ derivative A (getD l k (0, 0) .1) t y
 
+  -- the polynomial without terms
   pub hasse-nil : (s t : ℕ) (x y : K) → hasse A [] s t x y ≡ o
   unfolding hasse
   hasse-nil s t x y = refl
 
+  -- one term more
   pub hasse-cons : (m : Term A) (q : List (Term A)) (s t : ℕ) (x y : K)
       → hasse A (m ∷ q) s t x y ≡ m .0 ⊗ derivative A (m .1) s x ⊗ derivative A (m .2) t y ⊕ hasse A q s t x y
   unfolding hasse
@@ -57,11 +56,13 @@ module _ (A R : Ops) (h : Hom A R) where
 
   infixl 60 _⊕_
   infixl 70 _⊗_
+  -- a map that keeps sums and products carries products of rows and vectors
   pub carry-dot : (n : ℕ) (r q : ℕ → A .K) → φ (dot A n r q) ≡ dot R n (λ k. φ (r k)) (λ k. φ (q k))
   unfolding dot
   carry-dot zero r q = φ-zero
   carry-dot (suc n) r q = φ-add (dot A n r q) (A .mul (r n) (q n)) ∙ ap₂ _⊕_ (carry-dot n r q) (φ-mul (r n) (q n))
 
+  -- and rows
   pub carry-row : (l : List (ℕ × ℕ)) (s t : ℕ) (x y : A .K) (k : ℕ) → φ (row A l s t x y k) ≡ row R l s t (φ x) (φ y) k
   carry-row l s t x y k =
       φ-mul (derivative A (getD l k (0, 0) .0) s x) (derivative A (getD l k (0, 0) .1) t y)
@@ -86,6 +87,7 @@ module _ (A : Ring) where
   dot-zeros zero r = refl
   dot-zeros (suc n) r = ap₂ _⊕_ (dot-zeros n r) (times-zero A (r n)) ∙ plus-zero A o
 
+  -- the coefficient behind its entry
   turn : (c d e z : K) → c ⊗ d ⊗ e ⊕ z ≡ d ⊗ e ⊗ c ⊕ z
   turn c d e z = simp ring
 
@@ -101,6 +103,7 @@ module _ (A : Ring) where
       ∙ turn c (derivative (A .ops) (m .0) s x) (derivative (A .ops) (m .1) t y) (dot (A .ops) (length l) (row (A .ops) l s t x y) (λ k. getD q k o))
       ∙ sym (dot-first (length l) (row (A .ops) (m ∷ l) s t x y) (λ k. getD (c ∷ q) k o))
 
+  -- one monomial more
   plus-step : (c d e f z w : K) → (c ⊕ d) ⊗ e ⊗ f ⊕ (z ⊕ w) ≡ (c ⊗ e ⊗ f ⊕ z) ⊕ (d ⊗ e ⊗ f ⊕ w)
   plus-step c d e f z w = simp ring
 
@@ -117,6 +120,7 @@ module _ (A : Ring) where
       (plus-step c d (derivative (A .ops) (m .0) s x) (derivative (A .ops) (m .1) t y) (hasse (A .ops) (terms (A .ops) p l) s t x y)
       (hasse (A .ops) (terms (A .ops) q l) s t x y))
 
+  -- one monomial more
   scaled-step : (c d e f z : K) → (c ⊗ d) ⊗ e ⊗ f ⊕ c ⊗ z ≡ c ⊗ (d ⊗ e ⊗ f ⊕ z)
   scaled-step c d e f z = simp ring
 

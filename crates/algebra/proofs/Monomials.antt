@@ -1,12 +1,11 @@
 -- The monomials of document 01's order: each of the list is of weighted degree at most D.
 -- Assumes nothing.
 use mathlib.Core.List.{List, [], _∷_}
-use mathlib.Core.Path.{_≡_}
-use Prim.Native.Nat.{ℕ, suc, _+_, _-_, _*_, _/_, _≤_, _<_}
+use Prim.Native.Nat.{ℕ, _+_, _-_, _*_, _/_, _≤_, _<_}
 use native.Mathlib.Nat.{mul-div-le, mul-le-mul-left}
 use native.Mathlib.Omega.{arith}
 use Rattle.definitions.specs.Field.{Ops}
-use Rattle.definitions.specs.Polynomial.{Term, terms, monomialsOf, monomials}
+use Rattle.definitions.specs.Polynomial.{terms, monomialsOf, monomials}
 use Rattle.definitions.specs.Tools.{below}
 use Rattle.algebra.proofs.Composition.{DegreeAtMost}
 use Rattle.algebra.proofs.Tools.{All, all-map, all-flatMap, all-below}
@@ -15,11 +14,13 @@ use Rattle.algebra.proofs.Tools.{All, all-map, all-flatMap, all-below}
 product-le : (v w b : ℕ) → b < w / v + 1 → v * b ≤ w
 product-le v w b h = let k : b ≤ w / v = omega arith in let m = mul-le-mul-left v k in omega (arith, mul-div-le w v)
 
+-- those of one weighted degree
 monomialsOf-degree : (v w D : ℕ) → w ≤ D → All (λ (m : ℕ × ℕ). m .0 + v * m .1 ≤ D) (monomialsOf v w)
 monomialsOf-degree v w D h =
     all-map (λ (m : ℕ × ℕ). m .0 + v * m .1 ≤ D) (λ (b : ℕ). (w - v * b, b)) (below (w / v + 1))
     (all-below (λ b. w - v * b + v * b ≤ D) (w / v + 1) (λ b k. let e = product-le v w b k in omega arith))
 
+-- those of all
 monomials-degree : (v D : ℕ) → All (λ (m : ℕ × ℕ). m .0 + v * m .1 ≤ D) (monomials v D)
 monomials-degree v D =
     all-flatMap (λ (m : ℕ × ℕ). m .0 + v * m .1 ≤ D) (monomialsOf v) (below (D + 1))
@@ -28,6 +29,7 @@ monomials-degree v D =
 module _ (A : Ops) where
   open Ops A using (K)
 
+  -- so of the terms that are made of them
   terms-degree : (v D : ℕ) (q : List K) (l : List (ℕ × ℕ)) → All (λ (m : ℕ × ℕ). m .0 + v * m .1 ≤ D) l → DegreeAtMost A v D (terms A q l)
   unfolding terms
   terms-degree v D [] l h = tt

@@ -12,12 +12,15 @@ use Rattle.algebra.proofs.Numbers.{elements, numbers-elements, number-i
 use Rattle.algebra.proofs.Theorem.{PassesThrough}
 
 module _ (C : Code) (F : FieldOf C) where
+  -- the operations on elements
   abbrev G : Ops
   G = F .ring .ops
 
+  -- the operations on numbers
   abbrev N : Ops
   N = numbers C
 
+  -- the number of an element
   abbrev φ : G .K → ℕ
   φ = F .number .φ
 
@@ -25,6 +28,7 @@ module _ (C : Code) (F : FieldOf C) where
   abbrev pub pointElement : ℕ → F .ring .ops .K
   pointElement i = F .element (point C i)
 
+  -- its number is the point
   pub number-point : (i : ℕ) → F .number .φ (pointElement i) ≡ point C i
   number-point i = F .number-element (point C i) (point-symbol C F i)
 

@@ -17,18 +17,22 @@ module _ (A : Ops) where
 
   infixl 60 _⊕_
   infixl 70 _⊗_
+  -- the power 0
   pub power-zero : (x : K) → power A x zero ≡ i
   unfolding power
   power-zero x = refl
 
+  -- the next power
   pub power-suc : (x : K) (n : ℕ) → power A x (suc n) ≡ x ⊗ power A x n
   unfolding power
   power-suc x n = refl
 
+  -- the value of the empty list
   pub value-nil : (x : K) → value A x [] ≡ o
   unfolding value
   value-nil x = refl
 
+  -- Horner's rule
   pub value-cons : (x c : K) (p : List K) → value A x (c ∷ p) ≡ c ⊕ x ⊗ value A x p
   unfolding value
   value-cons x c p = refl
@@ -41,6 +45,7 @@ module _ (A : Ops) where
   length-plus (c ∷ p) (d ∷ q) zero hp hq = absurd (not-suc-le-zero hp)
   length-plus (c ∷ p) (d ∷ q) (suc n) hp hq = let h = length-plus p q n (le-of-suc-le-suc hp) (le-of-suc-le-suc hq) in omega arith
 
+  -- a multiple is as long
   pub length-scaled : (c : K) (q : List K) → length (scaled A c q) ≡ length q
   unfolding scaled
   length-scaled c [] = refl
@@ -74,6 +79,7 @@ module _ (R : Ring) where
   value-plus x (c ∷ p) [] = simp (value-nil, ring)
   value-plus x (c ∷ p) (d ∷ q) = simp (value-cons, value-plus x p q, ring)
 
+  -- one coefficient more
   scaled-step : (x c d v w : K) → w ≡ c ⊗ v → c ⊗ d ⊕ x ⊗ w ≡ c ⊗ (d ⊕ x ⊗ v)
   scaled-step x c d v w e = rw e (simp ring)
 

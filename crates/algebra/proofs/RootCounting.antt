@@ -13,7 +13,7 @@ use Rattle.definitions.specs.Tools.{sum}
 use Rattle.algebra.specs.Ring.{Ring, IsField}
 use Rattle.algebra.proofs.Polynomials.{value-nil, value-cons}
 use Rattle.algebra.proofs.RingLaws.{ring, plus-self, equal-of-sum, cancel}
-use Rattle.algebra.proofs.Series.{Series, mulS, linear, Order, linear-mul-zero, linear-mul-suc}
+use Rattle.algebra.proofs.Series.{mulS, linear, Order, linear-mul-zero, linear-mul-suc}
 use Rattle.algebra.proofs.Taylor.{quotient, length-quotient, taylor, taylor-zero, taylor-quotient}
 
 module _ (A : Ops) where

@@ -2,7 +2,7 @@
 -- Assumes nothing.
 use mathlib.Core.Bool.{true}
 use mathlib.Core.List.{List}
-use mathlib.Core.Path.{_≡_, sym, _∙_, ap, ap₂, subst}
+use mathlib.Core.Path.{_≡_, sym, _∙_, ap, subst}
 use Prim.Native.Nat.{ℕ, suc, _≤_, _<_}
 use native.Mathlib.Omega.{arith}
 use lib.ListN.{length, length-map, getD}
@@ -20,12 +20,15 @@ use Rattle.algebra.proofs.Theorem.{score-above-degree-of-list}
 use Rattle.algebra.proofs.Tools.{map-below-at, sum-equal}
 
 module _ (C : Code) (F : FieldOf C) where
+  -- the operations on elements
   abbrev G : Ops
   G = F .ring .ops
 
+  -- the number of an element
   abbrev φ : G .K → ℕ
   φ = F .number .φ
 
+  -- the points of a code are distinct
   points-distinct : (n : ℕ) → n ≤ C .positions → Distinct G n (pointElement C F)
   points-distinct n h i j k l e = F .points-differ i j k (omega arith) (sym (number-point C F i) ∙ ap φ e ∙ number-point C F j)
 
@@ -35,6 +38,7 @@ module _ (C : Code) (F : FieldOf C) where
       map-below-at (λ (j : ℕ). value (numbers C) (point C j) f) n 0 i h
       ∙ sym (number-value C F (pointElement C F i) f s ∙ ap (λ (a : ℕ). value (numbers C) a f) (number-point C F i))
 
+  -- the score, by values of elements
   score-of-elements : (n : ℕ) (m f : List ℕ) → Symbols C f → score C n m f ≡ sum n (λ i. entry C m i (φ (value G (pointElement C F i) (elements C F f))))
   score-of-elements n m f s =
       sum-equal n (λ i. entry C m i (getD (codeword C n f) i 0)) (λ i. entry C m i (φ (value G (pointElement C F i) (elements C F f))))

@@ -13,6 +13,7 @@ module _ (R : Ring) where
 
   infixl 60 _⊕_
   infixl 70 _⊗_
+  -- the sum
   unfoldable pub addS : (ℕ → K) → (ℕ → K) → ℕ → K
   addS f g n = f n ⊕ g n
 
@@ -20,18 +21,22 @@ module _ (R : Ring) where
   unfoldable pub tail : (ℕ → K) → ℕ → K
   tail f n = f (suc n)
 
+  -- a multiple
   unfoldable pub scaleS : K → (ℕ → K) → ℕ → K
   scaleS c f n = c ⊗ f n
 
+  -- the product
   unfoldable pub mulS : (ℕ → K) → (ℕ → K) → ℕ → K
   unfolding tail
   mulS f g zero = f zero ⊗ g zero
   mulS f g (suc n) = f zero ⊗ g (suc n) ⊕ mulS (tail f) g n
 
+  -- a constant
   unfoldable pub constant : K → ℕ → K
   constant c zero = c
   constant c (suc n) = o
 
+  -- zero
   unfoldable pub zeroS : ℕ → K
   zeroS n = o
 
@@ -40,62 +45,77 @@ module _ (R : Ring) where
   linear a zero = a
   linear a (suc n) = constant i n
 
+  -- coefficients of a sum
   pub addS-at : (f g : ℕ → K) (n : ℕ) → addS f g n ≡ f n ⊕ g n
   unfolding addS
   addS-at f g n = refl
 
+  -- of a tail
   pub tail-at : (f : ℕ → K) (n : ℕ) → tail f n ≡ f (suc n)
   unfolding tail
   tail-at f n = refl
 
+  -- of a multiple
   pub scaleS-at : (c : K) (f : ℕ → K) (n : ℕ) → scaleS c f n ≡ c ⊗ f n
   unfolding scaleS
   scaleS-at c f n = refl
 
+  -- the constant of a product
   pub mulS-zero : (f g : ℕ → K) → mulS f g zero ≡ f zero ⊗ g zero
   unfolding mulS
   mulS-zero f g = refl
 
+  -- its other coefficients
   pub mulS-suc : (f g : ℕ → K) (n : ℕ) → mulS f g (suc n) ≡ f zero ⊗ g (suc n) ⊕ mulS (tail f) g n
   unfolding mulS
   mulS-suc f g n = refl
 
+  -- the tail of a sum
   pub tail-add : (f g : ℕ → K) → tail (addS f g) ≡ addS (tail f) (tail g)
   unfolding addS tail
   tail-add f g = refl
 
+  -- of a multiple
   pub tail-scale : (c : K) (f : ℕ → K) → tail (scaleS c f) ≡ scaleS c (tail f)
   unfolding scaleS tail
   tail-scale c f = refl
 
+  -- of a product
   pub tail-mul : (f g : ℕ → K) → tail (mulS f g) ≡ addS (scaleS (f zero) (tail g)) (mulS (tail f) g)
   unfolding addS scaleS tail mulS
   tail-mul f g = refl
 
+  -- the constant of a constant
   pub constant-zero : (c : K) → constant c zero ≡ c
   unfolding constant
   constant-zero c = refl
 
+  -- its other coefficients
   pub constant-suc : (c : K) (n : ℕ) → constant c (suc n) ≡ o
   unfolding constant
   constant-suc c n = refl
 
+  -- its tail
   pub tail-constant : (c : K) → tail (constant c) ≡ zeroS
   unfolding tail constant zeroS
   tail-constant c = refl
 
+  -- coefficients of zero
   pub zeroS-at : (n : ℕ) → zeroS n ≡ o
   unfolding zeroS
   zeroS-at n = refl
 
+  -- its tail
   pub tail-zero : tail zeroS ≡ zeroS
   unfolding tail zeroS
   tail-zero = refl
 
+  -- the constant of X + a
   pub linear-zero : (a : K) → linear a zero ≡ a
   unfolding linear
   linear-zero a = refl
 
+  -- its tail
   pub tail-linear : (a : K) → tail (linear a) ≡ constant i
   unfolding tail linear
   tail-linear a = refl
@@ -118,14 +138,17 @@ module _ (R : Ring) where
     tail-linear,
   )
 
+  -- a multiple of a product
   mulS-scale : (c : K) (f g : ℕ → K) (n : ℕ) → mulS (scaleS c f) g n ≡ c ⊗ mulS f g n
   mulS-scale c f g zero = simp (series, ring)
   mulS-scale c f g (suc n) = simp (series, mulS-scale c (tail f) g n, ring)
 
+  -- products distribute over sums on the left
   mulS-add-left : (f g h : ℕ → K) (n : ℕ) → mulS (addS f g) h n ≡ mulS f h n ⊕ mulS g h n
   mulS-add-left f g h zero = simp (series, ring)
   mulS-add-left f g h (suc n) = simp (series, mulS-add-left (tail f) (tail g) h n, ring)
 
+  -- and on the right
   mulS-add : (f g h : ℕ → K) (n : ℕ) → mulS f (addS g h) n ≡ mulS f g n ⊕ mulS f h n
   mulS-add f g h zero = simp (series, ring)
   mulS-add f g h (suc n) = simp (series, mulS-add (tail f) g h n, ring)
@@ -135,15 +158,18 @@ module _ (R : Ring) where
   mulS-right f g zero = mulS-suc f g zero ∙ simp (series, ring)
   mulS-right f g (suc n) = mulS-suc f g (suc n) ∙ simp (mulS-right (tail f) g n, series, ring)
 
+  -- products are commutative
   pub mulS-comm : (f g : ℕ → K) (n : ℕ) → mulS f g n ≡ mulS g f n
   mulS-comm f g zero = simp (series, ring)
   mulS-comm f g (suc n) = mulS-right f g n ∙ simp (mulS-comm f (tail g) n, series, ring)
 
+  -- products are associative
   mulS-assoc : (f g h : ℕ → K) (n : ℕ) → mulS (mulS f g) h n ≡ mulS f (mulS g h) n
   mulS-assoc f g h zero = simp (series, ring)
   mulS-assoc f g h (suc n) =
       simp (series, mulS-add-left (scaleS (f zero) (tail g)) (mulS (tail f) g) h n, mulS-scale (f zero) (tail g) h n, mulS-assoc (tail f) g h n, ring)
 
+  -- a product with zero is zero
   zeroS-mul : (g : ℕ → K) (n : ℕ) → mulS zeroS g n ≡ o
   zeroS-mul g zero = simp (series, ring)
   zeroS-mul g (suc n) = simp (series, zeroS-mul g n, ring)
@@ -157,35 +183,44 @@ module _ (R : Ring) where
   pub linear-mul-zero : (a : K) (g : ℕ → K) → mulS (linear a) g zero ≡ a ⊗ g zero
   linear-mul-zero a g = simp series
 
+  -- its other coefficients
   pub linear-mul-suc : (a : K) (g : ℕ → K) (n : ℕ) → mulS (linear a) g (suc n) ≡ a ⊗ g (suc n) ⊕ g n
   linear-mul-suc a g n = simp (series, constant-mul i g n, ring)
 
+  -- sums of series are associative
   pub addS-assoc : (f g h : ℕ → K) → addS (addS f g) h ≡ addS f (addS g h)
   unfolding addS
   addS-assoc f g h = fun-ext (λ n. plus-assoc R (f n) (g n) (h n))
 
+  -- and commutative
   pub addS-comm : (f g : ℕ → K) → addS f g ≡ addS g f
   unfolding addS
   addS-comm f g = fun-ext (λ n. plus-comm R (f n) (g n))
 
+  -- zero is neutral
   pub addS-zero : (f : ℕ → K) → addS f zeroS ≡ f
   unfolding addS zeroS
   addS-zero f = fun-ext (λ n. plus-zero R (f n))
 
+  -- the characteristic is 2
   pub addS-self : (f : ℕ → K) → addS f f ≡ zeroS
   unfolding addS zeroS
   addS-self f = fun-ext (λ n. plus-self R (f n))
 
+  -- products of series distribute over sums
   pub mulS-addS : (f g h : ℕ → K) → mulS f (addS g h) ≡ addS (mulS f g) (mulS f h)
   unfolding addS
   mulS-addS f g h = fun-ext (mulS-add f g h)
 
+  -- are associative
   pub mulS-assocS : (f g h : ℕ → K) → mulS (mulS f g) h ≡ mulS f (mulS g h)
   mulS-assocS f g h = fun-ext (mulS-assoc f g h)
 
+  -- and commutative
   pub mulS-commS : (f g : ℕ → K) → mulS f g ≡ mulS g f
   mulS-commS f g = fun-ext (mulS-comm f g)
 
+  -- one is neutral
   pub mulS-one : (f : ℕ → K) → mulS f (constant i) ≡ f
   mulS-one f = fun-ext (λ n. mulS-comm f (constant i) n ∙ constant-mul i f n ∙ one-times R (f n))
 
@@ -204,6 +239,7 @@ module _ (R : Ring) where
         mul-add = mulS-addS;
       }
 
+  -- the constant 0 is zero
   pub constant-o : constant o ≡ zeroS
   unfolding constant zeroS
   constant-o = fun-ext go
@@ -212,6 +248,7 @@ module _ (R : Ring) where
       go zero = refl
       go (suc n) = refl
 
+  -- sums of constants
   pub constant-add : (a b : K) → constant (a ⊕ b) ≡ addS (constant a) (constant b)
   unfolding constant addS
   constant-add a b = fun-ext go
@@ -220,6 +257,7 @@ module _ (R : Ring) where
       go zero = refl
       go (suc n) = sym (plus-zero R o)
 
+  -- products of constants
   pub constant-times : (a b : K) → constant (a ⊗ b) ≡ mulS (constant a) (constant b)
   constant-times a b = fun-ext go
     where
@@ -231,6 +269,7 @@ module _ (R : Ring) where
   abbrev pub constants : Hom (R .ops) (Series .ops)
   constants = record { φ = constant; φ-zero = constant-o; φ-one = refl; φ-add = constant-add; φ-mul = constant-times }
 
+  -- X + c and a
   pub linear-add : (c a : K) → addS (linear c) (constant a) ≡ linear (c ⊕ a)
   unfolding addS linear constant
   linear-add c a = fun-ext go

@@ -2,7 +2,7 @@
 -- a row times the coefficients.
 -- Assumes nothing.
 use mathlib.Core.List.{List, [], _∷_, map}
-use mathlib.Core.Path.{_≡_, refl, sym, _∙_, ap, ap₂, subst}
+use mathlib.Core.Path.{_≡_, sym, _∙_, ap, ap₂, subst}
 use Prim.Native.Nat.{ℕ, zero, suc, _<_}
 use lib.ListN.{length, getD, List·getD-map}
 use Rattle.definitions.specs.Code.{Symbols}
@@ -16,15 +16,19 @@ use Rattle.algebra.proofs.Numbers.{elements, numbers-elements, number-h
 use Rattle.algebra.proofs.Passing.{pointElement, multiplicityOf, elements-pass, numbers-pass}
 
 module _ (C : Code) (F : FieldOf C) where
+  -- the operations on elements
   abbrev G : Ops
   G = F .ring .ops
 
+  -- the operations on numbers
   abbrev N : Ops
   N = numbers C
 
+  -- the number of an element
   abbrev φ : G .K → ℕ
   φ = F .number .φ
 
+  -- 0 is a symbol
   zero-symbol : 0 < C .symbols
   zero-symbol = subst (λ (a : ℕ). a < C .symbols) (F .number .φ-zero) (F .number-symbol (G .o))
 
@@ -34,10 +38,12 @@ module _ (C : Code) (F : FieldOf C) where
   numbers-symbols (x ∷ l) zero = F .number-symbol x
   numbers-symbols (x ∷ l) (suc j) = numbers-symbols l j
 
+  -- a sum of symbols stands for the sum of their elements
   number-plus : (p q : List ℕ) → Symbols C p → Symbols C q → map φ (plus G (elements C F p) (elements C F q)) ≡ plus N p q
   number-plus p q sp sq =
       carry-plus G N (F .number) (elements C F p) (elements C F q) ∙ ap₂ (plus N) (numbers-elements C F p sp) (numbers-elements C F q sq)
 
+  -- a multiple for the multiple
   number-scaled : (c : ℕ) (q : List ℕ) → c < C .symbols → Symbols C q → map φ (scaled G (F .element c) (elements C F q)) ≡ scaled N c q
   number-scaled c q hc sq =
       carry-scaled G N (F .number) (F .element c) (elements C F q) ∙ ap₂ (scaled N) (F .number-element c hc) (numbers-elements C F q sq)
@@ -68,10 +74,12 @@ module _ (C : Code) (F : FieldOf C) where
       passes-scaled (F .ring) (monomials v D) (F .element c) (elements C F q) (pointElement C F i) b (multiplicityOf C F m i b)
       (elements-pass C F n v D m q sq hq i h b)))
 
+  -- a coefficient for the element's
   number-entry : (q : List ℕ) → Symbols C q → (k : ℕ) → φ (getD (elements C F q) k (G .o)) ≡ getD q k 0
   number-entry q sq k =
       sym (List·getD-map φ (elements C F q) k (G .o)) ∙ ap₂ (λ (l : List ℕ) (d : ℕ). getD l k d) (numbers-elements C F q sq) (F .number .φ-zero)
 
+  -- a row for the row
   number-row : (l : List (ℕ × ℕ)) (s t a b : ℕ) → a < C .symbols → b < C .symbols → (k : ℕ)
       → φ (row G l s t (F .element a) (F .element b) k) ≡ row N l s t a b k
   number-row l s t a b ha hb k =

@@ -20,6 +20,7 @@ module _ (A : Ops) where
   quotient a [] = []
   quotient a (d ∷ p) = value A a (d ∷ p) ∷ quotient a p
 
+  -- it is one shorter than what is divided
   pub length-quotient : (a : K) (p : List K) → length (quotient a p) ≡ length p
   unfolding quotient
   length-quotient a [] = refl
@@ -28,6 +29,7 @@ module _ (A : Ops) where
 module _ (A R : Ops) (h : Hom A R) where
   open Hom h using (φ)
 
+  -- a map that keeps sums and products carries it
   carry-quotient : (a : A .K) (p : List (A .K)) → map φ (quotient A a p) ≡ quotient R (φ a) (map φ p)
   unfolding quotient
   carry-quotient a [] = refl
@@ -38,6 +40,7 @@ module _ (R : Ring) where
 
   infixl 60 _⊕_
   infixl 70 _⊗_
+  -- one coefficient more
   remainder-step : (r a c v w : K) → c ⊕ r ⊗ (v ⊕ (r ⊕ a) ⊗ w) ≡ (c ⊕ a ⊗ v) ⊕ (r ⊕ a) ⊗ (v ⊕ r ⊗ w)
   remainder-step r a c v w = simp ring
 

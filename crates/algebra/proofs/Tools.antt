@@ -40,15 +40,18 @@ module _ {B : Type 0} (P : B → Type 0) where
   All [] = Unit
   All (b ∷ l) = P b × All l
 
+  -- of two lists, one after the other
   pub all-append : (k l : List B) → All k → All l → All (k ++ l)
   all-append [] l p q = q
   all-append (b ∷ k) l p q = (p .0, all-append k l (p .1) q)
 
 module _ {B D : Type 0} (P : D → Type 0) where
+  -- of the images of a list
   pub all-map : (g : B → D) (l : List B) → All (λ b. P (g b)) l → All P (map g l)
   all-map g [] p = tt
   all-map g (b ∷ l) p = (p .0, all-map g l (p .1))
 
+  -- of the lists that each entry gives
   pub all-flatMap : (g : B → List D) (l : List B) → All (λ b. All P (g b)) l → All P (flatMap g l)
   unfolding flatMap
   all-flatMap g [] p = tt

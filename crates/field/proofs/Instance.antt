@@ -17,6 +17,7 @@ use Rattle.algebra.proofs.Finite.{Tested, finite}
 use Rattle.algebra.proofs.Score as Score
 use Rattle.algebra.proofs.Tests.{every}
 
+-- what is computed of sixteen symbols: at most 256 pairs
 sixteen-tested : Tested 4 19 15
 unfolding every sumOf double shifted smallest power
 sixteen-tested =
