@@ -9,16 +9,20 @@ use lib.Dec.{T, eqb, eqb→eq, ltb, ltb→lt}
 use Rattle.definitions.specs.Field.{sumOf}
 use Rattle.algebra.proofs.Tests.{every, everyPair, every-at, everyPair-at}
 
+-- a lowest bit is 0 or 1
 bit-lt : (a : ℕ) → a % 2 < 2
 bit-lt a = omega arith
 
+-- the sum of two bits is a bit: four cases
 differ-test : T (everyPair 2 (λ x y. ltb (differ x y) 2))
 unfolding every
 differ-test = tt
 
+-- so of the lowest bits of any two numbers
 differ-lt : (a b : ℕ) → differ (a % 2) (b % 2) < 2
 differ-lt a b = ltb→lt _ _ (everyPair-at 2 (λ x y. ltb (differ x y) 2) differ-test (a % 2) (b % 2) (bit-lt a) (bit-lt b))
 
+-- on single bits the sum is associative: eight cases
 assoc-test : T (every 2 (λ z. everyPair 2 (λ x y. eqb (differ (differ x y) z) (differ x (differ y z)))))
 unfolding every
 assoc-test = tt
@@ -39,6 +43,7 @@ half a b = ap (λ (x : ℕ). x / 2) (xor-step a b) ∙ digits-div (bitXor (a / 2
 low : (a b : ℕ) → bitXor a b % 2 ≡ differ (a % 2) (b % 2)
 low a b = ap (λ (x : ℕ). x % 2) (xor-step a b) ∙ digits-mod (bitXor (a / 2) (b / 2)) (differ-lt a b)
 
+-- from the higher bits to all
 assoc-step : (n b c : ℕ) → bitXor (bitXor (n / 2) (b / 2)) (c / 2) ≡ bitXor (n / 2) (bitXor (b / 2) (c / 2))
     → bitXor (bitXor n b) c ≡ bitXor n (bitXor b c)
 assoc-step n b c ih =
@@ -48,23 +53,28 @@ assoc-step n b c ih =
     ∙ ap₂ (λ (x y : ℕ). bitXor (n / 2) x * 2 + differ (n % 2) y) (sym (half b c)) (sym (low b c))
     ∙ sym (xor-step n (bitXor b c))
 
+-- the sum is associative
 pub sum-assoc : (a b c : ℕ) → sumOf (sumOf a b) c ≡ sumOf a (sumOf b c)
 unfolding sumOf
 sum-assoc a =
     bin-ind (λ (n : ℕ). (b c : ℕ) → bitXor (bitXor n b) c ≡ bitXor n (bitXor b c)) (λ b c. refl)
     (λ n ih b c. assoc-step n b c (ih (b / 2) (c / 2))) a
 
+-- and commutative
 pub sum-comm : (a b : ℕ) → sumOf a b ≡ sumOf b a
 unfolding sumOf
 sum-comm a b = xor-comm a b
 
+-- so that summands can be sorted
 pub sum-left : (a b c : ℕ) → sumOf a (sumOf b c) ≡ sumOf b (sumOf a c)
 sum-left a b c = sym (sum-assoc a b c) ∙ ap (λ (x : ℕ). sumOf x c) (sum-comm a b) ∙ sum-assoc b a c
 
+-- zero is neutral
 pub sum-zero : (a : ℕ) → sumOf a 0 ≡ a
 unfolding sumOf
 sum-zero a = xor-zero-r a
 
+-- on both sides
 pub zero-sum : (a : ℕ) → sumOf 0 a ≡ a
 unfolding sumOf
 zero-sum a = refl

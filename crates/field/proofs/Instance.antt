@@ -1,12 +1,23 @@
--- Sixteen symbols are a field.
+-- Sixteen symbols are a field, and the theorem at sixteen symbols.
 -- Assumes nothing.
+use mathlib.Core.Bool.{true}
+use mathlib.Core.List.{List}
+use mathlib.Core.Path.{_≡_}
+use Prim.Native.Nat.{ℕ, suc, _≤_, _<_}
 use native.Mathlib.Omega.{arith}
+use lib.ListN.{length}
+use Rattle.definitions.specs.Code.{Symbols}
 use Rattle.definitions.specs.Field.{sixteen, sumOf, double, shifted, power}
+use Rattle.definitions.specs.Polynomial.{Through}
+use Rattle.definitions.specs.Roots.{isRoot}
 use Rattle.definitions.specs.Tools.{smallest}
+use Rattle.definitions.specs.Weights.{score}
 use Rattle.algebra.specs.FieldOf.{FieldOf}
 use Rattle.algebra.proofs.Finite.{Tested, finite}
+use Rattle.algebra.proofs.Score as Score
 use Rattle.algebra.proofs.Tests.{every}
 
+-- what is computed of sixteen symbols: at most 256 pairs
 sixteen-tested : Tested 4 19 15
 unfolding every sumOf double shifted smallest power
 sixteen-tested =
@@ -24,3 +35,8 @@ sixteen-tested =
 -- the numbers below 16, with the sum and the product of document 01, are a field whose fifteen points differ
 pub sixteen-field : FieldOf sixteen
 sixteen-field = finite 4 19 15 sixteen-tested
+
+-- every message of score above D is a y-root of every polynomial of weighted degree at most D that passes, whoever made it
+pub score-above-degree-is-root : (n v D : ℕ) (m q f : List ℕ) → n ≤ 15 → Symbols sixteen q → Through sixteen n v D m q
+    → Symbols sixteen f → length f ≤ suc v → D < score sixteen n m f → isRoot sixteen v D q f ≡ true
+score-above-degree-is-root = Score.score-above-degree-is-root sixteen sixteen-field

@@ -1,0 +1,145 @@
+-- A Hasse condition is linear in the coefficients: a row times the coefficients. So the lists of coefficients that pass are closed under sums
+-- and multiples.
+-- Assumes nothing.
+use mathlib.Core.List.{List, [], _∷_}
+use mathlib.Core.Path.{_≡_, refl, sym, _∙_, ap, ap₂}
+use Prim.Native.Nat.{ℕ, zero, suc, _<_}
+use native.Mathlib.Omega.{arith}
+use lib.ListN.{length, getD}
+use Rattle.definitions.specs.Field.{Ops}
+use Rattle.definitions.specs.Polynomial.{Term, terms, derivative, hasse, Passes}
+use Rattle.definitions.specs.Roots.{plus, scaled}
+use Rattle.algebra.specs.Ring.{Ring, Hom}
+use Rattle.algebra.proofs.Carry.{carry-derivative}
+use Rattle.algebra.proofs.RingLaws.{ring, plus-assoc, plus-comm, plus-zero, times-zero}
+
+module _ (A : Ops) where
+  open Ops A using (K, o, add as _⊕_, mul as _⊗_)
+
+  infixl 60 _⊕_
+  infixl 70 _⊗_
+  -- the sum of r k q k over k below n
+  unfoldable pub dot : ℕ → (ℕ → K) → (ℕ → K) → K
+  dot zero r q = o
+  dot (suc n) r q = dot n r q ⊕ r n ⊗ q n
+
+  -- a sum of nothing
+  pub dot-none : (r q : ℕ → K) → dot zero r q ≡ o
+  unfolding dot
+  dot-none r q = refl
+
+  -- the row of the condition of order (s, t) at (x, y): its entry at each monomial
+  abbrev pub row : List (ℕ × ℕ) → ℕ → ℕ → K → K → ℕ → K
+  row l s t x y k = derivative A (getD l k (0, 0) .0) s x ⊗ derivative A (getD l k (0, 0) .1) t y
+
+  -- the polynomial without terms
+  pub hasse-nil : (s t : ℕ) (x y : K) → hasse A [] s t x y ≡ o
+  unfolding hasse
+  hasse-nil s t x y = refl
+
+  -- one term more
+  pub hasse-cons : (m : Term A) (q : List (Term A)) (s t : ℕ) (x y : K)
+      → hasse A (m ∷ q) s t x y ≡ m .0 ⊗ derivative A (m .1) s x ⊗ derivative A (m .2) t y ⊕ hasse A q s t x y
+  unfolding hasse
+  hasse-cons m q s t x y = refl
+
+  -- equal rows and vectors have equal products
+  pub dot-equal : (n : ℕ) (r s p q : ℕ → K) → ((k : ℕ) → k < n → r k ≡ s k) → ((k : ℕ) → k < n → p k ≡ q k) → dot n r p ≡ dot n s q
+  unfolding dot
+  dot-equal zero r s p q e f = refl
+  dot-equal (suc n) r s p q e f =
+      ap₂ _⊕_ (dot-equal n r s p q (λ k h. e k (omega arith)) (λ k h. f k (omega arith))) (ap₂ _⊗_ (e n (omega arith)) (f n (omega arith)))
+
+module _ (A R : Ops) (h : Hom A R) where
+  open Ops R using (K, o, add as _⊕_, mul as _⊗_)
+  open Hom h using (φ, φ-zero, φ-add, φ-mul)
+
+  infixl 60 _⊕_
+  infixl 70 _⊗_
+  -- a map that keeps sums and products carries products of rows and vectors
+  pub carry-dot : (n : ℕ) (r q : ℕ → A .K) → φ (dot A n r q) ≡ dot R n (λ k. φ (r k)) (λ k. φ (q k))
+  unfolding dot
+  carry-dot zero r q = φ-zero
+  carry-dot (suc n) r q = φ-add (dot A n r q) (A .mul (r n) (q n)) ∙ ap₂ _⊕_ (carry-dot n r q) (φ-mul (r n) (q n))
+
+  -- and rows
+  pub carry-row : (l : List (ℕ × ℕ)) (s t : ℕ) (x y : A .K) (k : ℕ) → φ (row A l s t x y k) ≡ row R l s t (φ x) (φ y) k
+  carry-row l s t x y k =
+      φ-mul (derivative A (getD l k (0, 0) .0) s x) (derivative A (getD l k (0, 0) .1) t y)
+      ∙ ap₂ _⊗_ (carry-derivative A R h (getD l k (0, 0) .0) s x) (carry-derivative A R h (getD l k (0, 0) .1) t y)
+
+module _ (A : Ring) where
+  open Ops (A .ops) using (K, o, i, add as _⊕_, mul as _⊗_)
+
+  infixl 60 _⊕_
+  infixl 70 _⊗_
+  -- the first summand, taken out
+  dot-first : (n : ℕ) (r q : ℕ → K) → dot (A .ops) (suc n) r q ≡ r zero ⊗ q zero ⊕ dot (A .ops) n (λ k. r (suc k)) (λ k. q (suc k))
+  unfolding dot
+  dot-first zero r q = plus-comm A o (r zero ⊗ q zero)
+  dot-first (suc n) r q =
+      ap (λ (z : K). z ⊕ r (suc n) ⊗ q (suc n)) (dot-first n r q)
+      ∙ plus-assoc A (r zero ⊗ q zero) (dot (A .ops) n (λ k. r (suc k)) (λ k. q (suc k))) (r (suc n) ⊗ q (suc n))
+
+  -- a row times the vector of zeros
+  dot-zeros : (n : ℕ) (r : ℕ → K) → dot (A .ops) n r (λ k. o) ≡ o
+  unfolding dot
+  dot-zeros zero r = refl
+  dot-zeros (suc n) r = ap₂ _⊕_ (dot-zeros n r) (times-zero A (r n)) ∙ plus-zero A o
+
+  -- the coefficient behind its entry
+  turn : (c d e z : K) → c ⊗ d ⊗ e ⊕ z ≡ d ⊗ e ⊗ c ⊕ z
+  turn c d e z = simp ring
+
+  -- a Hasse derivative is a row times the coefficients
+  pub hasse-is-dot : (l : List (ℕ × ℕ)) (q : List K) (s t : ℕ) (x y : K)
+      → hasse (A .ops) (terms (A .ops) q l) s t x y ≡ dot (A .ops) (length l) (row (A .ops) l s t x y) (λ k. getD q k o)
+  unfolding terms
+  hasse-is-dot l [] s t x y = hasse-nil (A .ops) s t x y ∙ sym (dot-zeros (length l) (row (A .ops) l s t x y))
+  hasse-is-dot [] (c ∷ q) s t x y = hasse-nil (A .ops) s t x y ∙ sym (dot-none (A .ops) (row (A .ops) [] s t x y) (λ k. getD (c ∷ q) k o))
+  hasse-is-dot (m ∷ l) (c ∷ q) s t x y =
+      hasse-cons (A .ops) (c, m .0, m .1) (terms (A .ops) q l) s t x y
+      ∙ ap (λ (z : K). c ⊗ derivative (A .ops) (m .0) s x ⊗ derivative (A .ops) (m .1) t y ⊕ z) (hasse-is-dot l q s t x y)
+      ∙ turn c (derivative (A .ops) (m .0) s x) (derivative (A .ops) (m .1) t y) (dot (A .ops) (length l) (row (A .ops) l s t x y) (λ k. getD q k o))
+      ∙ sym (dot-first (length l) (row (A .ops) (m ∷ l) s t x y) (λ k. getD (c ∷ q) k o))
+
+  -- one monomial more
+  plus-step : (c d e f z w : K) → (c ⊕ d) ⊗ e ⊗ f ⊕ (z ⊕ w) ≡ (c ⊗ e ⊗ f ⊕ z) ⊕ (d ⊗ e ⊗ f ⊕ w)
+  plus-step c d e f z w = simp ring
+
+  -- the derivative of a sum
+  pub hasse-plus : (l : List (ℕ × ℕ)) (p q : List K) (s t : ℕ) (x y : K)
+      → hasse (A .ops) (terms (A .ops) (plus (A .ops) p q) l) s t x y
+      ≡ hasse (A .ops) (terms (A .ops) p l) s t x y ⊕ hasse (A .ops) (terms (A .ops) q l) s t x y
+  unfolding terms plus
+  hasse-plus l [] q s t x y = simp (hasse-nil, ring)
+  hasse-plus l (c ∷ p) [] s t x y = simp (hasse-nil, ring)
+  hasse-plus [] (c ∷ p) (d ∷ q) s t x y = simp (hasse-nil, ring)
+  hasse-plus (m ∷ l) (c ∷ p) (d ∷ q) s t x y =
+      simp (hasse-cons, hasse-plus l p q s t x y)
+      (plus-step c d (derivative (A .ops) (m .0) s x) (derivative (A .ops) (m .1) t y) (hasse (A .ops) (terms (A .ops) p l) s t x y)
+      (hasse (A .ops) (terms (A .ops) q l) s t x y))
+
+  -- one monomial more
+  scaled-step : (c d e f z : K) → (c ⊗ d) ⊗ e ⊗ f ⊕ c ⊗ z ≡ c ⊗ (d ⊗ e ⊗ f ⊕ z)
+  scaled-step c d e f z = simp ring
+
+  -- the derivative of a multiple
+  pub hasse-scaled : (l : List (ℕ × ℕ)) (c : K) (q : List K) (s t : ℕ) (x y : K)
+      → hasse (A .ops) (terms (A .ops) (scaled (A .ops) c q) l) s t x y ≡ c ⊗ hasse (A .ops) (terms (A .ops) q l) s t x y
+  unfolding terms scaled
+  hasse-scaled l c [] s t x y = simp (hasse-nil, ring)
+  hasse-scaled [] c (d ∷ q) s t x y = simp (hasse-nil, ring)
+  hasse-scaled (m ∷ l) c (d ∷ q) s t x y =
+      simp (hasse-cons, hasse-scaled l c q s t x y)
+      (scaled-step c d (derivative (A .ops) (m .0) s x) (derivative (A .ops) (m .1) t y) (hasse (A .ops) (terms (A .ops) q l) s t x y))
+
+  -- a sum of lists that pass, passes
+  pub passes-plus : (l : List (ℕ × ℕ)) (p q : List K) (x y : K) (m : ℕ) → Passes (A .ops) (terms (A .ops) p l) x y m
+      → Passes (A .ops) (terms (A .ops) q l) x y m → Passes (A .ops) (terms (A .ops) (plus (A .ops) p q) l) x y m
+  passes-plus l p q x y m hp hq s t k = hasse-plus l p q s t x y ∙ ap₂ _⊕_ (hp s t k) (hq s t k) ∙ plus-zero A o
+
+  -- and so does a multiple
+  pub passes-scaled : (l : List (ℕ × ℕ)) (c : K) (q : List K) (x y : K) (m : ℕ) → Passes (A .ops) (terms (A .ops) q l) x y m
+      → Passes (A .ops) (terms (A .ops) (scaled (A .ops) c q) l) x y m
+  passes-scaled l c q x y m h s t k = hasse-scaled l c q s t x y ∙ ap (λ (z : K). c ⊗ z) (h s t k) ∙ times-zero A c

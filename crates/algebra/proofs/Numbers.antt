@@ -1,0 +1,84 @@
+-- From the elements of a field to the symbols of a code that carries it: values, Hasse derivatives and Q(x, f(x)) of plain numbers are those of
+-- the elements that they stand for.
+-- Assumes nothing.
+use mathlib.Core.Bool.{true}
+use mathlib.Core.List.{List, [], _∷_, map}
+use mathlib.Core.Path.{_≡_, refl, sym, _∙_, ap, ap₂, subst}
+use Prim.Native.Nat.{ℕ, zero, suc, _<_}
+use lib.ListN.{getD, List·getD-map}
+use Rattle.definitions.specs.Code.{Symbols, point}
+use Rattle.definitions.specs.Field.{Ops, Code, numbers, power, value}
+use Rattle.definitions.specs.Polynomial.{Term, terms, hasse, isZero}
+use Rattle.definitions.specs.Roots.{compose}
+use Rattle.algebra.specs.FieldOf.{FieldOf}
+use Rattle.algebra.proofs.Carry.{carry-power, carry-value, carry-hasse, carry-terms, carry-compose}
+use Rattle.algebra.proofs.RootCounting.{Zero}
+
+-- a list whose entries are all zero is zero
+pub isZero-of-zeros : (q : List ℕ) → ((t : ℕ) → getD q t 0 ≡ 0) → isZero q ≡ true
+unfolding isZero
+isZero-of-zeros [] z = refl
+isZero-of-zeros (c ∷ q) z = rw (z zero) (isZero-of-zeros q (λ t. z (suc t)))
+
+module _ (C : Code) (F : FieldOf C) where
+  -- the operations on elements
+  abbrev G : Ops
+  G = F .ring .ops
+
+  -- the operations on numbers
+  abbrev N : Ops
+  N = numbers C
+
+  -- the number of an element
+  abbrev φ : G .K → ℕ
+  φ = F .number .φ
+
+  -- the elements of a list of symbols
+  abbrev pub elements : List ℕ → List (F .ring .ops .K)
+  elements l = map (F .element) l
+
+  -- an element is told by its number
+  pub number-injective : (x y : F .ring .ops .K) → F .number .φ x ≡ F .number .φ y → x ≡ y
+  number-injective x y e = sym (F .element-number x) ∙ ap (F .element) e ∙ F .element-number y
+
+  -- symbols are the numbers of their elements
+  pub numbers-elements : (l : List ℕ) → Symbols C l → map (F .number .φ) (elements l) ≡ l
+  numbers-elements [] s = refl
+  numbers-elements (a ∷ l) s = ap₂ (λ (b : ℕ) (k : List ℕ). b ∷ k) (F .number-element a (s zero)) (numbers-elements l (λ j. s (suc j)))
+
+  -- a point is a symbol
+  pub point-symbol : (i : ℕ) → point C i < C .symbols
+  point-symbol i =
+      subst (λ (a : ℕ). a < C .symbols)
+      (carry-power G N (F .number) (F .element (C .α)) i ∙ ap (λ (a : ℕ). power N a i) (F .number-element (C .α) (F .α-symbol)))
+      (F .number-symbol (power G (F .element (C .α)) i))
+
+  -- the number of a value
+  pub number-value : (x : F .ring .ops .K) (f : List ℕ) → Symbols C f → F .number .φ (value (F .ring .ops) x (elements f)) ≡ value (numbers C) (F .number .φ x) f
+  number-value x f s = carry-value G N (F .number) x (elements f) ∙ ap (value N (φ x)) (numbers-elements f s)
+
+  -- the number of a Hasse derivative
+  pub number-hasse : (q : List (F .ring .ops .K)) (l : List (ℕ × ℕ)) (s t : ℕ) (x y : F .ring .ops .K)
+      → F .number .φ (hasse (F .ring .ops) (terms (F .ring .ops) q l) s t x y)
+      ≡ hasse (numbers C) (terms (numbers C) (map (F .number .φ) q) l) s t (F .number .φ x) (F .number .φ y)
+  number-hasse q l s t x y =
+      carry-hasse G N (F .number) (terms G q l) s t x y ∙ ap (λ (p : List (Term N)). hasse N p s t (φ x) (φ y)) (carry-terms G N (F .number) q l)
+
+  -- the numbers of Q(x, f(x))
+  number-compose : (f q : List ℕ) (l : List (ℕ × ℕ)) → Symbols C f → Symbols C q
+      → map φ (compose G (elements f) (terms G (elements q) l)) ≡ compose N f (terms N q l)
+  number-compose f q l sf sq =
+      carry-compose G N (F .number) (elements f) (terms G (elements q) l)
+      ∙ ap₂ (compose N) (numbers-elements f sf) (carry-terms G N (F .number) (elements q) l ∙ ap (λ (p : List ℕ). terms N p l) (numbers-elements q sq))
+
+  -- Q(x, f(x)) of numbers is zero where that of the elements is
+  pub compose-zero : (f q : List ℕ) (l : List (ℕ × ℕ)) → Symbols C f → Symbols C q
+      → Zero (F .ring .ops) (compose (F .ring .ops) (elements f) (terms (F .ring .ops) (elements q) l))
+      → isZero (compose (numbers C) f (terms (numbers C) q l)) ≡ true
+  compose-zero f q l sf sq z = isZero-of-zeros (compose N f (terms N q l)) each
+    where
+      -- each coefficient is zero
+      each : (t : ℕ) → getD (compose N f (terms N q l)) t 0 ≡ 0
+      each t =
+          ap₂ (λ (k : List ℕ) (d : ℕ). getD k t d) (sym (number-compose f q l sf sq)) (sym (F .number .φ-zero))
+          ∙ List·getD-map φ (compose G (elements f) (terms G (elements q) l)) t (G .o) ∙ ap φ (z t) ∙ F .number .φ-zero

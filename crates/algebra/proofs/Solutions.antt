@@ -1,0 +1,103 @@
+-- The lists of symbols that pass through a matrix of multiplicities are closed under sums and multiples, and each Hasse condition on them is
+-- a row times the coefficients.
+-- Assumes nothing.
+use mathlib.Core.List.{List, [], _∷_, map}
+use mathlib.Core.Path.{_≡_, sym, _∙_, ap, ap₂, subst}
+use Prim.Native.Nat.{ℕ, zero, suc, _<_}
+use lib.ListN.{length, getD, List·getD-map}
+use Rattle.definitions.specs.Code.{Symbols}
+use Rattle.definitions.specs.Field.{Ops, Code, numbers}
+use Rattle.definitions.specs.Polynomial.{terms, monomials, hasse, Through}
+use Rattle.definitions.specs.Roots.{plus, scaled}
+use Rattle.algebra.specs.FieldOf.{FieldOf}
+use Rattle.algebra.proofs.Carry.{carry-plus, carry-scaled}
+use Rattle.algebra.proofs.Linear.{dot, row, dot-equal, carry-dot, carry-row, hasse-is-dot, passes-plus, passes-scaled}
+use Rattle.algebra.proofs.Numbers.{elements, numbers-elements, number-hasse}
+use Rattle.algebra.proofs.Passing.{pointElement, multiplicityOf, elements-pass, numbers-pass}
+
+module _ (C : Code) (F : FieldOf C) where
+  -- the operations on elements
+  abbrev G : Ops
+  G = F .ring .ops
+
+  -- the operations on numbers
+  abbrev N : Ops
+  N = numbers C
+
+  -- the number of an element
+  abbrev φ : G .K → ℕ
+  φ = F .number .φ
+
+  -- 0 is a symbol
+  zero-symbol : 0 < C .symbols
+  zero-symbol = subst (λ (a : ℕ). a < C .symbols) (F .number .φ-zero) (F .number-symbol (G .o))
+
+  -- what stands for elements is a list of symbols
+  numbers-symbols : (l : List (G .K)) → Symbols C (map φ l)
+  numbers-symbols [] j = zero-symbol
+  numbers-symbols (x ∷ l) zero = F .number-symbol x
+  numbers-symbols (x ∷ l) (suc j) = numbers-symbols l j
+
+  -- a sum of symbols stands for the sum of their elements
+  number-plus : (p q : List ℕ) → Symbols C p → Symbols C q → map φ (plus G (elements C F p) (elements C F q)) ≡ plus N p q
+  number-plus p q sp sq =
+      carry-plus G N (F .number) (elements C F p) (elements C F q) ∙ ap₂ (plus N) (numbers-elements C F p sp) (numbers-elements C F q sq)
+
+  -- a multiple for the multiple
+  number-scaled : (c : ℕ) (q : List ℕ) → c < C .symbols → Symbols C q → map φ (scaled G (F .element c) (elements C F q)) ≡ scaled N c q
+  number-scaled c q hc sq =
+      carry-scaled G N (F .number) (F .element c) (elements C F q) ∙ ap₂ (scaled N) (F .number-element c hc) (numbers-elements C F q sq)
+
+  -- a sum of lists of symbols is one
+  pub symbols-plus : (p q : List ℕ) → Symbols C p → Symbols C q → Symbols C (plus (numbers C) p q)
+  symbols-plus p q sp sq = subst (Symbols C) (number-plus p q sp sq) (numbers-symbols (plus G (elements C F p) (elements C F q)))
+
+  -- and so is a multiple
+  pub symbols-scaled : (c : ℕ) (q : List ℕ) → c < C .symbols → Symbols C q → Symbols C (scaled (numbers C) c q)
+  symbols-scaled c q hc sq = subst (Symbols C) (number-scaled c q hc sq) (numbers-symbols (scaled G (F .element c) (elements C F q)))
+
+  -- the sum of two lists that pass, passes
+  pub through-plus : (n v D : ℕ) (m p q : List ℕ) → Symbols C p → Symbols C q → Through C n v D m p → Through C n v D m q
+      → Through C n v D m (plus (numbers C) p q)
+  through-plus n v D m p q sp sq hp hq =
+      subst (Through C n v D m) (number-plus p q sp sq)
+      (numbers-pass C F n v D m (plus G (elements C F p) (elements C F q)) (λ i h b.
+      passes-plus (F .ring) (monomials v D) (elements C F p) (elements C F q) (pointElement C F i) b (multiplicityOf C F m i b)
+      (elements-pass C F n v D m p sp hp i h b) (elements-pass C F n v D m q sq hq i h b)))
+
+  -- a multiple of a list that passes, passes
+  pub through-scaled : (n v D : ℕ) (m : List ℕ) (c : ℕ) (q : List ℕ) → c < C .symbols → Symbols C q → Through C n v D m q
+      → Through C n v D m (scaled (numbers C) c q)
+  through-scaled n v D m c q hc sq hq =
+      subst (Through C n v D m) (number-scaled c q hc sq)
+      (numbers-pass C F n v D m (scaled G (F .element c) (elements C F q)) (λ i h b.
+      passes-scaled (F .ring) (monomials v D) (F .element c) (elements C F q) (pointElement C F i) b (multiplicityOf C F m i b)
+      (elements-pass C F n v D m q sq hq i h b)))
+
+  -- a coefficient for the element's
+  number-entry : (q : List ℕ) → Symbols C q → (k : ℕ) → φ (getD (elements C F q) k (G .o)) ≡ getD q k 0
+  number-entry q sq k =
+      sym (List·getD-map φ (elements C F q) k (G .o)) ∙ ap₂ (λ (l : List ℕ) (d : ℕ). getD l k d) (numbers-elements C F q sq) (F .number .φ-zero)
+
+  -- a row for the row
+  number-row : (l : List (ℕ × ℕ)) (s t a b : ℕ) → a < C .symbols → b < C .symbols → (k : ℕ)
+      → φ (row G l s t (F .element a) (F .element b) k) ≡ row N l s t a b k
+  number-row l s t a b ha hb k =
+      carry-row G N (F .number) l s t (F .element a) (F .element b) k
+      ∙ ap₂ (λ (x y : ℕ). row N l s t x y k) (F .number-element a ha) (F .number-element b hb)
+
+  -- an entry of a row is a symbol
+  pub row-symbol : (l : List (ℕ × ℕ)) (s t a b : ℕ) → a < C .symbols → b < C .symbols → (k : ℕ) → row (numbers C) l s t a b k < C .symbols
+  row-symbol l s t a b ha hb k =
+      subst (λ (x : ℕ). x < C .symbols) (number-row l s t a b ha hb k) (F .number-symbol (row G l s t (F .element a) (F .element b) k))
+
+  -- a Hasse derivative of numbers is a row times the coefficients
+  pub hasse-is-dot-of-numbers : (l : List (ℕ × ℕ)) (q : List ℕ) (s t a b : ℕ) → Symbols C q → a < C .symbols → b < C .symbols
+      → hasse (numbers C) (terms (numbers C) q l) s t a b ≡ dot (numbers C) (length l) (row (numbers C) l s t a b) (λ k. getD q k 0)
+  hasse-is-dot-of-numbers l q s t a b sq ha hb =
+      ap₂ (λ (x y : ℕ). hasse N (terms N q l) s t x y) (sym (F .number-element a ha)) (sym (F .number-element b hb))
+      ∙ ap (λ (p : List ℕ). hasse N (terms N p l) s t (φ (F .element a)) (φ (F .element b))) (sym (numbers-elements C F q sq))
+      ∙ sym (number-hasse C F (elements C F q) l s t (F .element a) (F .element b))
+      ∙ ap φ (hasse-is-dot (F .ring) l (elements C F q) s t (F .element a) (F .element b))
+      ∙ carry-dot G N (F .number) (length l) (row G l s t (F .element a) (F .element b)) (λ k. getD (elements C F q) k (G .o))
+      ∙ dot-equal N (length l) _ (row N l s t a b) _ (λ k. getD q k 0) (λ k h. number-row l s t a b ha hb k) (λ k h. number-entry q sq k)
