@@ -8,6 +8,7 @@ use Prim.Native.Nat.{ℕ, _≤_, _<_}
 use borrow.Author.Tests.{lt-ltb, le-ltb, eq-eqb, ne-eqb, leb-true}
 use lib.Dec.{leb}
 use lib.ListN.{length}
+use Rattle.definitions.proofs.Tools.{split}
 use Rattle.definitions.specs.Field.{Code}
 use Rattle.definitions.specs.Limits.{greatestLevel}
 use Rattle.definitions.specs.Refusals.{Line, tried, sizesFit, sizes, sizeFits, size, levelFits, level, entries, room, firstAbove, noneAbove, badColumn, columns}
@@ -98,3 +99,15 @@ size-means C n e = let b = both (leb 2 n) (leb n (C .positions)) e in (leb-true 
 
 pub level-means : (L : ℕ) → levelFits L ≡ true → (1 ≤ L) × (L ≤ greatestLevel)
 level-means L e = let b = both (leb 1 L) (leb L greatestLevel) e in (leb-true 1 L (b .0), leb-true L greatestLevel (b .1))
+
+-- whatever a table gives: what is shown of a line's refusal where it is given, and of what is accepted where none is
+pub data Whatever (Refused : ℕ → ℕ → Type 0) (Accepted : Type 0) : List Line → Type 0 where
+  last : Accepted → Whatever Refused Accepted []
+  or : {l : Line} {table : List Line} → (l .given ≡ true → Refused (l .number) (l .place))
+      → (l .given ≡ false → Whatever Refused Accepted table) → Whatever Refused Accepted (l ∷ table)
+
+pub whatever : {A : Type 0} (P : A → Type 0) (refused : ℕ → ℕ → A) (accepted : A) (table : List Line)
+    → Whatever (λ number place. P (refused number place)) (P accepted) table → P (tried table refused accepted)
+whatever P refused accepted [] (last p) = p
+whatever P refused accepted (l ∷ table) (or here later) =
+    split (l .given) (λ e. rw e (here e)) (λ e. rw e (whatever P refused accepted table (later e)))

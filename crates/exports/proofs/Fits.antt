@@ -1,0 +1,102 @@
+-- Every number that an entry answers fits sixteen bits.
+-- Assumes nothing.
+use mathlib.Core.Bool.{true}
+use mathlib.Core.List.{List, [], _∷_}
+use mathlib.Core.Path.{_≡_}
+use Prim.Native.Nat.{ℕ, _*_, _-_, _<_}
+use native.Mathlib.Omega.{arith}
+use borrow.Author.Tests.{not-false, eqb-true, ltb-true, ltb-false}
+use lib.Dec.{eqb}
+use lib.ListN.{length}
+use Rattle.algebra.proofs.Closed.{plus-symbol, times-symbol}
+use Rattle.definitions.proofs.Bound.{bound-le}
+use Rattle.definitions.proofs.Refusals.{none-above}
+use Rattle.definitions.proofs.Table.{Whatever, last, or, whatever, sizes-mean, size-means}
+use Rattle.definitions.proofs.Tools.{smallest-le}
+use Rattle.definitions.specs.Answers.{Answer, refused, valued, counted, costed, sumAnswer, productAnswer, inverseAnswer, encodeAnswer, multiplicitiesAnswer, costAnswer}
+use Rattle.definitions.specs.Bound.{bound}
+use Rattle.definitions.specs.Field.{sixteen, inverseOf}
+use Rattle.definitions.specs.Refusals.{Line, tried, sizesFit, sizeFits, noneAbove, firstAbove, badColumn, fieldTable, inverseTable, encodeTable, multiplicitiesTable, costTable}
+use Rattle.definitions.specs.Tools.{smallest}
+use Rattle.definitions.specs.Weights.{cost}
+use Rattle.exports.specs.Crossing.{Narrow}
+use Rattle.field.proofs.Instance.{sixteen-field}
+use Rattle.weights.proofs.Cost.{cost-small}
+
+refused-narrow : (number place : ℕ) → place < 65536 → Narrow (refused number place)
+refused-narrow number place h = record { place = h; count = omega arith; value = omega arith; cost = omega arith; bound = omega arith }
+
+valued-narrow : (x : ℕ) → x < 65536 → Narrow (valued x)
+valued-narrow x h = record { place = omega arith; count = omega arith; value = h; cost = omega arith; bound = omega arith }
+
+counted-narrow : (n : ℕ) → n < 65536 → Narrow (counted n)
+counted-narrow n h = record { place = omega arith; count = h; value = omega arith; cost = omega arith; bound = omega arith }
+
+costed-narrow : (c d : ℕ) → c < 65536 → d < 65536 → Narrow (costed c d)
+costed-narrow c d h k = record { place = omega arith; count = omega arith; value = omega arith; cost = h; bound = k }
+
+-- a table whose refusals have small places, and what is accepted
+abbrev Table : Answer → List Line → Type 0
+Table accepted = Whatever (λ number place. Narrow (refused number place)) (Narrow accepted)
+
+narrow : (accepted : Answer) (table : List Line) → Table accepted table → Narrow (tried table refused accepted)
+narrow accepted = whatever Narrow refused accepted
+
+-- a refusal at place 0
+at-none : {number : ℕ} → Narrow (refused number 0)
+at-none {number} = refused-narrow number 0 (omega arith)
+
+-- a refusal at the first of few numbers above the greatest
+at-first : (greatest : ℕ) (l : List ℕ) → length l < 65536 → noneAbove greatest l .given ≡ true → Narrow (refused 5 (firstAbove greatest l))
+at-first greatest l h e = refused-narrow 5 (firstAbove greatest l) (let bad = ltb-true (firstAbove greatest l) (length l) e in omega arith)
+
+module _ (a b : ℕ) where
+  -- one of two is no symbol, or both are
+  field-narrow : (x : ℕ) → (a < 16 → b < 16 → x < 16) → Narrow (tried (fieldTable sixteen a b) refused (valued x))
+  field-narrow x small =
+      narrow (valued x) (fieldTable sixteen a b) (or (at-first 15 (a ∷ b ∷ []) (omega arith)) (λ e.
+      let none = none-above 15 (a ∷ b ∷ []) (ltb-false (firstAbove 15 (a ∷ b ∷ [])) 2 e) in
+      let ha = none 0 in
+      let hb = none 1 in
+      let h : x < 16 = small (omega arith) (omega arith) in
+      last (valued-narrow x (omega arith))))
+
+  pub sum-narrow : Narrow (sumAnswer sixteen a b)
+  sum-narrow = field-narrow (sixteen .plus a b) (plus-symbol sixteen sixteen-field a b)
+
+  pub product-narrow : Narrow (productAnswer sixteen a b)
+  product-narrow = field-narrow (sixteen .times a b) (times-symbol sixteen sixteen-field a b)
+
+pub inverse-narrow : (a : ℕ) → Narrow (inverseAnswer sixteen a)
+inverse-narrow a =
+    let small = smallest-le (λ (b : ℕ). eqb (sixteen .times a b) 1) 16 in
+    narrow (valued (inverseOf sixteen a)) (inverseTable sixteen a)
+    (or (at-first 15 (a ∷ []) (omega arith)) (λ _. or (λ _. at-none) (λ _. last (valued-narrow (inverseOf sixteen a) (omega arith)))))
+
+pub encode-narrow : (n k : ℕ) (f out : List ℕ) → Narrow (encodeAnswer sixteen n k f out)
+encode-narrow n k f out =
+    narrow (counted n) (encodeTable sixteen n k f (length out)) (or (λ _. at-none) (λ s.
+    let fits = sizes-mean sixteen n k (not-false (sizesFit sixteen n k) s) in
+    or (λ _. at-none) (λ l.
+    let full = eqb-true (length f) k (not-false (eqb (length f) k) l) in
+    or (λ _. at-none) (λ _. or (at-first 15 f (omega arith)) (λ _. last (counted-narrow n (omega arith)))))))
+
+pub multiplicities-narrow : (n L : ℕ) (r out : List ℕ) → Narrow (multiplicitiesAnswer sixteen n L r out)
+multiplicities-narrow n L r out =
+    narrow (counted (16 * n)) (multiplicitiesTable sixteen n L r (length out)) (or (λ _. at-none) (λ s.
+    let fits = size-means sixteen n (not-false (sizeFits sixteen n) s) in
+    or (λ _. at-none) (λ _. or (λ _. at-none) (λ _. or (λ _. at-none) (λ _. or
+    (λ e. refused-narrow 6 (smallest (badColumn sixteen r) n) (let bad = ltb-true (smallest (badColumn sixteen r) n) n e in omega arith))
+    (λ _. last (counted-narrow (16 * n) (omega arith))))))))
+
+pub cost-narrow : (n k : ℕ) (m : List ℕ) → Narrow (costAnswer sixteen n k m)
+cost-narrow n k m =
+    narrow (costed (cost m) (bound (k - 1) (cost m))) (costTable sixteen n k m) (or (λ _. at-none) (λ s.
+    let fits = sizes-mean sixteen n k (not-false (sizesFit sixteen n k) s) in
+    or (λ _. at-none) (λ l.
+    let full = eqb-true (length m) (16 * n) (not-false (eqb (length m) (16 * n)) l) in
+    or (at-first 4 m (omega arith)) (λ e.
+    let none = none-above 4 m (ltb-false (firstAbove 4 m) (length m) e) in
+    let small = cost-small m n (fits .2) full none in
+    let degree = bound-le (k - 1) (omega arith) (cost m) in
+    last (costed-narrow (cost m) (bound (k - 1) (cost m)) (omega arith) (omega arith))))))

@@ -1,0 +1,44 @@
+use mathlib.Core.Path.{sym, _∙_, ap, ap₂}
+use Rattle.definitions.specs.Answers.{costed}
+use Rattle.weights.specs.Told.{toldCosted}
+use borrow.Author.Needs.{needs}
+use Rattle.exports.proofs.costed.Statement.{statement}
+use Rattle.exports.proofs.costed.Tie as tie
+
+enum-known-c : tie.Need-enum-known-c
+enum-known-c c = search needs
+
+narrow-requires : tie.Need-narrow-requires
+narrow-requires c κs = (rw (c .before .c .given .1) at (c .before .before .before .pre)) .cost
+
+narrow-requires-2 : tie.Need-narrow-requires-2
+narrow-requires-2 c κs = (rw (c .before .before .c .given .1) at (c .before .before .before .before .pre)) .bound
+
+accepted-requires : tie.Need-accepted-requires
+accepted-requires c κs = search needs
+
+enum-known-c-2 : tie.Need-enum-known-c-2
+enum-known-c-2 c = search needs
+
+refused-requires : tie.Need-refused-requires
+refused-requires c κs = rw (c .before .c2 .given .1) at (c .before .before .before .pre)
+
+returns : tie.Need-returns
+returns c =
+    c .accepted .ensures ∙ ap₂ costed (c .before .before .narrow .ensures) (c .before .narrow2 .ensures) ∙ sym (ap toldCosted (c .before .before .before .before .c .given .1))
+
+returns-2 : tie.Need-returns-2
+returns-2 c = c .refused .ensures ∙ sym (ap toldCosted (c .before .before .c2 .given .1))
+
+pub costed-spec : {M : Type 1} → statement M
+costed-spec =
+    tie.close
+    (tie.spec
+    enum-known-c
+    narrow-requires
+    narrow-requires-2
+    accepted-requires
+    enum-known-c-2
+    refused-requires
+    returns
+    returns-2)

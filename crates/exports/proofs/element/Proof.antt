@@ -1,0 +1,38 @@
+use mathlib.Core.Path.{sym, _∙_, ap}
+use Rattle.field.specs.Told.{toldElement}
+use borrow.Author.Needs.{needs}
+use Rattle.exports.proofs.element.Statement.{statement}
+use Rattle.exports.proofs.element.Tie as tie
+
+enum-known-e : tie.Need-enum-known-e
+enum-known-e c = search needs
+
+cast-accepted : tie.Need-cast-accepted
+cast-accepted c = search needs
+
+accepted-requires : tie.Need-accepted-requires
+accepted-requires c κs = search needs
+
+enum-known-e-2 : tie.Need-enum-known-e-2
+enum-known-e-2 c = search needs
+
+refused-requires : tie.Need-refused-requires
+refused-requires c κs = rw (c .before .e2 .given .1) at (c .before .before .before .pre)
+
+returns : tie.Need-returns
+returns c = c .accepted .ensures ∙ sym (ap toldElement (c .before .before .e .given .1))
+
+returns-2 : tie.Need-returns-2
+returns-2 c = c .refused .ensures ∙ sym (ap toldElement (c .before .before .e2 .given .1))
+
+pub element-spec : {M : Type 1} → statement M
+element-spec =
+    tie.close
+    (tie.spec
+    enum-known-e
+    cast-accepted
+    accepted-requires
+    enum-known-e-2
+    refused-requires
+    returns
+    returns-2)

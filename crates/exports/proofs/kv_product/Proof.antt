@@ -1,0 +1,17 @@
+use mathlib.Core.Path.{_∙_}
+use Rattle.exports.proofs.Fits.{product-narrow}
+use borrow.Author.Needs.{needs}
+use Rattle.exports.proofs.kv_product.Statement.{statement}
+use Rattle.exports.proofs.kv_product.Tie as tie
+
+product-requires : tie.Need-product-requires
+product-requires c κs = search needs
+
+element-requires : tie.Need-element-requires
+element-requires c κs = let s = c .before in rw (c .product .ensures) (product-narrow (s .args .a) (s .args .b))
+
+returns : tie.Need-returns
+returns c = c .element .ensures ∙ c .before .product .ensures
+
+pub kv-product-spec : {M : Type 1} → statement M
+kv-product-spec = tie.close (tie.spec product-requires element-requires returns)

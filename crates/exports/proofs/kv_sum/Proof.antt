@@ -1,0 +1,17 @@
+use mathlib.Core.Path.{_∙_}
+use Rattle.exports.proofs.Fits.{sum-narrow}
+use borrow.Author.Needs.{needs}
+use Rattle.exports.proofs.kv_sum.Statement.{statement}
+use Rattle.exports.proofs.kv_sum.Tie as tie
+
+sum-requires : tie.Need-sum-requires
+sum-requires c κs = search needs
+
+element-requires : tie.Need-element-requires
+element-requires c κs = let s = c .before in rw (c .sum .ensures) (sum-narrow (s .args .a) (s .args .b))
+
+returns : tie.Need-returns
+returns c = c .element .ensures ∙ c .before .sum .ensures
+
+pub kv-sum-spec : {M : Type 1} → statement M
+kv-sum-spec = tie.close (tie.spec sum-requires element-requires returns)

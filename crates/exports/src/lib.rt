@@ -1,0 +1,166 @@
+// The boundary to C: each entry over numbers and slices, its answer by value in one struct.
+ghost use mathlib.Core.Path.{_≡_};
+ghost use Prim.Native.Nat.{_<_};
+ghost use Rattle.code.specs.Told.{toldCounted};
+ghost use Rattle.definitions.specs.Answers.{sumAnswer, productAnswer, inverseAnswer, encodeAnswer, encodeOut, multiplicitiesAnswer, multiplicitiesOut, costAnswer};
+ghost use Rattle.definitions.specs.Field.{sixteen};
+ghost use Rattle.exports.specs.Crossing.{answerOf, Narrow};
+ghost use Rattle.field.specs.Told.{toldRefusal, toldElement};
+ghost use Rattle.weights.specs.Told.{toldCosted};
+use code::Counted;
+use field::Element;
+use field::Refusal;
+use weights::Costed;
+
+#[repr(C)]
+pub struct Answer {
+    pub number: u16,
+    pub place: u16,
+    pub count: u16,
+    pub value: u16,
+    pub cost: u16,
+    pub bound: u16,
+}
+
+fn narrow(x: usize) -> u16
+    requires { ⌜ x < 65536 ⌝ }
+    ensures { λ r. ⌜ r ≡ x ⌝ }
+{
+    x as u16
+}
+
+fn number_of(r: Refusal) -> u16
+    ensures { λ n. ⌜ n ≡ toldRefusal r .number ⌝ }
+{
+    match r {
+        Refusal::Sizes => 1,
+        Refusal::Setting => 2,
+        Refusal::Length => 3,
+        Refusal::Room => 4,
+        Refusal::Symbol(_) => 5,
+        Refusal::Column(_) => 6,
+        Refusal::Cost => 7,
+        Refusal::Zero => 8,
+    }
+}
+
+fn place_of(r: Refusal) -> usize
+    ensures { λ p. ⌜ p ≡ toldRefusal r .place ⌝ }
+{
+    match r {
+        Refusal::Sizes => 0,
+        Refusal::Setting => 0,
+        Refusal::Length => 0,
+        Refusal::Room => 0,
+        Refusal::Symbol(place) => place,
+        Refusal::Column(place) => place,
+        Refusal::Cost => 0,
+        Refusal::Zero => 0,
+    }
+}
+
+fn refused(r: Refusal) -> Answer
+    requires { ⌜ Narrow (toldRefusal r) ⌝ }
+    ensures { λ a. ⌜ answerOf a ≡ toldRefusal r ⌝ }
+{
+    Answer {
+        number: number_of(r),
+        place: narrow(place_of(r)),
+        count: 0,
+        value: 0,
+        cost: 0,
+        bound: 0,
+    }
+}
+
+fn accepted(count: u16, value: u16, cost: u16, bound: u16) -> Answer
+    ensures { λ a. ⌜ answerOf a ≡ record { number = 0; place = 0; count = count; value = value; cost = cost; bound = bound } ⌝ }
+{
+    Answer {
+        number: 0,
+        place: 0,
+        count,
+        value,
+        cost,
+        bound,
+    }
+}
+
+fn element(e: Element) -> Answer
+    requires { ⌜ Narrow (toldElement e) ⌝ }
+    ensures { λ a. ⌜ answerOf a ≡ toldElement e ⌝ }
+{
+    match e {
+        Element::Of(x) => accepted(0, x as u16, 0, 0),
+        Element::Refused(r) => refused(r),
+    }
+}
+
+fn counted(c: Counted) -> Answer
+    requires { ⌜ Narrow (toldCounted c) ⌝ }
+    ensures { λ a. ⌜ answerOf a ≡ toldCounted c ⌝ }
+{
+    match c {
+        Counted::Count(n) => accepted(narrow(n), 0, 0, 0),
+        Counted::Refused(r) => refused(r),
+    }
+}
+
+fn costed(c: Costed) -> Answer
+    requires { ⌜ Narrow (toldCosted c) ⌝ }
+    ensures { λ a. ⌜ answerOf a ≡ toldCosted c ⌝ }
+{
+    match c {
+        Costed::Of { cost, bound } => accepted(0, 0, narrow(cost), narrow(bound)),
+        Costed::Refused(r) => refused(r),
+    }
+}
+
+#[no_mangle]
+pub extern "C" fn kv_sum(a: u8, b: u8) -> Answer
+    ensures { λ r. ⌜ answerOf r ≡ sumAnswer sixteen a b ⌝ }
+{
+    element(field::sum(a, b))
+}
+
+#[no_mangle]
+pub extern "C" fn kv_product(a: u8, b: u8) -> Answer
+    ensures { λ r. ⌜ answerOf r ≡ productAnswer sixteen a b ⌝ }
+{
+    element(field::product(a, b))
+}
+
+#[no_mangle]
+pub extern "C" fn kv_inverse(a: u8) -> Answer
+    ensures { λ r. ⌜ answerOf r ≡ inverseAnswer sixteen a ⌝ }
+{
+    element(field::inverse(a))
+}
+
+#[no_mangle]
+pub extern "C" fn kv_encode(n: usize, k: usize, message: &[u8], out: &mut [u8]) -> Answer
+    ensures { λ r. ⌜ answerOf r ≡ encodeAnswer sixteen n k (now (message .entry)) (now (out .entry)) ⌝ }
+    ensures { λ _. ⌜ now (out .exit) ≡ encodeOut sixteen n k (now (message .entry)) (now (out .entry)) ⌝ }
+{
+    counted(code::encode(n, k, message, out))
+}
+
+#[no_mangle]
+pub extern "C" fn kv_multiplicities(
+    n: usize,
+    level: usize,
+    reliabilities: &[u16],
+    out: &mut [u8],
+) -> Answer
+    ensures { λ r. ⌜ answerOf r ≡ multiplicitiesAnswer sixteen n level (now (reliabilities .entry)) (now (out .entry)) ⌝ }
+    ensures { λ _. ⌜ now (out .exit) ≡ multiplicitiesOut sixteen n level (now (reliabilities .entry)) (now (out .entry)) ⌝ }
+{
+    counted(weights::multiplicities(n, level, reliabilities, out))
+}
+
+#[no_mangle]
+pub extern "C" fn kv_cost_and_bound(n: usize, k: usize, matrix: &[u8]) -> Answer
+    ensures { λ r. ⌜ answerOf r ≡ costAnswer sixteen n k (now (matrix .entry)) ⌝ }
+{
+    costed(weights::cost_and_bound(n, k, matrix))
+}
