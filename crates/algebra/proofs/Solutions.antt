@@ -5,14 +5,16 @@ use mathlib.Core.List.{List, [], _∷_, map}
 use mathlib.Core.Path.{_≡_, sym, _∙_, ap, ap₂, subst}
 use Prim.Native.Nat.{ℕ, zero, suc, _<_}
 use lib.ListN.{length, getD, List·getD-map}
-use Rattle.definitions.specs.Code.{Symbols}
+use Rattle.definitions.specs.Bound.{count}
+use Rattle.definitions.specs.Code.{Symbols, point}
 use Rattle.definitions.specs.Field.{Ops, Code, numbers}
 use Rattle.definitions.specs.Polynomial.{terms, monomials, hasse, Through}
 use Rattle.definitions.specs.Roots.{plus, scaled}
 use Rattle.algebra.specs.FieldOf.{FieldOf}
 use Rattle.algebra.proofs.Carry.{carry-plus, carry-scaled}
 use Rattle.algebra.proofs.Linear.{dot, row, dot-equal, carry-dot, carry-row, hasse-is-dot, passes-plus, passes-scaled}
-use Rattle.algebra.proofs.Numbers.{elements, numbers-elements, number-hasse}
+use Rattle.algebra.proofs.Monomials.{length-monomials}
+use Rattle.algebra.proofs.Numbers.{elements, numbers-elements, point-symbol, number-hasse}
 use Rattle.algebra.proofs.Passing.{pointElement, multiplicityOf, elements-pass, numbers-pass}
 
 module _ (C : Code) (F : FieldOf C) where
@@ -101,3 +103,11 @@ module _ (C : Code) (F : FieldOf C) where
       ∙ ap φ (hasse-is-dot (F .ring) l (elements C F q) s t (F .element a) (F .element b))
       ∙ carry-dot G N (F .number) (length l) (row G l s t (F .element a) (F .element b)) (λ k. getD (elements C F q) k (G .o))
       ∙ dot-equal N (length l) _ (row N l s t a b) _ (λ k. getD q k 0) (λ k h. number-row l s t a b ha hb k) (λ k h. number-entry q sq k)
+
+  -- the condition of order (s, t) on a polynomial of degree limit D, at a point and a symbol, is a row of N(D) entries
+  pub condition-is-row : (v D : ℕ) (q : List ℕ) (s t i b : ℕ) → 0 < v → Symbols C q → b < C .symbols
+      → hasse (numbers C) (terms (numbers C) q (monomials v D)) s t (point C i) b
+      ≡ dot (numbers C) (count v D) (row (numbers C) (monomials v D) s t (point C i) b) (λ k. getD q k 0)
+  condition-is-row v D q s t i b h sq hb =
+      hasse-is-dot-of-numbers (monomials v D) q s t (point C i) b sq (point-symbol C F i) hb
+      ∙ ap (λ (n : ℕ). dot N n (row N (monomials v D) s t (point C i) b) (λ k. getD q k 0)) (length-monomials v D h)
