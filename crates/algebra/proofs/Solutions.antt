@@ -12,6 +12,7 @@ use Rattle.definitions.specs.Polynomial.{terms, monomials, hasse, Through}
 use Rattle.definitions.specs.Roots.{plus, scaled}
 use Rattle.algebra.specs.FieldOf.{FieldOf}
 use Rattle.algebra.proofs.Carry.{carry-plus, carry-scaled}
+use Rattle.algebra.proofs.Elements.{zero-symbol}
 use Rattle.algebra.proofs.Linear.{dot, row, dot-equal, carry-dot, carry-row, hasse-is-dot, passes-plus, passes-scaled}
 use Rattle.algebra.proofs.Monomials.{length-monomials}
 use Rattle.algebra.proofs.Numbers.{elements, numbers-elements, point-symbol, number-hasse}
@@ -30,13 +31,9 @@ module _ (C : Code) (F : FieldOf C) where
   abbrev φ : G .K → ℕ
   φ = F .number .φ
 
-  -- 0 is a symbol
-  zero-symbol : 0 < C .symbols
-  zero-symbol = subst (λ (a : ℕ). a < C .symbols) (F .number .φ-zero) (F .number-symbol (G .o))
-
   -- what stands for elements is a list of symbols
   numbers-symbols : (l : List (G .K)) → Symbols C (map φ l)
-  numbers-symbols [] j = zero-symbol
+  numbers-symbols [] j = zero-symbol C F
   numbers-symbols (x ∷ l) zero = F .number-symbol x
   numbers-symbols (x ∷ l) (suc j) = numbers-symbols l j
 

@@ -1,14 +1,15 @@
--- The words of the page of definitions: what `below` lists, when two sums are equal, and what holds of every entry of a list.
+-- The words of the page of definitions: what `below` lists, what `sum` adds, what `smallest` finds, and what holds of every entry of a list.
 -- Assumes nothing.
+use mathlib.Core.Bool.{Bool, true, false, cond}
 use mathlib.Core.List.{List, [], _∷_, _++_, map, flatMap, map-append, append-assoc, append-nil}
 use mathlib.Core.Path.{_≡_, refl, sym, _∙_, ap, ap₂, subst}
-use Prim.Native.Nat.{ℕ, zero, suc, _+_, _≤_, _<_}
+use Prim.Native.Nat.{ℕ, zero, suc, _+_, _≤_, _<_, suc-le-suc}
 use native.Mathlib.Decide.{ℕ-discrete}
-use native.Mathlib.Nat.{not-suc-le-zero, add-zero}
+use native.Mathlib.Nat.{not-suc-le-zero, le-of-suc-le-suc, le-refl, add-zero}
 use native.Mathlib.Omega.{arith}
 use lib.ListN.{length, getD, length-append, length-map, List·getD-append}
 use lib.Seq.{getD-append-seam}
-use Rattle.definitions.specs.Tools.{below, sum}
+use Rattle.definitions.specs.Tools.{below, sum, smallest}
 
 -- sums of equal numbers are equal
 pub sum-equal : (n : ℕ) (f g : ℕ → ℕ) → ((j : ℕ) → j < n → f j ≡ g j) → sum n f ≡ sum n g
@@ -31,6 +32,18 @@ pub sum-suc : (n : ℕ) (f : ℕ → ℕ) → sum n (λ j. f j + 1) ≡ sum n f 
 unfolding sum
 sum-suc zero f = refl
 sum-suc (suc n) f = let e = sum-suc n f in omega arith
+
+-- where some number below n passes, the smallest that passes is found, and passes
+pub smallest-found : (test : ℕ → Bool) (n k : ℕ) → k < n → test k ≡ true → (smallest test n ≤ k) × (test (smallest test n) ≡ true)
+unfolding smallest
+smallest-found test zero k h e = absurd (not-suc-le-zero h)
+smallest-found test (suc n) zero h e = rw e (le-refl 0, e)
+smallest-found test (suc n) (suc k) h e = go (test 0) refl (smallest-found (λ m. test (suc m)) n k (le-of-suc-le-suc h) e)
+  where
+    go : (b : Bool) → test 0 ≡ b → (smallest (λ m. test (suc m)) n ≤ k) × (test (suc (smallest (λ m. test (suc m)) n)) ≡ true)
+        → (cond b 0 (suc (smallest (λ m. test (suc m)) n)) ≤ suc k) × (test (cond b 0 (suc (smallest (λ m. test (suc m)) n))) ≡ true)
+    go true f r = (omega arith, f)
+    go false f r = (suc-le-suc (r .0), r .1)
 
 -- n numbers are below n
 pub length-below : (n : ℕ) → length (below n) ≡ n
