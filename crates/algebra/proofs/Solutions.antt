@@ -38,28 +38,28 @@ module _ (C : Code) (F : FieldOf C) where
   numbers-symbols (x ∷ l) (suc j) = numbers-symbols l j
 
   -- a sum of symbols stands for the sum of their elements
-  number-plus : (p q : List ℕ) → Symbols C p → Symbols C q → map φ (plus G (elements C F p) (elements C F q)) ≡ plus N p q
-  number-plus p q sp sq =
+  numbers-plus : (p q : List ℕ) → Symbols C p → Symbols C q → map φ (plus G (elements C F p) (elements C F q)) ≡ plus N p q
+  numbers-plus p q sp sq =
       carry-plus G N (F .number) (elements C F p) (elements C F q) ∙ ap₂ (plus N) (numbers-elements C F p sp) (numbers-elements C F q sq)
 
   -- a multiple for the multiple
-  number-scaled : (c : ℕ) (q : List ℕ) → c < C .symbols → Symbols C q → map φ (scaled G (F .element c) (elements C F q)) ≡ scaled N c q
-  number-scaled c q hc sq =
+  numbers-scaled : (c : ℕ) (q : List ℕ) → c < C .symbols → Symbols C q → map φ (scaled G (F .element c) (elements C F q)) ≡ scaled N c q
+  numbers-scaled c q hc sq =
       carry-scaled G N (F .number) (F .element c) (elements C F q) ∙ ap₂ (scaled N) (F .number-element c hc) (numbers-elements C F q sq)
 
   -- a sum of lists of symbols is one
   pub symbols-plus : (p q : List ℕ) → Symbols C p → Symbols C q → Symbols C (plus (numbers C) p q)
-  symbols-plus p q sp sq = subst (Symbols C) (number-plus p q sp sq) (numbers-symbols (plus G (elements C F p) (elements C F q)))
+  symbols-plus p q sp sq = subst (Symbols C) (numbers-plus p q sp sq) (numbers-symbols (plus G (elements C F p) (elements C F q)))
 
   -- and so is a multiple
   pub symbols-scaled : (c : ℕ) (q : List ℕ) → c < C .symbols → Symbols C q → Symbols C (scaled (numbers C) c q)
-  symbols-scaled c q hc sq = subst (Symbols C) (number-scaled c q hc sq) (numbers-symbols (scaled G (F .element c) (elements C F q)))
+  symbols-scaled c q hc sq = subst (Symbols C) (numbers-scaled c q hc sq) (numbers-symbols (scaled G (F .element c) (elements C F q)))
 
   -- the sum of two lists that pass, passes
   pub through-plus : (n v D : ℕ) (m p q : List ℕ) → Symbols C p → Symbols C q → Through C n v D m p → Through C n v D m q
       → Through C n v D m (plus (numbers C) p q)
   through-plus n v D m p q sp sq hp hq =
-      subst (Through C n v D m) (number-plus p q sp sq)
+      subst (Through C n v D m) (numbers-plus p q sp sq)
       (numbers-pass C F n v D m (plus G (elements C F p) (elements C F q)) (λ i h b.
       passes-plus (F .ring) (monomials v D) (elements C F p) (elements C F q) (pointElement C F i) b (multiplicityOf C F m i b)
       (elements-pass C F n v D m p sp hp i h b) (elements-pass C F n v D m q sq hq i h b)))
@@ -68,7 +68,7 @@ module _ (C : Code) (F : FieldOf C) where
   pub through-scaled : (n v D : ℕ) (m : List ℕ) (c : ℕ) (q : List ℕ) → c < C .symbols → Symbols C q → Through C n v D m q
       → Through C n v D m (scaled (numbers C) c q)
   through-scaled n v D m c q hc sq hq =
-      subst (Through C n v D m) (number-scaled c q hc sq)
+      subst (Through C n v D m) (numbers-scaled c q hc sq)
       (numbers-pass C F n v D m (scaled G (F .element c) (elements C F q)) (λ i h b.
       passes-scaled (F .ring) (monomials v D) (F .element c) (elements C F q) (pointElement C F i) b (multiplicityOf C F m i b)
       (elements-pass C F n v D m q sq hq i h b)))
