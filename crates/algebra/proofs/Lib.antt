@@ -13,6 +13,7 @@ pub mod Hasse
 pub mod KeyLemma
 pub mod Theorem
 pub mod Linear
+pub mod Elements
 pub mod Numbers
 pub mod Passing
 pub mod Score

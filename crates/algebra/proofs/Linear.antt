@@ -95,8 +95,8 @@ module _ (A : Ring) where
   pub hasse-is-dot : (l : List (ℕ × ℕ)) (q : List K) (s t : ℕ) (x y : K)
       → hasse (A .ops) (terms (A .ops) q l) s t x y ≡ dot (A .ops) (length l) (row (A .ops) l s t x y) (λ k. getD q k o)
   unfolding terms
-  hasse-is-dot l [] s t x y = hasse-nil (A .ops) s t x y ∙ sym (dot-zeros (length l) (row (A .ops) l s t x y))
-  hasse-is-dot [] (c ∷ q) s t x y = hasse-nil (A .ops) s t x y ∙ sym (dot-none (A .ops) (row (A .ops) [] s t x y) (λ k. getD (c ∷ q) k o))
+  hasse-is-dot l [] s t x y = hasse-nil (A .ops) s t x y ∙ sym (dot-zeros (length l) _)
+  hasse-is-dot [] (c ∷ q) s t x y = hasse-nil (A .ops) s t x y ∙ sym (dot-none (A .ops) _ _)
   hasse-is-dot (m ∷ l) (c ∷ q) s t x y =
       hasse-cons (A .ops) (c, m .0, m .1) (terms (A .ops) q l) s t x y
       ∙ ap (λ (z : K). c ⊗ derivative (A .ops) (m .0) s x ⊗ derivative (A .ops) (m .1) t y ⊕ z) (hasse-is-dot l q s t x y)

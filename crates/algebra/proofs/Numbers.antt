@@ -37,10 +37,6 @@ module _ (C : Code) (F : FieldOf C) where
   abbrev pub elements : List ℕ → List (F .ring .ops .K)
   elements l = map (F .element) l
 
-  -- an element is told by its number
-  pub number-injective : (x y : F .ring .ops .K) → F .number .φ x ≡ F .number .φ y → x ≡ y
-  number-injective x y e = sym (F .element-number x) ∙ ap (F .element) e ∙ F .element-number y
-
   -- symbols are the numbers of their elements
   pub numbers-elements : (l : List ℕ) → Symbols C l → map (F .number .φ) (elements l) ≡ l
   numbers-elements [] s = refl
@@ -56,6 +52,12 @@ module _ (C : Code) (F : FieldOf C) where
   -- the number of a value
   pub number-value : (x : F .ring .ops .K) (f : List ℕ) → Symbols C f → F .number .φ (value (F .ring .ops) x (elements f)) ≡ value (numbers C) (F .number .φ x) f
   number-value x f s = carry-value G N (F .number) x (elements f) ∙ ap (value N (φ x)) (numbers-elements f s)
+
+  -- the value of symbols at a symbol is a symbol
+  pub value-symbol : (a : ℕ) (f : List ℕ) → a < C .symbols → Symbols C f → value (numbers C) a f < C .symbols
+  value-symbol a f ha s =
+      subst (λ (b : ℕ). b < C .symbols) (number-value (F .element a) f s ∙ ap (λ (b : ℕ). value N b f) (F .number-element a ha))
+      (F .number-symbol (value G (F .element a) (elements f)))
 
   -- the number of a Hasse derivative
   pub number-hasse : (q : List (F .ring .ops .K)) (l : List (ℕ × ℕ)) (s t : ℕ) (x y : F .ring .ops .K)

@@ -8,7 +8,8 @@ use Rattle.definitions.specs.Field.{Ops, Code, numbers}
 use Rattle.definitions.specs.Polynomial.{terms, monomials, hasse, Through}
 use Rattle.definitions.specs.Weights.{entry}
 use Rattle.algebra.specs.FieldOf.{FieldOf}
-use Rattle.algebra.proofs.Numbers.{elements, numbers-elements, number-injective, point-symbol, number-hasse}
+use Rattle.algebra.proofs.Elements.{number-injective}
+use Rattle.algebra.proofs.Numbers.{elements, numbers-elements, point-symbol, number-hasse}
 use Rattle.algebra.proofs.Theorem.{PassesThrough}
 
 module _ (C : Code) (F : FieldOf C) where

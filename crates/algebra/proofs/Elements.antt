@@ -1,0 +1,87 @@
+-- Symbols and the elements that they stand for: zero, one, sums and products, and the inverse that the page of definitions searches.
+-- Assumes nothing.
+use mathlib.Core.Bool.{true}
+use mathlib.Core.Logic.{_≢_}
+use mathlib.Core.Path.{_≡_, sym, _∙_, ap, ap₂, subst}
+use Prim.Native.Nat.{ℕ, _<_}
+use native.Mathlib.Omega.{arith}
+use lib.Dec.{T, eqb, eqb→eq}
+use Rattle.definitions.specs.Field.{Ops, Code, inverseOf}
+use Rattle.algebra.specs.FieldOf.{FieldOf}
+use Rattle.algebra.proofs.Tools.{smallest-found}
+
+module _ (C : Code) (F : FieldOf C) where
+  -- the operations on elements
+  abbrev G : Ops
+  G = F .ring .ops
+
+  -- the number of an element
+  abbrev φ : G .K → ℕ
+  φ = F .number .φ
+
+  -- an element is told by its number
+  pub number-injective : (x y : F .ring .ops .K) → F .number .φ x ≡ F .number .φ y → x ≡ y
+  number-injective x y e = sym (F .element-number x) ∙ ap (F .element) e ∙ F .element-number y
+
+  -- 0 is a symbol
+  pub zero-symbol : 0 < C .symbols
+  zero-symbol = subst (λ (a : ℕ). a < C .symbols) (F .number .φ-zero) (F .number-symbol (G .o))
+
+  -- the element of 0
+  pub element-zero : F .element 0 ≡ F .ring .ops .o
+  element-zero = ap (F .element) (sym (F .number .φ-zero)) ∙ F .element-number (G .o)
+
+  -- the element of 1
+  pub element-one : F .element 1 ≡ F .ring .ops .i
+  element-one = ap (F .element) (sym (F .number .φ-one)) ∙ F .element-number (G .i)
+
+  module _ (a b : ℕ) (ha : a < C .symbols) (hb : b < C .symbols) where
+    -- the number of a sum of elements
+    number-plus : φ (G .add (F .element a) (F .element b)) ≡ C .plus a b
+    number-plus = F .number .φ-add (F .element a) (F .element b) ∙ ap₂ (C .plus) (F .number-element a ha) (F .number-element b hb)
+
+    -- the number of a product of elements
+    number-times : φ (G .mul (F .element a) (F .element b)) ≡ C .times a b
+    number-times = F .number .φ-mul (F .element a) (F .element b) ∙ ap₂ (C .times) (F .number-element a ha) (F .number-element b hb)
+
+    -- a sum of symbols is a symbol
+    pub plus-symbol : C .plus a b < C .symbols
+    plus-symbol = subst (λ (c : ℕ). c < C .symbols) number-plus (F .number-symbol (G .add (F .element a) (F .element b)))
+
+    -- a product of symbols is a symbol
+    pub times-symbol : C .times a b < C .symbols
+    times-symbol = subst (λ (c : ℕ). c < C .symbols) number-times (F .number-symbol (G .mul (F .element a) (F .element b)))
+
+    -- the element of a sum
+    pub element-plus : F .element (C .plus a b) ≡ F .ring .ops .add (F .element a) (F .element b)
+    element-plus = ap (F .element) (sym number-plus) ∙ F .element-number (G .add (F .element a) (F .element b))
+
+    -- the element of a product
+    pub element-times : F .element (C .times a b) ≡ F .ring .ops .mul (F .element a) (F .element b)
+    element-times = ap (F .element) (sym number-times) ∙ F .element-number (G .mul (F .element a) (F .element b))
+
+  module _ (a : ℕ) (ha : a < C .symbols) (n : a ≢ 0) where
+    -- the inverse in the field, as a number
+    inverse : ℕ
+    inverse = φ (F .field .inverse (F .element a))
+
+    -- it passes the test of the search
+    inverse-passes : eqb (C .times a inverse) 1 ≡ true
+    unfolding inverse
+    inverse-passes = ap (λ (c : ℕ). eqb c 1)
+        (ap (λ (b : ℕ). C .times b inverse) (sym (F .number-element a ha)) ∙ sym (F .number .φ-mul (F .element a) (F .field .inverse (F .element a)))
+        ∙ ap φ (F .field .mul-inverse (F .element a) (λ e. n (sym (F .number-element a ha) ∙ ap φ e ∙ F .number .φ-zero))) ∙ F .number .φ-one)
+
+    -- so a symbol is found
+    pub inverse-symbol : inverseOf C a < C .symbols
+    unfolding inverse
+    inverse-symbol =
+        let r = smallest-found (λ (b : ℕ). eqb (C .times a b) 1) (C .symbols) inverse (F .number-symbol (F .field .inverse (F .element a))) inverse-passes in
+        let k = r .0 in let l = F .number-symbol (F .field .inverse (F .element a)) in omega arith
+
+    -- and its product with a is 1
+    pub times-inverse : C .times a (inverseOf C a) ≡ 1
+    unfolding inverse
+    times-inverse =
+        let r = smallest-found (λ (b : ℕ). eqb (C .times a b) 1) (C .symbols) inverse (F .number-symbol (F .field .inverse (F .element a))) inverse-passes in
+        eqb→eq (C .times a (inverseOf C a)) 1 (subst T (sym (r .1)) tt)
