@@ -13,7 +13,7 @@ use Rattle.algebra.proofs.Carry.{carried}
 use Rattle.algebra.proofs.Evaluation.{evaluate, evaluate-sum, evaluate-multiple, evaluate-product, evaluate-power}
 use Rattle.algebra.proofs.Polynomials.{value-nil, value-cons, length-plus, length-scaled, length-times, length-powers}
 use Rattle.algebra.proofs.RingLaws.{ring, times-assoc}
-use Rattle.algebra.proofs.Tools.{All}
+use Rattle.algebra.proofs.Every.{All}
 
 module _ (A : Ops) where
   open Ops A using (K, o, i)

@@ -6,9 +6,9 @@ use mathlib.Core.Path.{_≡_, sym, _∙_, ap, ap₂, subst}
 use Prim.Native.Nat.{ℕ, _<_}
 use native.Mathlib.Omega.{arith}
 use lib.Dec.{T, eqb, eqb→eq}
+use Rattle.definitions.proofs.Tools.{smallest-found}
 use Rattle.definitions.specs.Field.{Ops, Code, inverseOf}
 use Rattle.algebra.specs.FieldOf.{FieldOf}
-use Rattle.algebra.proofs.Tools.{smallest-found}
 
 module _ (C : Code) (F : FieldOf C) where
   -- the operations on elements

@@ -10,15 +10,11 @@ use native.Mathlib.Nat.{mod-lt, mod-eq-of-lt}
 use native.Mathlib.Omega.{arith}
 use lib.Dec.{T, T-not, eqb, eqb→eq, eqb-refl, ltb, ltb→lt}
 use Rattle.definitions.specs.Code.{point}
-use Rattle.definitions.specs.Field.{Code, sumOf, double, shifted, productOf, inverseOf}
+use Rattle.definitions.specs.Field.{Code, codeOf, sumOf, double, shifted, productOf, inverseOf}
 use Rattle.algebra.specs.FieldOf.{FieldOf}
 use Rattle.algebra.specs.Ring.{Ring, IsField}
 use Rattle.algebra.proofs.Sums.{sum-assoc, sum-comm, sum-zero, zero-sum, sum-self, sum-lt, sums}
 use Rattle.algebra.proofs.Tests.{every, everyPair, every-at, everyPair-at, other-passes}
-
--- the code of the symbols of w bits, with products modulo the modulus and so many positions
-abbrev pub codeOf : ℕ → ℕ → ℕ → Code
-codeOf w modulus positions = record { symbols = 2 ^ w; positions = positions; plus = sumOf; times = productOf w modulus; α = 2 }
 
 module _ (w modulus : ℕ) where
   -- α times a symbol

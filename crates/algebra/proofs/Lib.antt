@@ -6,7 +6,7 @@ pub mod Evaluation
 pub mod Taylor
 pub mod RootCounting
 pub mod Binomials
-pub mod Tools
+pub mod Every
 pub mod Composition
 pub mod Monomials
 pub mod Hasse
@@ -21,4 +21,3 @@ pub mod Solutions
 pub mod Tests
 pub mod Sums
 pub mod Finite
-pub mod Closed

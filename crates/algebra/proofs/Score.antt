@@ -6,6 +6,8 @@ use mathlib.Core.Path.{_≡_, sym, _∙_, ap, subst}
 use Prim.Native.Nat.{ℕ, suc, _≤_, _<_}
 use native.Mathlib.Omega.{arith}
 use lib.ListN.{length, length-map, getD}
+use Rattle.definitions.proofs.Codeword.{codeword-at}
+use Rattle.definitions.proofs.Tools.{sum-ext}
 use Rattle.definitions.specs.Code.{Symbols, point, codeword}
 use Rattle.definitions.specs.Field.{Ops, Code, numbers, value}
 use Rattle.definitions.specs.Polynomial.{monomials, Through}
@@ -17,7 +19,6 @@ use Rattle.algebra.proofs.Numbers.{elements, number-value, compose-zero
 use Rattle.algebra.proofs.Passing.{pointElement, multiplicityOf, number-point, elements-pass}
 use Rattle.algebra.proofs.RootCounting.{Distinct}
 use Rattle.algebra.proofs.Theorem.{score-above-degree-of-list}
-use Rattle.algebra.proofs.Tools.{map-below-at, sum-equal}
 
 module _ (C : Code) (F : FieldOf C) where
   -- the operations on elements
@@ -33,16 +34,16 @@ module _ (C : Code) (F : FieldOf C) where
   points-distinct n h i j k l e = F .points-differ i j k (omega arith) (sym (number-point C F i) ∙ ap φ e ∙ number-point C F j)
 
   -- the symbol at position i of a codeword is the value at the point
-  codeword-at : (n : ℕ) (f : List ℕ) → Symbols C f → (i : ℕ) → i < n → getD (codeword C n f) i 0 ≡ φ (value G (pointElement C F i) (elements C F f))
-  codeword-at n f s i h =
-      map-below-at (λ (j : ℕ). value (numbers C) (point C j) f) n 0 i h
+  codeword-of-elements : (n : ℕ) (f : List ℕ) → Symbols C f → (i : ℕ) → i < n → getD (codeword C n f) i 0 ≡ φ (value G (pointElement C F i) (elements C F f))
+  codeword-of-elements n f s i h =
+      codeword-at C f n i h
       ∙ sym (number-value C F (pointElement C F i) f s ∙ ap (λ (a : ℕ). value (numbers C) a f) (number-point C F i))
 
   -- the score, by values of elements
   score-of-elements : (n : ℕ) (m f : List ℕ) → Symbols C f → score C n m f ≡ sum n (λ i. entry C m i (φ (value G (pointElement C F i) (elements C F f))))
   score-of-elements n m f s =
-      sum-equal n (λ i. entry C m i (getD (codeword C n f) i 0)) (λ i. entry C m i (φ (value G (pointElement C F i) (elements C F f))))
-      (λ i h. ap (entry C m i) (codeword-at n f s i h))
+      sum-ext n (λ i. entry C m i (getD (codeword C n f) i 0)) (λ i. entry C m i (φ (value G (pointElement C F i) (elements C F f))))
+      (λ i h. ap (entry C m i) (codeword-of-elements n f s i h))
 
   -- every message of score above D is a y-root of every polynomial that passes, of weighted degree at most D
   pub score-above-degree-is-root : (n v D : ℕ) (m q f : List ℕ) → n ≤ C .positions → Symbols C q → Through C n v D m q

@@ -5,6 +5,7 @@ use mathlib.Core.List.{List, [], _∷_, map}
 use mathlib.Core.Path.{_≡_, sym, _∙_, ap, ap₂, subst}
 use Prim.Native.Nat.{ℕ, zero, suc, _<_}
 use lib.ListN.{length, getD, List·getD-map}
+use Rattle.definitions.proofs.Monomials.{monomials-in-order}
 use Rattle.definitions.specs.Bound.{count}
 use Rattle.definitions.specs.Code.{Symbols, point}
 use Rattle.definitions.specs.Field.{Ops, Code, numbers}
@@ -14,7 +15,6 @@ use Rattle.algebra.specs.FieldOf.{FieldOf}
 use Rattle.algebra.proofs.Carry.{carry-plus, carry-scaled}
 use Rattle.algebra.proofs.Elements.{zero-symbol}
 use Rattle.algebra.proofs.Linear.{dot, row, dot-equal, carry-dot, carry-row, hasse-is-dot, passes-plus, passes-scaled}
-use Rattle.algebra.proofs.Monomials.{length-monomials}
 use Rattle.algebra.proofs.Numbers.{elements, numbers-elements, point-symbol, number-hasse}
 use Rattle.algebra.proofs.Passing.{pointElement, multiplicityOf, elements-pass, numbers-pass}
 
@@ -107,4 +107,4 @@ module _ (C : Code) (F : FieldOf C) where
       ≡ dot (numbers C) (count v D) (row (numbers C) (monomials v D) s t (point C i) b) (λ k. getD q k 0)
   condition-is-row v D q s t i b h sq hb =
       hasse-is-dot-of-numbers (monomials v D) q s t (point C i) b sq (point-symbol C F i) hb
-      ∙ ap (λ (n : ℕ). dot N n (row N (monomials v D) s t (point C i) b) (λ k. getD q k 0)) (length-monomials v D h)
+      ∙ ap (λ (n : ℕ). dot N n (row N (monomials v D) s t (point C i) b) (λ k. getD q k 0)) (monomials-in-order v h D .size)

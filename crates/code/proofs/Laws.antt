@@ -7,7 +7,7 @@ use native.Mathlib.Numerals.{add-one}
 use lib.Bits.{bitXor}
 use lib.ListN.{length, drop, getD, set}
 use lib.Seq.{drop-length, getD-drop}
-use Rattle.algebra.proofs.Closed.{point-symbol, value-symbol}
+use Rattle.algebra.proofs.Numbers.{point-symbol, value-symbol}
 use Rattle.definitions.proofs.Codeword.{power-zero, power-suc, value-nil, value-step, length-codeword, codeword-suc}
 use Rattle.definitions.proofs.Loops.{put-more}
 use Rattle.definitions.proofs.Tools.{below-zero}
@@ -28,7 +28,7 @@ value-more x f j y p h l ey ep = ap (λ (z : ℕ). sumOf (getD f (j - 1) 0) z) (
 -- what Horner's rule has come to is a symbol
 pub value-so-far : (x : ℕ) (f : List ℕ) (j y : ℕ) → x < 16 → Symbols sixteen f → y ≡ value (numbers sixteen) x (drop j f) → y < 16
 value-so-far x f j y h s e =
-    rw e (value-symbol sixteen sixteen-field x h (drop j f) (λ (i : ℕ). rw (getD-drop j f i 0) (s (j + i))))
+    rw e (value-symbol sixteen sixteen-field x (drop j f) h (λ (i : ℕ). rw (getD-drop j f i 0) (s (j + i))))
 
 -- the points, one after the other
 pub first-point : 1 ≡ point sixteen 0

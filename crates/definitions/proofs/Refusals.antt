@@ -1,4 +1,4 @@
--- The laws of the refusals: the first line that is given decides, and the first number above the greatest is found in order.
+-- The first number above the greatest is found in order.
 -- Assumes nothing.
 use mathlib.Core.Bool.{Bool, true, false, cond}
 use mathlib.Core.List.{List, [], _∷_}
@@ -11,16 +11,7 @@ use native.Mathlib.Omega.{arith}
 use borrow.Author.Tests.{lt-ltb, le-ltb}
 use lib.ListN.{length, getD, drop, drop-of-length-le, List·getD-eq-default}
 use lib.Seq.{drop-cons}
-use Rattle.definitions.specs.Refusals.{Line, tried, firstAbove}
-
-module _ {ℓ} {A : Type ℓ} (l : Line) (table : List Line) (refused : ℕ → ℕ → A) (accepted : A) where
-  -- a line that is given decides
-  pub tried-given : l .given ≡ true → tried (l ∷ table) refused accepted ≡ refused (l .number) (l .place)
-  tried-given e = rw e
-
-  -- a line that is not is passed over
-  pub tried-passed : l .given ≡ false → tried (l ∷ table) refused accepted ≡ tried table refused accepted
-  tried-passed e = rw e
+use Rattle.definitions.specs.Refusals.{firstAbove}
 
 module _ (greatest : ℕ) where
   -- in an empty list there is none

@@ -165,6 +165,14 @@ smallest-is test n j l f p =
           ]
     ]
 
+-- where some number below n passes, the smallest that passes is found, and passes
+pub smallest-found : (test : ℕ → Bool) (n k : ℕ) → k < n → test k ≡ true → (smallest test n ≤ k) × (test (smallest test n) ≡ true)
+smallest-found test n k h e =
+    elim (decLt k (smallest test n)) [
+      | yes l ↦ absurd (true≢false (sym e ∙ smallest-fails test n k l))
+      | no l ↦ (omega arith, smallest-passes test n (omega arith))
+    ]
+
 -- ---- select
 
 module _ {B : Type 0} (test : B → Bool) where

@@ -39,9 +39,13 @@ shifted width modulus (suc bits) a b = sumOf (cond (eqb (a % 2) 1) b 0) (shifted
 abbrev pub productOf : ℕ → ℕ → ℕ → ℕ → ℕ
 productOf width modulus a b = shifted width modulus width a b
 
--- "Symbols are 0 to 15 .. with α⁴ = α + 1 (x⁴+x+1, primitive)": 19 is x⁴+x+1 at x = 2, and α is 2
+-- the code whose symbols have `width` bits and whose α, the bits 1 and 0, is a root of the modulus
+abbrev pub codeOf : ℕ → ℕ → ℕ → Code
+codeOf width modulus positions = record { symbols = 2 ^ width; positions = positions; plus = sumOf; times = productOf width modulus; α = 2 }
+
+-- "Symbols are 0 to 15 .. with α⁴ = α + 1 (x⁴+x+1, primitive)": the bits of x⁴+x+1 are those of 19
 abbrev pub sixteen : Code
-sixteen = record { symbols = 16; positions = 15; plus = sumOf; times = productOf 4 19; α = 2 }
+sixteen = codeOf 4 19 15
 
 -- the symbol b with a b = 1, for an a other than zero: "Zero has no inverse"
 abbrev pub inverseOf : Code → ℕ → ℕ

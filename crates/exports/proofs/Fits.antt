@@ -8,7 +8,7 @@ use native.Mathlib.Omega.{arith}
 use borrow.Author.Tests.{not-false, eqb-true, ltb-true, ltb-false}
 use lib.Dec.{eqb}
 use lib.ListN.{length}
-use Rattle.algebra.proofs.Closed.{plus-symbol, times-symbol}
+use Rattle.algebra.proofs.Elements.{plus-symbol, times-symbol}
 use Rattle.definitions.proofs.Bound.{bound-le}
 use Rattle.definitions.proofs.Refusals.{none-above}
 use Rattle.definitions.proofs.Table.{Whatever, last, or, whatever, sizes-mean, size-means}
