@@ -1,13 +1,28 @@
 // The table of all products and the readers of it, for inner use: what they are given is within limits already.
+ghost use mathlib.Core.List.{[], _∷_};
 ghost use mathlib.Core.Path.{_≡_};
 ghost use Prim.Native.Nat.{_<_};
-ghost use Rattle.definitions.specs.Field.{Code, sixteen};
+ghost use Rattle.definitions.specs.Field.{sixteen};
+ghost use Rattle.definitions.specs.Refusals.{firstAbove};
 ghost use Rattle.field.specs.Table.{Products, Inverses};
 
 pub fn wide(x: u8) -> usize
     ensures { λ r. ⌜ (r ≡ x) × (r < 256) ⌝ }
 {
     x as usize
+}
+
+// The place of the first operand that is no symbol, or 2.
+pub fn first_bad(a: u8, b: u8) -> usize
+    ensures { λ r. ⌜ r ≡ firstAbove 15 (a ∷ b ∷ []) ⌝ }
+{
+    if crate::GREATEST_SYMBOL < a {
+        return 0;
+    }
+    if crate::GREATEST_SYMBOL < b {
+        return 1;
+    }
+    2
 }
 
 const PRODUCTS: [u8; 256] = [

@@ -28,11 +28,9 @@ pub enum Element {
 pub fn sum(a: u8, b: u8) -> Element
     ensures { λ r. ⌜ toldElement r ≡ sumAnswer sixteen a b ⌝ }
 {
-    if GREATEST_SYMBOL < a {
-        return Element::Refused(Refusal::Symbol(0));
-    }
-    if GREATEST_SYMBOL < b {
-        return Element::Refused(Refusal::Symbol(1));
+    let bad = inside::first_bad(a, b);
+    if bad < 2 {
+        return Element::Refused(Refusal::Symbol(bad));
     }
     Element::Of(a ^ b)
 }
@@ -40,11 +38,9 @@ pub fn sum(a: u8, b: u8) -> Element
 pub fn product(a: u8, b: u8) -> Element
     ensures { λ r. ⌜ toldElement r ≡ productAnswer sixteen a b ⌝ }
 {
-    if GREATEST_SYMBOL < a {
-        return Element::Refused(Refusal::Symbol(0));
-    }
-    if GREATEST_SYMBOL < b {
-        return Element::Refused(Refusal::Symbol(1));
+    let bad = inside::first_bad(a, b);
+    if bad < 2 {
+        return Element::Refused(Refusal::Symbol(bad));
     }
     let table = inside::products();
     Element::Of(inside::look(&table, a, b))

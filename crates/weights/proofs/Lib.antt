@@ -1,3 +1,4 @@
 pub mod Laws
 pub mod Cost
 pub mod Order
+pub mod Unique

@@ -1,26 +1,34 @@
-use mathlib.Core.Path.{ap, _∙_}
-use Rattle.definitions.specs.Answers.{Answer, refused, valued}
-use Rattle.field.proofs.Order.{first-bad, second-bad, both-symbols}
+use mathlib.Core.Path.{_∙_, ap}
+use native.Mathlib.Omega.{arith}
+use Rattle.definitions.proofs.Table.{gives, accepts}
+use Rattle.definitions.specs.Answers.{refused, valued}
+use Rattle.definitions.specs.Field.{sixteen}
+use Rattle.field.proofs.Order.{operand-refused, operands-accepted, operands-symbols}
 use borrow.Author.Needs.{needs}
 use Rattle.field.proofs.product.Statement.{statement}
 use Rattle.field.proofs.product.Tie as tie
 
-returns : tie.Need-returns
-returns c = first-bad _ _ refused _ (c .if1 .taken)
+first-bad-requires : tie.Need-first-bad-requires
+first-bad-requires c κs = search needs
 
-returns-2 : tie.Need-returns-2
-returns-2 c = second-bad _ _ refused _ (c .before .if1 .left) (c .if2 .taken)
+returns : tie.Need-returns
+returns c =
+    let s = c .before .before in
+    ap (refused 5) (c .before .first-bad .ensures) ∙ gives refused _ (operand-refused (s .args .a) (s .args .b) (omega arith))
 
 products-requires : tie.Need-products-requires
 products-requires c κs = search needs
 
 look-requires : tie.Need-look-requires
-look-requires c κs = search needs
+look-requires c κs =
+    let s = c .before .before .before .before in
+    (c .before .products .ensures, operands-symbols (s .args .a) (s .args .b) (omega arith))
 
-returns-3 : tie.Need-returns-3
-returns-3 c =
-    let tests = c .before .before .before in
-    ap valued (c .look .ensures) ∙ both-symbols _ _ refused _ (tests .before .if1 .left) (tests .if2 .left)
+returns-2 : tie.Need-returns-2
+returns-2 c =
+    let s = c .before .before .before .before .before in
+    ap valued (c .look .ensures) ∙ accepts refused (valued (sixteen .times (s .args .a) (s .args .b))) (operands-accepted (s .args .a) (s .args .b) (omega arith))
 
 pub product-spec : {M : Type 1} → statement M
-product-spec = tie.close (tie.spec returns returns-2 products-requires look-requires returns-3)
+product-spec =
+    tie.close (tie.spec first-bad-requires returns products-requires look-requires returns-2)

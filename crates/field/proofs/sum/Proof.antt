@@ -1,18 +1,26 @@
+use mathlib.Core.Path.{_∙_, ap}
+use native.Mathlib.Omega.{arith}
+use Rattle.definitions.proofs.Table.{gives, accepts}
 use Rattle.definitions.specs.Answers.{refused, valued}
-use Rattle.definitions.specs.Field.{sixteen, sumOf}
-use Rattle.field.proofs.Order.{first-bad, second-bad, both-symbols}
+use Rattle.definitions.specs.Field.{sumOf}
+use Rattle.field.proofs.Order.{operand-refused, operands-accepted}
+use borrow.Author.Needs.{needs}
 use Rattle.field.proofs.sum.Statement.{statement}
 use Rattle.field.proofs.sum.Tie as tie
 
+first-bad-requires : tie.Need-first-bad-requires
+first-bad-requires c κs = search needs
+
 returns : tie.Need-returns
-returns c = first-bad _ _ refused _ (c .if1 .taken)
+returns c =
+    let s = c .before .before in
+    ap (refused 5) (c .before .first-bad .ensures) ∙ gives refused _ (operand-refused (s .args .a) (s .args .b) (omega arith))
 
 returns-2 : tie.Need-returns-2
-returns-2 c = second-bad _ _ refused _ (c .before .if1 .left) (c .if2 .taken)
-
-returns-3 : tie.Need-returns-3
 unfolding sumOf
-returns-3 c = both-symbols _ _ refused _ (c .before .if1 .left) (c .if2 .left)
+returns-2 c =
+    let s = c .before .before in
+    accepts refused (valued (sumOf (s .args .a) (s .args .b))) (operands-accepted (s .args .a) (s .args .b) (omega arith))
 
 pub sum-spec : {M : Type 1} → statement M
-sum-spec = tie.close (tie.spec returns returns-2 returns-3)
+sum-spec = tie.close (tie.spec first-bad-requires returns returns-2)

@@ -1,0 +1,54 @@
+-- Every entry's promise determines its result: any two results that it allows, answer and lent memory, are equal. The same holds of each
+-- function of the C boundary, whose promise is its entry's.
+-- Assumes nothing.
+use mathlib.Core.List.{List}
+use mathlib.Core.Path.{_≡_, sym, _∙_, ap}
+use Prim.Native.Nat.{ℕ}
+use Rattle.code.proofs.Unique.{one-counted}
+use Rattle.code.specs.Told.{toldCounted}
+use Rattle.code.specs.declared.Counted.{Counted}
+use Rattle.definitions.specs.Answers.{Answer, sumAnswer, productAnswer, inverseAnswer, encodeAnswer, encodeOut, multiplicitiesAnswer, multiplicitiesOut, costAnswer}
+use Rattle.definitions.specs.Field.{sixteen}
+use Rattle.exports.specs.Crossing.{answerOf}
+use Rattle.exports.specs.declared.Answer as crossing
+use Rattle.field.proofs.Unique.{one-element}
+use Rattle.field.specs.Told.{toldElement}
+use Rattle.field.specs.declared.Element.{Element}
+use Rattle.weights.proofs.Unique.{one-costed}
+use Rattle.weights.specs.Told.{toldCosted}
+use Rattle.weights.specs.declared.Costed.{Costed}
+
+pub sum-unique : (a b : ℕ) (x y : Element) → toldElement x ≡ sumAnswer sixteen a b → toldElement y ≡ sumAnswer sixteen a b → x ≡ y
+sum-unique a b x y = one-element
+
+pub product-unique : (a b : ℕ) (x y : Element) → toldElement x ≡ productAnswer sixteen a b → toldElement y ≡ productAnswer sixteen a b → x ≡ y
+product-unique a b x y = one-element
+
+pub inverse-unique : (a : ℕ) (x y : Element) → toldElement x ≡ inverseAnswer sixteen a → toldElement y ≡ inverseAnswer sixteen a → x ≡ y
+inverse-unique a x y = one-element
+
+-- an answer that counts, and what lies in the lent memory after the call
+module _ (answer : Answer) (memory : List ℕ) where
+  counted-unique : (x y : Counted) (after again : List ℕ) → (toldCounted x ≡ answer) × (after ≡ memory) → (toldCounted y ≡ answer) × (again ≡ memory)
+      → (x ≡ y) × (after ≡ again)
+  counted-unique x y after again p q = (one-counted (p .0) (q .0), p .1 ∙ sym (q .1))
+
+pub encode-unique : (n k : ℕ) (f out : List ℕ) (x y : Counted) (after again : List ℕ)
+    → (toldCounted x ≡ encodeAnswer sixteen n k f out) × (after ≡ encodeOut sixteen n k f out)
+    → (toldCounted y ≡ encodeAnswer sixteen n k f out) × (again ≡ encodeOut sixteen n k f out) → (x ≡ y) × (after ≡ again)
+encode-unique n k f out = counted-unique (encodeAnswer sixteen n k f out) (encodeOut sixteen n k f out)
+
+pub multiplicities-unique : (n L : ℕ) (r out : List ℕ) (x y : Counted) (after again : List ℕ)
+    → (toldCounted x ≡ multiplicitiesAnswer sixteen n L r out) × (after ≡ multiplicitiesOut sixteen n L r out)
+    → (toldCounted y ≡ multiplicitiesAnswer sixteen n L r out) × (again ≡ multiplicitiesOut sixteen n L r out) → (x ≡ y) × (after ≡ again)
+multiplicities-unique n L r out = counted-unique (multiplicitiesAnswer sixteen n L r out) (multiplicitiesOut sixteen n L r out)
+
+pub cost-and-bound-unique : (n k : ℕ) (m : List ℕ) (x y : Costed) → toldCosted x ≡ costAnswer sixteen n k m → toldCosted y ≡ costAnswer sixteen n k m → x ≡ y
+cost-and-bound-unique n k m x y = one-costed
+
+-- an answer as it crosses to C is told by its numbers
+pub crossing-unique : (a : Answer) (x y : crossing.Answer) → answerOf x ≡ a → answerOf y ≡ a → x ≡ y
+crossing-unique a x y p q = ap back (p ∙ sym q)
+  where
+    back : Answer → crossing.Answer
+    back b = record { number = b .number; place = b .place; count = b .count; value = b .value; cost = b .cost; bound = b .bound }

@@ -1,0 +1,13 @@
+//! What every entry answers, in the form in which it crosses the C boundary.
+
+/// `number` is the refusal's number, 0 where there is none; then every field but `place` is 0.
+#[repr(C)]
+#[derive(Clone, Copy, Debug, Default, PartialEq, Eq)]
+pub struct Answer {
+    pub number: u16,
+    pub place: u16,
+    pub count: u16,
+    pub value: u16,
+    pub cost: u16,
+    pub bound: u16,
+}

@@ -1,0 +1,8 @@
+//! The second program: the public entries written anew from document 01 alone, by the most literal
+//! reading and brute force. It shares no code and no table with the proved library, and is slow.
+
+pub mod bound;
+pub mod code;
+pub mod field;
+mod refusal;
+pub mod weights;
