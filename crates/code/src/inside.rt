@@ -8,7 +8,7 @@ ghost use Rattle.definitions.specs.Field.{numbers, value, sixteen};
 ghost use Rattle.definitions.specs.Refusals.{sizesFit, firstAbove};
 ghost use Rattle.field.specs.Table.{Products};
 
-const ALPHA: u8 = 2;
+pub const ALPHA: u8 = 2;
 
 pub fn sizes_fit(n: usize, k: usize) -> bool
     ensures { λ r. ⌜ r ≡ sizesFit sixteen n k ⌝ }

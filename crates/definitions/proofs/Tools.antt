@@ -246,3 +246,13 @@ select-map {A} test g [] = rw (select-nil test, select-nil (λ (a : A). test (g 
 select-map {A} test g (a ∷ l) =
     split (test (g a)) (λ y. rw (select-yes test (g a) (map g l) y, select-yes (λ (a : A). test (g a)) a l y, select-map test g l))
     (λ n. rw (select-no test (g a) (map g l) n, select-no (λ (a : A). test (g a)) a l n, select-map test g l))
+
+-- tests that agree on the members select the same
+pub select-same : {B : Type 0} (test same : B → Bool) (l : List B) → ((x : B) → List·Memᴰ x l → test x ≡ same x) → select test l ≡ select same l
+select-same test same [] h = select-nil test ∙ sym (select-nil same)
+select-same test same (b ∷ l) h =
+    let here = h b (List·Memᴰ·head refl) in
+    let rest = select-same test same l (λ x m. h x (List·Memᴰ·tail m)) in
+    split (same b)
+    (λ y. select-yes test b l (here ∙ y) ∙ ap (λ (k : List _). b ∷ k) rest ∙ sym (select-yes same b l y))
+    (λ n. select-no test b l (here ∙ n) ∙ rest ∙ sym (select-no same b l n))

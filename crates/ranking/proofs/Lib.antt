@@ -1,0 +1,5 @@
+pub mod Levels
+pub mod Laws
+pub mod Written
+pub mod OneLevel
+pub mod AllLevels
