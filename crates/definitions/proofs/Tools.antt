@@ -256,3 +256,18 @@ select-same test same (b ∷ l) h =
     split (same b)
     (λ y. select-yes test b l (here ∙ y) ∙ ap (λ (k : List _). b ∷ k) rest ∙ sym (select-yes same b l y))
     (λ n. select-no test b l (here ∙ n) ∙ rest ∙ sym (select-no same b l n))
+
+-- where what passes the first test passes the second, selecting by the second before changes nothing
+pub select-under : {B : Type 0} (test wider : B → Bool) (l : List B) → ((x : B) → List·Memᴰ x l → test x ≡ true → wider x ≡ true)
+    → select test (select wider l) ≡ select test l
+select-under test wider [] h = ap (select test) (select-nil wider)
+select-under test wider (b ∷ l) h =
+    let rest = select-under test wider l (λ x m. h x (List·Memᴰ·tail m)) in
+    split (wider b)
+    (λ y.
+      ap (select test) (select-yes wider b l y)
+      ∙ split (test b) (λ p. select-yes test b (select wider l) p ∙ ap (λ (k : List _). b ∷ k) rest ∙ sym (select-yes test b l p))
+      (λ p. select-no test b (select wider l) p ∙ rest ∙ sym (select-no test b l p)))
+    (λ n.
+      ap (select test) (select-no wider b l n) ∙ rest
+      ∙ sym (select-no test b l (split (test b) (λ p. absurd (true≢false (sym (h b (List·Memᴰ·head refl) p) ∙ n))) (λ p. p))))
