@@ -21,3 +21,4 @@ pub mod Solutions
 pub mod Tests
 pub mod Sums
 pub mod Finite
+pub mod Complete

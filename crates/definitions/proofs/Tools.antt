@@ -265,9 +265,9 @@ select-under test wider (b ∷ l) h =
     let rest = select-under test wider l (λ x m. h x (List·Memᴰ·tail m)) in
     split (wider b)
     (λ y.
-      ap (select test) (select-yes wider b l y)
-      ∙ split (test b) (λ p. select-yes test b (select wider l) p ∙ ap (λ (k : List _). b ∷ k) rest ∙ sym (select-yes test b l p))
-      (λ p. select-no test b (select wider l) p ∙ rest ∙ sym (select-no test b l p)))
+    ap (select test) (select-yes wider b l y)
+    ∙ split (test b) (λ p. select-yes test b (select wider l) p ∙ ap (λ (k : List _). b ∷ k) rest ∙ sym (select-yes test b l p))
+    (λ p. select-no test b (select wider l) p ∙ rest ∙ sym (select-no test b l p)))
     (λ n.
-      ap (select test) (select-no wider b l n) ∙ rest
-      ∙ sym (select-no test b l (split (test b) (λ p. absurd (true≢false (sym (h b (List·Memᴰ·head refl) p) ∙ n))) (λ p. p))))
+    ap (select test) (select-no wider b l n) ∙ rest
+    ∙ sym (select-no test b l (split (test b) (λ p. absurd (true≢false (sym (h b (List·Memᴰ·head refl) p) ∙ n))) (λ p. p))))
