@@ -13,7 +13,7 @@ use lib.Dec.{eqb, ltb}
 use lib.ListN.{length, drop, getD, set, length-map, List·getD-eq-default}
 use lib.Seq.{sets}
 use Rattle.algebra.proofs.Numbers.{isZero-of-zeros}
-use Rattle.definitions.proofs.Bound.{bound-is-least}
+use Rattle.definitions.proofs.Bound.{bound-le, bound-is-least}
 use Rattle.definitions.proofs.Loops.{put-more}
 use Rattle.definitions.proofs.Tools.{below-zero, length-below, map-below, map-below-at}
 use Rattle.definitions.specs.Bound.{count, bound}
@@ -167,3 +167,28 @@ module _ (v D : ℕ) (a o b : List (List ℕ)) (pos : 0 < v) (hv : v < 15) (chea
     leads = sym leads-at;
     written = e ∙ ap (λ (n : ℕ). q ++ drop n before) (sym size);
   }
+
+module _ (v D w : ℕ) (a : List (List ℕ)) (pos : 0 < v) (hv : v < 15) (cheap : matrixCost a ≤ 150) (is-bound : D ≡ bound v (matrixCost a)) (is-count : w ≡ count v D) where
+  -- what the functions are called with is within their limits
+  pub degree-small : D < 160
+  degree-small = let b = bound-le v pos (matrixCost a) in omega arith
+
+  pub count-small : w ≤ 160
+  count-small = let f = subst (λ (d : ℕ). count v d ≤ 160) (sym is-bound) (width-fits v (matrixCost a) pos hv cheap) in omega arith
+
+  pub rows-small : length (positionRows v D w a 15) ≤ 150
+  rows-small = let e = length-conditions v D w a in omega arith
+
+  module _ {o start : List (List ℕ)} (so : System o) (is-start : start ≡ sets o 0 (positionRows v D w a 15)) where
+    pub start-system : System start
+    start-system = subst System (sym is-start) (conditions-system v D w a o so cheap)
+
+    -- the function's answer
+    pub polynomial-found : (b : List (List ℕ)) → System b → (rows j : ℕ) → rows ≡ length (positionRows v D w a 15) → j ≤ rows
+        → SameSolutions sixteen rows width start b → Reduced rows j b → (before after : List ℕ)
+        → after ≡ map (coefficientOf j b) (below w) ++ drop w before → Found a v D before j after
+    polynomial-found b sb rows j is-rows low same reduced before after e =
+        found v D a o b pos hv cheap is-bound so sb rows j (subst (λ (n : ℕ). rows ≡ length (positionRows v D n a 15)) is-count is-rows) low
+        (subst (λ (n : ℕ). SameSolutions sixteen rows width (sets o 0 (positionRows v D n a 15)) b) is-count
+        (subst (λ (m : List (List ℕ)). SameSolutions sixteen rows width m b) is-start same)) reduced before after
+        (subst (λ (n : ℕ). after ≡ map (coefficientOf j b) (below n) ++ drop n before) is-count e)
