@@ -27,6 +27,10 @@ module _ (C : Code) (F : FieldOf C) where
   pub zero-symbol : 0 < C .symbols
   zero-symbol = subst (λ (a : ℕ). a < C .symbols) (F .number .φ-zero) (F .number-symbol (G .o))
 
+  -- 1 is a symbol
+  pub one-symbol : 1 < C .symbols
+  one-symbol = subst (λ (a : ℕ). a < C .symbols) (F .number .φ-one) (F .number-symbol (G .i))
+
   -- the element of 0
   pub element-zero : F .element 0 ≡ F .ring .ops .o
   element-zero = ap (F .element) (sym (F .number .φ-zero)) ∙ F .element-number (G .o)

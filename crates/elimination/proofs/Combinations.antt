@@ -1,0 +1,79 @@
+-- Rows times vectors, over any commutative ring of characteristic 2: sums and multiples of rows, and rows with few entries.
+-- Assumes nothing.
+use mathlib.Core.Logic.{_≢_}
+use mathlib.Core.Path.{_≡_, refl, sym, _∙_, ap, ap₂}
+use Prim.Native.Nat.{ℕ, zero, suc, _≤_, _<_}
+use native.Mathlib.Decide.{ℕ-discrete}
+use native.Mathlib.Omega.{arith}
+use Rattle.algebra.proofs.Linear.{dot, dot-equal}
+use Rattle.algebra.proofs.RingLaws.{ring, plus-zero, zero-plus, one-times, times-zero, zero-times}
+use Rattle.algebra.specs.Ring.{Ring}
+use Rattle.definitions.specs.Field.{Ops}
+
+module _ (A : Ring) where
+  open Ops (A .ops) using (K, o, i, add as _⊕_, mul as _⊗_)
+
+  infixl 60 _⊕_
+  infixl 70 _⊗_
+  -- one entry more
+  pub dot-suc : (n : ℕ) (r q : ℕ → K) → dot (A .ops) (suc n) r q ≡ dot (A .ops) n r q ⊕ r n ⊗ q n
+  unfolding dot
+  dot-suc n r q = refl
+
+  -- equal rows have equal products
+  pub dot-rows : (n : ℕ) (r s q : ℕ → K) → ((k : ℕ) → k < n → r k ≡ s k) → dot (A .ops) n r q ≡ dot (A .ops) n s q
+  dot-rows n r s q e = dot-equal (A .ops) n r s q q e (λ k h. refl)
+
+  added-step : (x y c r s q : K) → (x ⊕ c ⊗ y) ⊕ (r ⊕ c ⊗ s) ⊗ q ≡ (x ⊕ r ⊗ q) ⊕ c ⊗ (y ⊕ s ⊗ q)
+  added-step x y c r s q = simp ring
+
+  -- a row and a multiple of another
+  pub dot-added : (n : ℕ) (r s q : ℕ → K) (c : K) → dot (A .ops) n (λ k. r k ⊕ c ⊗ s k) q ≡ dot (A .ops) n r q ⊕ c ⊗ dot (A .ops) n s q
+  unfolding dot
+  dot-added zero r s q c = sym (zero-plus A (c ⊗ o) ∙ times-zero A c)
+  dot-added (suc n) r s q c =
+      ap (λ (x : K). x ⊕ (r n ⊕ c ⊗ s n) ⊗ q n) (dot-added n r s q c)
+      ∙ added-step (dot (A .ops) n r q) (dot (A .ops) n s q) c (r n) (s n) (q n)
+
+  multiple-step : (x c r q : K) → c ⊗ x ⊕ c ⊗ r ⊗ q ≡ c ⊗ (x ⊕ r ⊗ q)
+  multiple-step x c r q = simp ring
+
+  -- a multiple of a row
+  pub dot-multiple : (n : ℕ) (r q : ℕ → K) (c : K) → dot (A .ops) n (λ k. c ⊗ r k) q ≡ c ⊗ dot (A .ops) n r q
+  unfolding dot
+  dot-multiple zero r q c = sym (times-zero A c)
+  dot-multiple (suc n) r q c =
+      ap (λ (x : K). x ⊕ c ⊗ r n ⊗ q n) (dot-multiple n r q c) ∙ multiple-step (dot (A .ops) n r q) c (r n) (q n)
+
+  -- a row of zeros
+  pub dot-zeros : (n : ℕ) (r q : ℕ → K) → ((k : ℕ) → k < n → r k ≡ o) → dot (A .ops) n r q ≡ o
+  unfolding dot
+  dot-zeros zero r q e = refl
+  dot-zeros (suc n) r q e =
+      ap₂ (λ (x y : K). x ⊕ y ⊗ q n) (dot-zeros n r q (λ k h. e k (omega arith))) (e n (omega arith)) ∙ zero-plus A (o ⊗ q n) ∙ zero-times A (q n)
+
+  -- a row with 1 at a, and zeros
+  pub dot-unit : (n : ℕ) (r q : ℕ → K) (a : ℕ) → a < n → r a ≡ i → ((k : ℕ) → k < n → k ≢ a → r k ≡ o) → dot (A .ops) n r q ≡ q a
+  unfolding dot
+  dot-unit zero r q a h u e = let z : ⊥ = omega arith in absurd z
+  dot-unit (suc n) r q a h u e =
+      elim (ℕ-discrete a n) [
+        | yes d ↦
+            ap₂ (λ (x y : K). x ⊕ y ⊗ q n) (dot-zeros n r q (λ k l. e k (omega arith) (λ f. omega arith))) (ap r (sym d) ∙ u)
+            ∙ zero-plus A (i ⊗ q n) ∙ one-times A (q n) ∙ ap q (sym d)
+        | no d ↦
+            ap₂ (λ (x y : K). x ⊕ y ⊗ q n) (dot-unit n r q a (omega arith) u (λ k l f. e k (omega arith) f)) (e n (omega arith) (λ f. d (sym f)))
+            ∙ ap (λ (x : K). q a ⊕ x) (zero-times A (q n)) ∙ plus-zero A (q a)
+      ]
+
+  -- a vector that ends before j
+  pub dot-ends : (n j : ℕ) (r q : ℕ → K) → j ≤ n → ((k : ℕ) → j ≤ k → k < n → q k ≡ o) → dot (A .ops) n r q ≡ dot (A .ops) j r q
+  dot-ends zero j r q h e = let z : j ≡ zero = omega arith in ap (λ (x : ℕ). dot (A .ops) x r q) (sym z)
+  dot-ends (suc n) j r q h e =
+      elim (ℕ-discrete j (suc n)) [
+        | yes d ↦ ap (λ (x : ℕ). dot (A .ops) x r q) (sym d)
+        | no d ↦
+            dot-suc n r q
+            ∙ ap₂ (λ (x y : K). x ⊕ r n ⊗ y) (dot-ends n j r q (omega arith) (λ k l f. e k l (omega arith))) (e n (omega arith) (omega arith))
+            ∙ ap (λ (x : K). dot (A .ops) j r q ⊕ x) (times-zero A (r n)) ∙ plus-zero A (dot (A .ops) j r q)
+      ]
