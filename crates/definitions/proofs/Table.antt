@@ -106,7 +106,7 @@ pub data Whatever (Refused : ℕ → ℕ → Type 0) (Accepted : Type 0) : List 
   or : {l : Line} {table : List Line} → (l .given ≡ true → Refused (l .number) (l .place))
       → (l .given ≡ false → Whatever Refused Accepted table) → Whatever Refused Accepted (l ∷ table)
 
-pub whatever : {A : Type 0} (P : A → Type 0) (refused : ℕ → ℕ → A) (accepted : A) (table : List Line)
+pub whatever {ℓ} : {A : Type ℓ} (P : A → Type 0) (refused : ℕ → ℕ → A) (accepted : A) (table : List Line)
     → Whatever (λ number place. P (refused number place)) (P accepted) table → P (tried table refused accepted)
 whatever P refused accepted [] (last p) = p
 whatever P refused accepted (l ∷ table) (or here later) =

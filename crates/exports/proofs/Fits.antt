@@ -13,14 +13,15 @@ use Rattle.definitions.proofs.Bound.{bound-le}
 use Rattle.definitions.proofs.Refusals.{none-above}
 use Rattle.definitions.proofs.Table.{Whatever, last, or, whatever, sizes-mean, size-means}
 use Rattle.definitions.proofs.Tools.{smallest-le}
-use Rattle.definitions.specs.Answers.{Answer, refused, valued, counted, costed, sumAnswer, productAnswer, inverseAnswer, encodeAnswer, multiplicitiesAnswer, costAnswer}
+use Rattle.definitions.specs.Answers.{Answer, refused, valued, counted, costed, sumAnswer, productAnswer, inverseAnswer, encodeAnswer, multiplicitiesAnswer, costAnswer, interpolated, Interpolated, InterpolationAnswers}
 use Rattle.definitions.specs.Bound.{bound}
 use Rattle.definitions.specs.Field.{sixteen, inverseOf}
-use Rattle.definitions.specs.Refusals.{Line, tried, sizesFit, sizeFits, noneAbove, firstAbove, badColumn, fieldTable, inverseTable, encodeTable, multiplicitiesTable, costTable}
+use Rattle.definitions.specs.Refusals.{Line, tried, sizesFit, sizeFits, noneAbove, firstAbove, badColumn, fieldTable, inverseTable, encodeTable, multiplicitiesTable, costTable, interpolationTable}
 use Rattle.definitions.specs.Tools.{smallest}
 use Rattle.definitions.specs.Weights.{cost}
 use Rattle.exports.specs.Crossing.{Narrow}
 use Rattle.field.proofs.Instance.{sixteen-field}
+use Rattle.interpolation.proofs.Width.{width-fits}
 use Rattle.weights.proofs.Cost.{cost-small}
 
 refused-narrow : (number place : ℕ) → place < 65536 → Narrow (refused number place)
@@ -100,3 +101,28 @@ cost-narrow n k m =
     let small = cost-small m n (fits .2) full none in
     let degree = bound-le (k - 1) (omega arith) (cost m) in
     last (costed-narrow (cost m) (bound (k - 1) (cost m)) (omega arith) (omega arith))))))
+
+interpolated-narrow : (D n : ℕ) → D < 65536 → n < 65536 → Narrow (interpolated D n)
+interpolated-narrow D n h k = record { place = omega arith; count = k; value = omega arith; cost = omega arith; bound = h }
+
+-- an answer that interpolation's promise allows
+pub interpolation-narrow : (n k G : ℕ) (m out : List ℕ) (answer : Answer) (after : List ℕ) → InterpolationAnswers sixteen n k G m out answer after → Narrow answer
+interpolation-narrow n k G m out answer after =
+    whatever (λ (X : Type 0). X → Narrow answer) (λ number place. (answer ≡ refused number place) × (after ≡ out)) (Interpolated sixteen n k m out answer after)
+    (interpolationTable sixteen n k G m (length out))
+    (or (λ _. so at-none) (λ s.
+    let fits = sizes-mean sixteen n k (not-false (sizesFit sixteen n k) s) in
+    or (λ _. so at-none) (λ g.
+    let limit = ltb-false 150 G g in
+    or (λ _. so at-none) (λ l.
+    let full = eqb-true (length m) (16 * n) (not-false (eqb (length m) (16 * n)) l) in
+    or (λ _. so at-none) (λ _. or (λ e. so (at-first 4 m (omega arith) e)) (λ _. or (λ _. so at-none) (λ c.
+    let paid = ltb-false G (cost m) c in
+    last (λ found.
+    let size = found .1 .size in
+    let wide = width-fits (k - 1) (cost m) (omega arith) (omega arith) (omega arith) in
+    let degree = bound-le (k - 1) (omega arith) (cost m) in
+    rw (found .2) (interpolated-narrow (bound (k - 1) (cost m)) (length (found .0)) (omega arith) (omega arith))))))))))
+  where
+    so : {number place : ℕ} → Narrow (refused number place) → (answer ≡ refused number place) × (after ≡ out) → Narrow answer
+    so narrow-refused p = rw (p .0) narrow-refused

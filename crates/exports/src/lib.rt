@@ -2,14 +2,16 @@
 ghost use mathlib.Core.Path.{_≡_};
 ghost use Prim.Native.Nat.{_<_};
 ghost use Rattle.code.specs.Told.{toldCounted};
-ghost use Rattle.definitions.specs.Answers.{sumAnswer, productAnswer, inverseAnswer, encodeAnswer, encodeOut, multiplicitiesAnswer, multiplicitiesOut, costAnswer};
+ghost use Rattle.definitions.specs.Answers.{sumAnswer, productAnswer, inverseAnswer, encodeAnswer, encodeOut, multiplicitiesAnswer, multiplicitiesOut, costAnswer, InterpolationAnswers};
 ghost use Rattle.definitions.specs.Field.{sixteen};
 ghost use Rattle.exports.specs.Crossing.{answerOf, Narrow};
 ghost use Rattle.field.specs.Told.{toldRefusal, toldElement};
+ghost use Rattle.interpolation.specs.Told.{toldInterpolated};
 ghost use Rattle.weights.specs.Told.{toldCosted};
 use code::Counted;
 use field::Element;
 use field::Refusal;
+use interpolation::Interpolated;
 use weights::Costed;
 
 #[repr(C)]
@@ -116,6 +118,16 @@ fn costed(c: Costed) -> Answer
     }
 }
 
+fn interpolated(i: Interpolated) -> Answer
+    requires { ⌜ Narrow (toldInterpolated i) ⌝ }
+    ensures { λ a. ⌜ answerOf a ≡ toldInterpolated i ⌝ }
+{
+    match i {
+        Interpolated::Of { bound, count } => accepted(narrow(count), 0, 0, narrow(bound)),
+        Interpolated::Refused(r) => refused(r),
+    }
+}
+
 #[no_mangle]
 pub extern "C" fn kv_sum(a: u8, b: u8) -> Answer
     ensures { λ r. ⌜ answerOf r ≡ sumAnswer sixteen a b ⌝ }
@@ -163,4 +175,17 @@ pub extern "C" fn kv_cost_and_bound(n: usize, k: usize, matrix: &[u8]) -> Answer
     ensures { λ r. ⌜ answerOf r ≡ costAnswer sixteen n k (now (matrix .entry)) ⌝ }
 {
     costed(weights::cost_and_bound(n, k, matrix))
+}
+
+#[no_mangle]
+pub extern "C" fn kv_interpolate(
+    n: usize,
+    k: usize,
+    limit: usize,
+    matrix: &[u8],
+    out: &mut [u8],
+) -> Answer
+    ensures { λ r. ⌜ InterpolationAnswers sixteen n k limit (now (matrix .entry)) (now (out .entry)) (answerOf r) (now (out .exit)) ⌝ }
+{
+    interpolated(interpolation::interpolate(n, k, limit, matrix, out))
 }

@@ -1,0 +1,22 @@
+use Rattle.exports.proofs.Fits.{interpolation-narrow}
+use borrow.Author.Needs.{needs}
+use Rattle.exports.proofs.kv_interpolate.Statement.{statement}
+use Rattle.exports.proofs.kv_interpolate.Tie as tie
+
+interpolate-requires : tie.Need-interpolate-requires
+interpolate-requires c κs = search needs
+
+interpolated-requires : tie.Need-interpolated-requires
+interpolated-requires c κs =
+    let s = c .before .before .before .before .before .before in
+    interpolation-narrow (s .args .n) (s .args .k) (s .args .limit) (s .args .matrix .now) (s .args .out .now) _ _ (c .before .before .interpolate .ensures)
+
+same-length : tie.Need-same-length
+same-length c = search needs
+
+returns : tie.Need-returns
+returns c = rw (c .interpolated .ensures) (c .before .before .before .interpolate .ensures)
+
+pub kv-interpolate-spec : {M : Type 1} → statement M
+kv-interpolate-spec =
+    tie.close (tie.spec interpolate-requires interpolated-requires same-length returns)
