@@ -3,3 +3,6 @@ pub mod Laws
 pub mod Written
 pub mod OneLevel
 pub mod AllLevels
+pub mod Memory
+pub mod Same
+pub mod Scores
