@@ -1,2 +1,4 @@
 pub mod Columns
 pub mod Values
+pub mod Elements
+pub mod Search
