@@ -64,7 +64,8 @@ module _ (C : Code) (F : FieldOf C) where
   element-at (x ∷ p) zero = refl
   element-at (x ∷ p) (suc n) = element-at p n
 
-  number-at : (p : List (G .K)) (n : ℕ) → getD (map φ p) n 0 ≡ φ (getD p n (G .o))
+  -- the number of an entry
+  pub number-at : (p : List (G .K)) (n : ℕ) → getD (map φ p) n 0 ≡ φ (getD p n (G .o))
   number-at [] n = sym (F .number .φ-zero)
   number-at (x ∷ p) zero = refl
   number-at (x ∷ p) (suc n) = number-at p n

@@ -2,3 +2,4 @@ pub mod Columns
 pub mod Values
 pub mod Elements
 pub mod Search
+pub mod Count
