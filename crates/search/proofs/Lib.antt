@@ -3,3 +3,4 @@ pub mod Values
 pub mod Elements
 pub mod Search
 pub mod Count
+pub mod Arrays
