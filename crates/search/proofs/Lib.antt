@@ -4,3 +4,4 @@ pub mod Elements
 pub mod Search
 pub mod Count
 pub mod Arrays
+pub mod Roots
