@@ -5,3 +5,4 @@ pub mod Search
 pub mod Count
 pub mod Arrays
 pub mod Roots
+pub mod Levels
