@@ -21,7 +21,7 @@ use Rattle.algebra.specs.FieldOf.{FieldOf}
 use Rattle.algebra.proofs.Closed.{zero-symbol}
 use Rattle.algebra.proofs.Numbers.{elements, number-value, isZero-of-zeros}
 use Rattle.search.specs.Columns.{coefficient, first, shift, substitute, columns}
-use Rattle.search.specs.Tree.{strip, constantsZero, begins, next, search}
+use Rattle.search.specs.Tree.{Same, Under, strip, constantsZero, begins, next, search}
 use Rattle.search.proofs.Arrays.{take-short, columns-within, columns-beyond, columns-above}
 use Rattle.search.proofs.Columns.{first-column, substitute-above, length-shift}
 use Rattle.search.proofs.Elements.{both, zeros-of-isZero, SymbolColumns, element-at, substitute-coefficient, substitute-symbols, shift-sees}
@@ -65,17 +65,11 @@ constants-strip (p ∷ M) =
 -- ---- columns with the same coefficients
 
 module _ (C : Code) where
-  abbrev pub Same : List (List ℕ) → List (List ℕ) → Type 0
-  Same M L = (s t : ℕ) → coefficient (numbers C) M s t ≡ coefficient (numbers C) L s t
-
-  -- the weighted degree is at most D
-  abbrev pub Under : ℕ → ℕ → List (List ℕ) → Type 0
-  Under v D M = (s t : ℕ) → D < s + v * t → coefficient (numbers C) M s t ≡ 0
-
   -- the degree in y is below h
-  abbrev pub Low : ℕ → List (List ℕ) → Type 0
+  abbrev Low : ℕ → List (List ℕ) → Type 0
   Low h M = (s t : ℕ) → h ≤ t → coefficient (numbers C) M s t ≡ 0
 
+  -- lists of the same entries are zero together
   zero-same : (p q : List ℕ) → ((n : ℕ) → getD p n 0 ≡ getD q n 0) → isZero p ≡ true → isZero q ≡ true
   zero-same p q h e = isZero-of-zeros q (λ n. sym (h n) ∙ zeros-of-isZero p e n)
 
@@ -83,7 +77,7 @@ module _ (C : Code) where
   unfolding isZero
   nil-zero = refl
 
-  pub strip-same : (M L : List (List ℕ)) → Same M L → Same (strip M) (strip L)
+  pub strip-same : (M L : List (List ℕ)) → Same C M L → Same C (strip M) (strip L)
   strip-same [] [] h s t = refl
   strip-same [] (q ∷ L) h s t =
       strip-same [] L (λ u w. h (suc u) w) s t
@@ -99,7 +93,7 @@ module _ (C : Code) where
       ∙ ap (λ (X : List (List ℕ)). coefficient (numbers C) X s t) (sym (strip-no q L
       (split (isZero q) (λ y. absurd (true≢false (sym (zero-same q p (λ k. sym (h zero k)) y) ∙ n))) (λ m. m)))))
 
-  under-strip : (v D : ℕ) (M : List (List ℕ)) → Under v D M → Under v D (strip M)
+  under-strip : (v D : ℕ) (M : List (List ℕ)) → Under C v D M → Under C v D (strip M)
   under-strip v D [] u = rw strip-nil u
   under-strip v D (p ∷ M) u =
       split (isZero p) (λ y. rw (strip-yes p M y) (under-strip v D M (λ s t l. u (suc s) t (omega arith)))) (λ n. rw (strip-no p M n) u)

@@ -6,3 +6,4 @@ pub mod Count
 pub mod Arrays
 pub mod Roots
 pub mod Levels
+pub mod Size

@@ -155,6 +155,25 @@ module _ (C : Code) (F : FieldOf C) where
         ∙ sym (evaluate-compose (F .ring) (Series (F .ring)) (constants (F .ring)) (linear (F .ring) (G .o)) (elements C F f) (terms G (elements C F q) (monomials v D))))
         ∙ series-coefficient (F .ring) (compose G (elements C F f) (terms G (elements C F q) (monomials v D))) t
 
+    -- the weighted degree of the array is at most D
+    pub under-grid : (a b : ℕ) → D < a + v * b → coefficient (numbers C) (grid C n v D q) a b ≡ 0
+    under-grid a b l =
+        elim (decLt a (D + 1)) [
+          | yes p ↦ elim (decLt b (D / v + 1)) [
+            | yes r ↦
+                columns-within N (D / v + 1) (D + 1) (loaded N (D / v + 1) q (monomials v D) (replicate n 0)) a b p r
+                ∙ loaded-keeps N (D / v + 1) q (monomials v D) (replicate n 0) (a * (D / v + 1) + b)
+                (λ m i e.
+                let g = place-once (D / v + 1) a b (m .0) (m .1) r (monomial-place m i .0) e in
+                let d : m .0 + v * m .1 ≤ D = monomials-in-order v pos D .within m i in
+                let d′ : a + v * b ≤ D = subst (λ (x : ℕ). x + v * b ≤ D) (sym (g .0)) (subst (λ (y : ℕ). m .0 + v * y ≤ D) (sym (g .1)) d) in
+                let z : ⊥ = omega arith in z)
+                ∙ zeros-at n (a * (D / v + 1) + b)
+            | no m ↦ columns-above N (D / v + 1) (D + 1) (loaded N (D / v + 1) q (monomials v D) (replicate n 0)) a b (omega arith)
+          ]
+          | no m ↦ columns-beyond N (D / v + 1) (D + 1) (loaded N (D / v + 1) q (monomials v D) (replicate n 0)) a b (omega arith)
+        ]
+
     grid-symbols : SymbolColumns C (grid C n v D q)
     grid-symbols =
         columns-symbols C (zero-symbol C F) (D / v + 1) (D + 1) (loaded N (D / v + 1) q (monomials v D) (replicate n 0))

@@ -2,13 +2,14 @@
 -- Assumes nothing.
 use mathlib.Core.Bool.{Bool, true, cond, _&&_}
 use mathlib.Core.List.{List, [], _∷_, map, flatMap}
-use Prim.Native.Nat.{ℕ, zero, suc, _+_, _*_, _/_}
+use mathlib.Core.Path.{_≡_}
+use Prim.Native.Nat.{ℕ, zero, suc, _+_, _*_, _/_, _<_}
 use lib.Dec.{eqb}
 use lib.ListN.{getD, replicate}
 use Rattle.definitions.specs.Field.{Code, numbers, value}
 use Rattle.definitions.specs.Polynomial.{monomials, isZero}
 use Rattle.definitions.specs.Tools.{below, sum}
-use Rattle.search.specs.Columns.{first, substitute, columns, loaded}
+use Rattle.search.specs.Columns.{coefficient, first, substitute, columns, loaded}
 
 -- M freed of its powers of x
 unfoldable pub strip : List (List ℕ) → List (List ℕ)
@@ -21,6 +22,14 @@ constantsZero [] = true
 constantsZero (p ∷ M) = eqb (getD p 0 0) 0 && constantsZero M
 
 module _ (C : Code) where
+  -- the same coefficients
+  abbrev pub Same : List (List ℕ) → List (List ℕ) → Type 0
+  Same M L = (s t : ℕ) → coefficient (numbers C) M s t ≡ coefficient (numbers C) L s t
+
+  -- the weighted degree, of weights 1 and v, is at most D
+  abbrev pub Under : ℕ → ℕ → List (List ℕ) → Type 0
+  Under v D M = (s t : ℕ) → D < s + v * t → coefficient (numbers C) M s t ≡ 0
+
   -- M(0, c) is zero
   unfoldable pub begins : ℕ → List (List ℕ) → Bool
   begins c M = eqb (value (numbers C) c (first (numbers C) M)) 0
