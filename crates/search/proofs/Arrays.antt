@@ -8,7 +8,7 @@ use native.Mathlib.Decide.{decLt}
 use native.Mathlib.Nat.{le-of-suc-le-suc, not-suc-le-zero, suc-mul, le-trans, mul-le-mul-right, mul-add-div-right, div-eq-of-lt}
 use native.Mathlib.Omega.{arith}
 use lib.ListN.{length, getD, take, drop, set, length-set, length-drop, List·getD-eq-default}
-use lib.Seq.{getD-take, getD-drop, getD-set-same, getD-set-other, take-set-lt, take-set-le, drop-set-lt, drop-set-add}
+use lib.Seq.{getD-take, getD-drop, drop-drop, getD-set-same, getD-set-other, take-set-lt, take-set-le, drop-set-lt, drop-set-add}
 use Rattle.definitions.proofs.Monomials.{Earlier, earlier-irreflexive}
 use Rattle.definitions.proofs.Ordered.{Ordered}
 use Rattle.definitions.specs.Field.{Ops, power}
@@ -68,6 +68,17 @@ module _ (A : Ops) where
     where
       place : (s h t : ℕ) → h + (s * h + t) ≡ suc s * h + t
       place s h t = rw (suc-mul s h) (omega arith)
+
+  -- column u of an array
+  pub columns-at : (h w : ℕ) (l : List K) (u : ℕ) → u < w → getD (columns A h w l) u [] ≡ take h (drop (u * h) l)
+  unfolding columns
+  columns-at h zero l u p = absurd (not-suc-le-zero p)
+  columns-at h (suc w) l zero p = let e : zero * h ≡ 0 = omega arith in ap (λ (n : ℕ). take h (drop n l)) (sym e)
+  columns-at h (suc w) l (suc u) p =
+      columns-at h w (drop h l) u (le-of-suc-le-suc p) ∙ ap (take h) (drop-drop (u * h) h l ∙ ap (λ (n : ℕ). drop n l) (place u h))
+    where
+      place : (u h : ℕ) → h + u * h ≡ suc u * h
+      place u h = rw (suc-mul u h) (omega arith)
 
   -- those of no column
   pub columns-beyond : (h w : ℕ) (l : List K) (s t : ℕ) → w ≤ s → coefficient A (columns A h w l) s t ≡ o

@@ -3,10 +3,11 @@
 -- Assumes nothing.
 use mathlib.Core.Bool.{Bool, true, false, cond, _&&_, false≢true, true≢false}
 use mathlib.Core.List.{List, [], _∷_, map, flatMap}
+use mathlib.Core.Logic.{_⊎_, inl, inr, ⊎-elim}
 use mathlib.Core.Path.{_≡_, refl, sym, _∙_, ap, ap₂, subst}
-use Prim.Native.Nat.{ℕ, zero, suc, _+_, _*_, _-_, _≤_, _<_}
+use Prim.Native.Nat.{ℕ, zero, suc, _+_, _*_, _-_, _≤_, _<_, suc-le-suc}
 use native.Mathlib.Decide.{decLt}
-use native.Mathlib.Nat.{le-trans, mul-le-mul-left, mul-add, suc-mul}
+use native.Mathlib.Nat.{le-trans, le-of-suc-le-suc, not-suc-le-zero, zero-lt-suc, zero-add, suc-add, mul-le-mul-left, suc-mul}
 use native.Mathlib.Omega.{arith}
 use borrow.Author.Tests.{eqb-true, eq-eqb}
 use lib.Dec.{eqb}
@@ -61,6 +62,16 @@ constants-strip (p ∷ M) =
     more : (p : List ℕ) (M : List (List ℕ)) → getD p 0 0 ≡ 0 → ((s : ℕ) → getD (getD M s []) 0 0 ≡ 0) → (s : ℕ) → getD (getD (p ∷ M) s []) 0 0 ≡ 0
     more p M z f zero = z
     more p M z f (suc s) = f s
+
+-- freed of its powers of x: the columns from the first on that is not zero
+pub strip-at : (A : Code) (M : List (List ℕ)) (n : ℕ) → ((a : ℕ) → a < n → isZero (getD M a []) ≡ true)
+    → (isZero (getD M n []) ≡ false) ⊎ (length M ≤ n) → (s t : ℕ) → coefficient (numbers A) (strip M) s t ≡ coefficient (numbers A) M (n + s) t
+strip-at A [] n z e s t = rw strip-nil
+strip-at A (p ∷ M) zero z e s t =
+    ⊎-elim (λ f. rw (strip-no p M f, zero-add s)) (λ l. absurd (not-suc-le-zero l)) e
+strip-at A (p ∷ M) (suc n) z e s t =
+    rw (strip-yes p M (z zero (zero-lt-suc n)), suc-add n s)
+    (strip-at A M n (λ a l. z (suc a) (suc-le-suc l)) (⊎-elim (λ f. inl f) (λ l. inr (le-of-suc-le-suc l)) e) s t)
 
 -- ---- columns with the same coefficients
 
@@ -152,7 +163,7 @@ module _ (C : Code) (F : FieldOf C) where
 
   -- ---- the degree
 
-  take-symbols : (t : ℕ) (p : List ℕ) → Symbols C p → Symbols C (take t p)
+  pub take-symbols : (t : ℕ) (p : List ℕ) → Symbols C p → Symbols C (take t p)
   take-symbols zero p s j = zero-symbol C F
   take-symbols (suc t) [] s j = zero-symbol C F
   take-symbols (suc t) (x ∷ p) s zero = s zero
