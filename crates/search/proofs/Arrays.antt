@@ -36,7 +36,8 @@ take-long (suc h) (x ∷ l) (suc b) p q = let r = take-long h l b (le-of-suc-le-
 
 -- places in an array of columns of height h: that of x^a y^b is a h + b
 module _ (h : ℕ) where
-  place-column : (s t : ℕ) → t < h → (s * h + t) / h ≡ s
+  -- the column of a place
+  pub place-column : (s t : ℕ) → t < h → (s * h + t) / h ≡ s
   place-column s t l = mul-add-div-right (omega arith) s t ∙ ap (λ (n : ℕ). s + n) (div-eq-of-lt l) ∙ (omega arith)
 
   -- no two powers have the same place

@@ -104,7 +104,8 @@ module _ (C : Code) where
       ∙ ap (λ (X : List (List ℕ)). coefficient (numbers C) X s t) (sym (strip-no q L
       (split (isZero q) (λ y. absurd (true≢false (sym (zero-same q p (λ k. sym (h zero k)) y) ∙ n))) (λ m. m)))))
 
-  under-strip : (v D : ℕ) (M : List (List ℕ)) → Under C v D M → Under C v D (strip M)
+  -- stripping keeps the degree
+  pub under-strip : (v D : ℕ) (M : List (List ℕ)) → Under C v D M → Under C v D (strip M)
   under-strip v D [] u = rw strip-nil u
   under-strip v D (p ∷ M) u =
       split (isZero p) (λ y. rw (strip-yes p M y) (under-strip v D M (λ s t l. u (suc s) t (omega arith)))) (λ n. rw (strip-no p M n) u)

@@ -8,7 +8,7 @@ use Prim.Native.Nat.{ℕ, zero, suc, _+_, _*_, _-_, _/_, _≤_, _<_}
 use native.Mathlib.Decide.{decLt}
 use native.Mathlib.Nat.{le-of-suc-le-suc, not-suc-le-zero, le-div-iff-mul-le, le-trans}
 use native.Mathlib.Omega.{arith}
-use lib.ListN.{length, getD, take, drop, set, replicate, length-replicate, length-map}
+use lib.ListN.{length, getD, take, drop, set, length-replicate, length-map}
 use Rattle.definitions.proofs.Monomials.{MonomialOrder, monomials-in-order, weighted}
 use Rattle.definitions.proofs.Tools.{split}
 use Rattle.definitions.specs.Bound.{count}
@@ -26,7 +26,7 @@ use Rattle.algebra.proofs.RingLaws.{zero-plus}
 use Rattle.algebra.proofs.Series.{Series, constants, linear}
 use Rattle.algebra.proofs.Taylor.{taylor}
 use Rattle.search.specs.Columns.{coefficient, first, columns, loaded}
-use Rattle.search.specs.Tree.{strip, search, prefixes, allPrefixes, grid}
+use Rattle.search.specs.Tree.{zeros, strip, search, prefixes, allPrefixes, grid}
 use Rattle.search.proofs.Arrays.{take-short, columns-within, columns-beyond, columns-above, length-loaded, loaded-keeps, loaded-zero, value-columns-zero, value-loaded, place-once}
 use Rattle.search.proofs.Count.{rows-at-most-prefixes, prefixes-at-most, all-prefixes-at-most}
 use Rattle.search.proofs.Elements.{zeros-of-isZero, SymbolColumns, columnElements, element-zero, element-at, number-at}
@@ -34,10 +34,16 @@ use Rattle.search.proofs.Search.{IsRoot, Decides, strip-nil, strip-yes,
 use Rattle.search.proofs.Values.{valueOf, along, series-coefficient}
 
 -- zeros are zero wherever they are read
-pub zeros-at : (n i : ℕ) → _≡_ {A = ℕ} (getD (replicate n 0) i 0) 0
+pub zeros-at : (n i : ℕ) → getD (zeros n) i 0 ≡ 0
+unfolding zeros
 zeros-at zero i = refl
 zeros-at (suc n) zero = refl
 zeros-at (suc n) (suc i) = zeros-at n i
+
+-- n of them
+pub length-zeros : (n : ℕ) → length (zeros n) ≡ n
+unfolding zeros
+length-zeros n = length-replicate {A = ℕ} n 0
 
 -- where the stripped polynomial begins with zeros it is zero
 zero-first : (A : Code) (M : List (List ℕ)) → isZero (first (numbers A) (strip M)) ≡ true → (a b : ℕ) → coefficient (numbers A) M a b ≡ 0
@@ -131,8 +137,8 @@ module _ (C : Code) (F : FieldOf C) where
         let b : m .1 ≤ D / v = (le-div-iff-mul-le pos) .1 (omega arith) in
         (omega arith, omega arith)
 
-    zero-elements-at : (j : ℕ) → getD (elements C F (replicate n 0)) j (G .o) ≡ G .o
-    zero-elements-at j = element-at C F (replicate n 0) j ∙ ap (F .element) (zeros-at n j) ∙ element-zero C F
+    zero-elements-at : (j : ℕ) → getD (elements C F (zeros n)) j (G .o) ≡ G .o
+    zero-elements-at j = element-at C F (zeros n) j ∙ ap (F .element) (zeros-at n j) ∙ element-zero C F
 
     -- M(x, f(x)) of the array is Q(x, f(x))
     along-grid : (f : List ℕ) (t : ℕ)
@@ -140,16 +146,16 @@ module _ (C : Code) (F : FieldOf C) where
     unfolding along taylor
     along-grid f t =
         ap (λ (L : List (List (G .K))). valueOf (F .ring) (Series (F .ring)) (constants (F .ring)) (linear (F .ring) (G .o)) (taylor (F .ring) (G .o) (elements C F f)) L t)
-        (columns-elements (D / v + 1) (D + 1) (loaded N (D / v + 1) q (monomials v D) (replicate n 0))
-        ∙ ap (columns G (D / v + 1) (D + 1)) (loaded-elements (D / v + 1) q (monomials v D) (replicate n 0)))
+        (columns-elements (D / v + 1) (D + 1) (loaded N (D / v + 1) q (monomials v D) (zeros n))
+        ∙ ap (columns G (D / v + 1) (D + 1)) (loaded-elements (D / v + 1) q (monomials v D) (zeros n)))
         ∙ ap (λ (u : ℕ → G .K). u t)
         (value-loaded (F .ring) (Series (F .ring)) (constants (F .ring)) (linear (F .ring) (G .o)) (taylor (F .ring) (G .o) (elements C F f)) v (D / v + 1) (D + 1)
-        (elements C F q) (monomials v D) (elements C F (replicate n 0)) (monomials-in-order v pos D .ordered) monomial-place
-        (rw (length-map (replicate n 0) (F .element), length-replicate {A = ℕ} n 0) room) (λ m _. zero-elements-at (m .0 * (D / v + 1) + m .1))
+        (elements C F q) (monomials v D) (elements C F (zeros n)) (monomials-in-order v pos D .ordered) monomial-place
+        (rw (length-map (zeros n) (F .element), length-zeros n) room) (λ m _. zero-elements-at (m .0 * (D / v + 1) + m .1))
         ∙ ap (λ (u : ℕ → G .K). Series (F .ring) .ops .add u (valueAt (Series (F .ring)) (linear (F .ring) (G .o)) (taylor (F .ring) (G .o) (elements C F f))
         (map (carried G (Series (F .ring) .ops) (constants (F .ring))) (terms G (elements C F q) (monomials v D)))))
         (value-columns-zero (F .ring) (Series (F .ring)) (constants (F .ring)) (linear (F .ring) (G .o)) (taylor (F .ring) (G .o) (elements C F f)) (D / v + 1) (D + 1)
-        (elements C F (replicate n 0)) zero-elements-at)
+        (elements C F (zeros n)) zero-elements-at)
         ∙ zero-plus (Series (F .ring)) (valueAt (Series (F .ring)) (linear (F .ring) (G .o)) (taylor (F .ring) (G .o) (elements C F f))
         (map (carried G (Series (F .ring) .ops) (constants (F .ring))) (terms G (elements C F q) (monomials v D))))
         ∙ sym (evaluate-compose (F .ring) (Series (F .ring)) (constants (F .ring)) (linear (F .ring) (G .o)) (elements C F f) (terms G (elements C F q) (monomials v D))))
@@ -161,23 +167,23 @@ module _ (C : Code) (F : FieldOf C) where
         elim (decLt a (D + 1)) [
           | yes p ↦ elim (decLt b (D / v + 1)) [
             | yes r ↦
-                columns-within N (D / v + 1) (D + 1) (loaded N (D / v + 1) q (monomials v D) (replicate n 0)) a b p r
-                ∙ loaded-keeps N (D / v + 1) q (monomials v D) (replicate n 0) (a * (D / v + 1) + b)
+                columns-within N (D / v + 1) (D + 1) (loaded N (D / v + 1) q (monomials v D) (zeros n)) a b p r
+                ∙ loaded-keeps N (D / v + 1) q (monomials v D) (zeros n) (a * (D / v + 1) + b)
                 (λ m i e.
                 let g = place-once (D / v + 1) a b (m .0) (m .1) r (monomial-place m i .0) e in
                 let d : m .0 + v * m .1 ≤ D = monomials-in-order v pos D .within m i in
                 let d′ : a + v * b ≤ D = subst (λ (x : ℕ). x + v * b ≤ D) (sym (g .0)) (subst (λ (y : ℕ). m .0 + v * y ≤ D) (sym (g .1)) d) in
                 let z : ⊥ = omega arith in z)
                 ∙ zeros-at n (a * (D / v + 1) + b)
-            | no m ↦ columns-above N (D / v + 1) (D + 1) (loaded N (D / v + 1) q (monomials v D) (replicate n 0)) a b (omega arith)
+            | no m ↦ columns-above N (D / v + 1) (D + 1) (loaded N (D / v + 1) q (monomials v D) (zeros n)) a b (omega arith)
           ]
-          | no m ↦ columns-beyond N (D / v + 1) (D + 1) (loaded N (D / v + 1) q (monomials v D) (replicate n 0)) a b (omega arith)
+          | no m ↦ columns-beyond N (D / v + 1) (D + 1) (loaded N (D / v + 1) q (monomials v D) (zeros n)) a b (omega arith)
         ]
 
     grid-symbols : SymbolColumns C (grid C n v D q)
     grid-symbols =
-        columns-symbols C (zero-symbol C F) (D / v + 1) (D + 1) (loaded N (D / v + 1) q (monomials v D) (replicate n 0))
-        (loaded-symbols C (D / v + 1) q (monomials v D) (replicate n 0) s (λ j. rw (zeros-at n j) (zero-symbol C F)))
+        columns-symbols C (zero-symbol C F) (D / v + 1) (D + 1) (loaded N (D / v + 1) q (monomials v D) (zeros n))
+        (loaded-symbols C (D / v + 1) q (monomials v D) (zeros n) s (λ j. rw (zeros-at n j) (zero-symbol C F)))
 
     -- the page's test says which messages are roots of the array
     root-test : Decides C F (isRoot C v D q) (strip (grid C n v D q))
@@ -203,15 +209,15 @@ module _ (C : Code) (F : FieldOf C) where
       first-nonzero =
           split (isZero (first N (strip (grid C n v D q))))
           (λ y. absurd (true≢false (sym (isZero-of-zeros q
-          (loaded-zero N v (D / v + 1) (D + 1) q (monomials v D) (replicate n 0) (monomials-in-order v pos D .ordered) monomial-place
-          (rw (length-replicate {A = ℕ} n 0) room) (rw (monomials-in-order v pos D .size) full)
-          (λ a b ha hb. sym (columns-within N (D / v + 1) (D + 1) (loaded N (D / v + 1) q (monomials v D) (replicate n 0)) a b ha hb)
+          (loaded-zero N v (D / v + 1) (D + 1) q (monomials v D) (zeros n) (monomials-in-order v pos D .ordered) monomial-place
+          (rw (length-zeros n) room) (rw (monomials-in-order v pos D .size) full)
+          (λ a b ha hb. sym (columns-within N (D / v + 1) (D + 1) (loaded N (D / v + 1) q (monomials v D) (zeros n)) a b ha hb)
           ∙ zero-first C (grid C n v D q) y a b))) ∙ z)))
           (λ e. e)
 
       first-short : length (first N (strip (grid C n v D q))) ≤ suc (D / v)
       first-short =
-          let h = strip-height C (D / v + 1) (D + 1) (loaded N (D / v + 1) q (monomials v D) (replicate n 0)) in
+          let h = strip-height C (D / v + 1) (D + 1) (loaded N (D / v + 1) q (monomials v D) (zeros n)) in
           omega arith
 
       -- the count theorem: of each length from 1 on at most as many prefixes as the whole part of D/v

@@ -11,6 +11,10 @@ use Rattle.definitions.specs.Polynomial.{monomials, isZero}
 use Rattle.definitions.specs.Tools.{below, sum}
 use Rattle.search.specs.Columns.{coefficient, first, substitute, columns, loaded}
 
+-- n zeros
+unfoldable pub zeros : ℕ → List ℕ
+zeros n = replicate n 0
+
 -- M freed of its powers of x
 unfoldable pub strip : List (List ℕ) → List (List ℕ)
 strip [] = []
@@ -55,4 +59,4 @@ module _ (C : Code) where
 
   -- the polynomial of weights 1 and v, degree limit D and coefficients q, as the columns of an array of n entries
   abbrev pub grid : ℕ → ℕ → ℕ → List ℕ → List (List ℕ)
-  grid n v D q = columns (numbers C) (D / v + 1) (D + 1) (loaded (numbers C) (D / v + 1) q (monomials v D) (replicate n 0))
+  grid n v D q = columns (numbers C) (D / v + 1) (D + 1) (loaded (numbers C) (D / v + 1) q (monomials v D) (zeros n))
