@@ -67,8 +67,8 @@ module _ (C : Code) (F : FieldOf C) where
       carry-hasse G N (F .number) (terms G q l) s t x y ∙ ap (λ (p : List (Term N)). hasse N p s t (φ x) (φ y)) (carry-terms G N (F .number) q l)
 
   -- the numbers of Q(x, f(x))
-  number-compose : (f q : List ℕ) (l : List (ℕ × ℕ)) → Symbols C f → Symbols C q
-      → map φ (compose G (elements f) (terms G (elements q) l)) ≡ compose N f (terms N q l)
+  pub number-compose : (f q : List ℕ) (l : List (ℕ × ℕ)) → Symbols C f → Symbols C q
+      → map (F .number .φ) (compose (F .ring .ops) (elements f) (terms (F .ring .ops) (elements q) l)) ≡ compose (numbers C) f (terms (numbers C) q l)
   number-compose f q l sf sq =
       carry-compose G N (F .number) (elements f) (terms G (elements q) l)
       ∙ ap₂ (compose N) (numbers-elements f sf) (carry-terms G N (F .number) (elements q) l ∙ ap (λ (p : List ℕ). terms N p l) (numbers-elements q sq))

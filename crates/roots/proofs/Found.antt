@@ -1,0 +1,130 @@
+-- From the search over the loaded array to the y-roots of document 01: their rows, their number and the room that they take.
+-- Assumes nothing.
+use mathlib.Core.Bool.{false}
+use mathlib.Core.List.{List, [], _∷_, _++_, flatten, List·Memᴰ, List·Memᴰ·head, List·Memᴰ·tail}
+use mathlib.Core.Path.{_≡_, refl, sym, _∙_, ap, ap₂, subst}
+use Prim.Native.Nat.{ℕ, zero, suc, _+_, _-_, _*_, _/_, _≤_, _<_}
+use native.Mathlib.Nat.{mul-le-mul-left, mul-le-mul-right, mul-suc}
+use native.Mathlib.Omega.{arith}
+use lib.ListN.{length, getD, take, drop, length-append}
+use Rattle.algebra.proofs.Elements.{zero-symbol}
+use Rattle.definitions.proofs.Joined.{join-nil, join-cons}
+use Rattle.definitions.proofs.Messages.{AllMessages, messages-in-order}
+use Rattle.definitions.proofs.Tools.{select-from}
+use Rattle.definitions.specs.Answers.{rowsOnto}
+use Rattle.definitions.specs.Bound.{count}
+use Rattle.definitions.specs.Code.{Symbols, messages}
+use Rattle.definitions.specs.Field.{numbers, sixteen}
+use Rattle.definitions.specs.Polynomial.{monomials, isZero}
+use Rattle.definitions.specs.Roots.{isRoot, rootsOf}
+use Rattle.field.proofs.Instance.{sixteen-field}
+use Rattle.search.proofs.Arrays.{place-column, length-loaded}
+use Rattle.search.proofs.Levels.{search-same, under-strip}
+use Rattle.search.proofs.Roots.{length-zeros, loaded-symbols, columns-symbols, under-grid, search-is-roots, roots-at-most}
+use Rattle.search.proofs.Search.{strip-symbols}
+use Rattle.search.proofs.Size.{array-size, column-height}
+use Rattle.search.specs.Columns.{loaded}
+use Rattle.search.specs.Tree.{zeros, strip, search}
+use Rattle.roots.specs.Array.{polynomial, Freed, DegreeWithin, rowsAfter, laidOver}
+use Rattle.roots.proofs.Substitution.{zeros-symbols}
+
+-- rows after no prefix
+rows-flat : (rows : List (List ℕ)) → rowsAfter [] rows ≡ flatten rows
+unfolding flatten
+rows-flat [] = join-nil (λ (f : List ℕ). [] ++ f)
+rows-flat (f ∷ rows) = join-cons (λ (f : List ℕ). [] ++ f) f rows ∙ ap (λ (l : List ℕ). f ++ l) (rows-flat rows)
+
+-- rows of k symbols each
+rows-length : (k : ℕ) (rows : List (List ℕ)) → ((f : List ℕ) → List·Memᴰ f rows → length f ≡ k) → length (rowsAfter [] rows) ≡ k * length rows
+rows-length k [] h = ap length (join-nil (λ (f : List ℕ). [] ++ f)) ∙ omega arith
+rows-length k (f ∷ rows) h =
+    let a = h f (List·Memᴰ·head refl) in
+    let b = rows-length k rows (λ g m. h g (List·Memᴰ·tail m)) in
+    let c = mul-suc k (length rows) in
+    ap length (join-cons (λ (f : List ℕ). [] ++ f) f rows) ∙ length-append f (rowsAfter [] rows) ∙ omega arith
+
+-- the room is a machine number
+pub room-fits : (k D : ℕ) → 2 ≤ k → k ≤ 15 → count (k - 1) D ≤ 256 → k * (D / (k - 1)) ≤ 15 * 512
+room-fits k D two fifteen small =
+    let v = k - 1 in
+    let a = array-size (k - 1) (omega arith) D in
+    let b : 1 * (D / (k - 1) + 1) ≤ (D + 1) * (D / (k - 1) + 1) = mul-le-mul-right (D / (k - 1) + 1) (omega arith) in
+    let c : k * (D / (k - 1)) ≤ 15 * (D / (k - 1)) = mul-le-mul-right (D / (k - 1)) fifteen in
+    omega arith
+
+module _ (D k : ℕ) (q : List ℕ) (two : 2 ≤ k) (small : count (k - 1) D ≤ 256) (full : length q ≡ count (k - 1) D) (s : Symbols sixteen q) where
+  -- the array holds every accepted polynomial
+  pub array-fits : (D + 1) * (D / (k - 1) + 1) ≤ 512
+  array-fits = let a = array-size (k - 1) (omega arith) D in omega arith
+
+  pub columns-low : D / (k - 1) + 1 ≤ 32
+  columns-low = let a = column-height (k - 1) D (omega arith) array-fits in omega arith
+
+  abbrev start : List ℕ
+  start = loaded (numbers sixteen) (D / (k - 1) + 1) q (monomials (k - 1) D) (zeros 512)
+
+  module _ (l : List ℕ) (el : l ≡ loaded (numbers sixteen) (D / (k - 1) + 1) q (monomials (k - 1) D) (zeros 512)) where
+    pub loaded-length : length l ≡ 512
+    loaded-length = ap length el ∙ length-loaded (numbers sixteen) (D / (k - 1) + 1) q (monomials (k - 1) D) (zeros 512) ∙ length-zeros 512
+
+    start-symbols : Symbols sixteen start
+    start-symbols = loaded-symbols sixteen (D / (k - 1) + 1) q (monomials (k - 1) D) (zeros 512) s (zeros-symbols 512)
+
+    pub loaded-are-symbols : Symbols sixteen l
+    loaded-are-symbols = subst (Symbols sixteen) (sym el) start-symbols
+
+    module _ (p : List ℕ) (sp : Symbols sixteen p) (fp : Freed (D / (k - 1) + 1) (D + 1) l p) where
+      freed-start : Freed (D / (k - 1) + 1) (D + 1) start p
+      freed-start = subst (λ (x : List ℕ). Freed (D / (k - 1) + 1) (D + 1) x p) el fp
+
+      -- its weighted degree is within the array
+      pub within : DegreeWithin (k - 1) D (D / (k - 1) + 1) p
+      within a b h =
+          freed-start a b
+          ∙ under-strip sixteen (k - 1) D (polynomial (D / (k - 1) + 1) (D + 1) start)
+          (under-grid sixteen sixteen-field 512 (k - 1) D (omega arith) array-fits q s) a b h
+
+      -- the search finds the roots
+      found : search sixteen k (polynomial (D / (k - 1) + 1) (D + 1) p) ≡ rootsOf sixteen D k q
+      found =
+          search-same sixteen sixteen-field k (polynomial (D / (k - 1) + 1) (D + 1) p) (strip (polynomial (D / (k - 1) + 1) (D + 1) start))
+          (columns-symbols sixteen (zero-symbol sixteen sixteen-field) (D / (k - 1) + 1) (D + 1) p sp)
+          (strip-symbols sixteen (polynomial (D / (k - 1) + 1) (D + 1) start)
+          (columns-symbols sixteen (zero-symbol sixteen sixteen-field) (D / (k - 1) + 1) (D + 1) start start-symbols)) freed-start
+          ∙ search-is-roots sixteen sixteen-field k D two q s 512 array-fits
+
+      row-size : (f : List ℕ) → List·Memᴰ f (rootsOf sixteen D k q) → length f ≡ k
+      row-size f m = messages-in-order sixteen (zero-symbol sixteen sixteen-field) k .sized f (select-from (isRoot sixteen (k - 1) D q) (messages sixteen k) f m)
+
+      module _ (row : List ℕ) where
+        rows-found : rowsAfter (take (k - k) row) (search sixteen k (polynomial (D / (k - 1) + 1) (D + 1) p)) ≡ rowsAfter [] (rootsOf sixteen D k q)
+        rows-found = let e : k - k ≡ 0 = omega arith in ap₂ (λ (n : ℕ) (r : List (List ℕ)). rowsAfter (take n row) r) e found
+
+        rows-number : length (rowsAfter (take (k - k) row) (search sixteen k (polynomial (D / (k - 1) + 1) (D + 1) p))) ≡ k * length (rootsOf sixteen D k q)
+        rows-number = ap length rows-found ∙ rows-length k (rootsOf sixteen D k q) row-size
+
+        -- the room of refusal 4 is enough
+        pub room-enough : isZero q ≡ false → (n : ℕ) → k * (D / (k - 1)) ≤ n
+            → 0 + length (rowsAfter (take (k - k) row) (search sixteen k (polynomial (D / (k - 1) + 1) (D + 1) p))) ≤ n
+        room-enough z n h =
+            let a = roots-at-most sixteen sixteen-field k D two q s (omega arith) z in
+            let b : k * length (rootsOf sixteen D k q) ≤ k * (D / (k - 1)) = mul-le-mul-left k a in
+            let c = rows-number in
+            omega arith
+
+        -- how many rows there are
+        pub rows-counted : (e : ℕ) → e ≡ 0 + length (rowsAfter (take (k - k) row) (search sixteen k (polynomial (D / (k - 1) + 1) (D + 1) p)))
+            → e / k ≡ length (rootsOf sixteen D k q)
+        rows-counted e h =
+            let n = length (rootsOf sixteen D k q) in
+            let f = rows-number in
+            let g : e ≡ n * k + 0 = omega arith in
+            ap (λ (m : ℕ). m / k) g ∙ place-column k n 0 (omega arith)
+
+        -- the rows one after the other, and what lies after them
+        pub rows-written : (d r : List ℕ) → r ≡ laidOver d 0 (rowsAfter (take (k - k) row) (search sixteen k (polynomial (D / (k - 1) + 1) (D + 1) p)))
+            → r ≡ rowsOnto sixteen k (rootsOf sixteen D k q) d
+        rows-written d r h =
+            let f = rows-number in
+            let g : 0 + length (rowsAfter (take (k - k) row) (search sixteen k (polynomial (D / (k - 1) + 1) (D + 1) p))) ≡ k * length (rootsOf sixteen D k q) = omega arith in
+            h ∙ ap₂ (λ (x : List ℕ) (m : ℕ). x ++ drop m d) (rows-found ∙ rows-flat (rootsOf sixteen D k q)) g

@@ -1,0 +1,117 @@
+-- The steps of loading a list of coefficients, degree by degree.
+-- Assumes nothing.
+use mathlib.Core.List.{List, [], _∷_, _++_, map, flatMap}
+use mathlib.Core.Path.{_≡_, refl, sym, _∙_, ap, ap₂}
+use Prim.Native.Nat.{ℕ, zero, suc, _+_, _-_, _*_, _/_, _≤_, _<_}
+use native.Mathlib.Decide.{decLt}
+use native.Mathlib.Nat.{le-of-suc-le-suc, not-suc-le-zero, suc-inj, suc-ne-zero, le-div-iff-mul-le, div-mul-le-self, mul-le-mul-left, mul-le-mul-right, le-trans}
+use native.Mathlib.Numerals.{add-one}
+use native.Mathlib.Omega.{arith}
+use lib.ListN.{length, getD, take, drop, set, length-append, length-map, length-drop}
+use lib.Seq.{getD-drop, take-suc, take-add, take-all, length-take-le}
+use Rattle.definitions.proofs.Joined.{join-nil, join-below}
+use Rattle.definitions.proofs.Monomials.{MonomialOrder, monomials-in-order}
+use Rattle.definitions.proofs.Tools.{below-zero, length-below, map-below}
+use Rattle.definitions.specs.Bound.{count}
+use Rattle.definitions.specs.Field.{numbers, sixteen}
+use Rattle.definitions.specs.Polynomial.{monomialsOf, monomials}
+use Rattle.definitions.specs.Tools.{below}
+use Rattle.search.specs.Columns.{loaded}
+
+module _ (h : ℕ) where
+  -- one list loaded after another
+  loaded-append : (q : List ℕ) (L : List (ℕ × ℕ)) (q′ : List ℕ) (L′ : List (ℕ × ℕ)) (l : List ℕ) → length q ≡ length L
+      → loaded (numbers sixteen) h (q ++ q′) (L ++ L′) l ≡ loaded (numbers sixteen) h q′ L′ (loaded (numbers sixteen) h q L l)
+  unfolding loaded
+  loaded-append [] [] q′ L′ l e = refl
+  loaded-append [] (m ∷ L) q′ L′ l e = absurd (suc-ne-zero (length L) (sym e))
+  loaded-append (c ∷ q) [] q′ L′ l e = absurd (suc-ne-zero (length q) e)
+  loaded-append (c ∷ q) (m ∷ L) q′ L′ l e = loaded-append q L q′ L′ (set l (m .0 * h + m .1) c) (suc-inj e)
+
+  loaded-one : (c : ℕ) (m : ℕ × ℕ) (l : List ℕ) → loaded (numbers sixteen) h (c ∷ []) (m ∷ []) l ≡ set l (m .0 * h + m .1) c
+  unfolding loaded
+  loaded-one c m l = refl
+
+  loaded-none : (L : List (ℕ × ℕ)) (l : List ℕ) → loaded (numbers sixteen) h [] L l ≡ l
+  unfolding loaded
+  loaded-none L l = refl
+
+  -- the first b monomials of weighted degree d
+  abbrev pub some : ℕ → ℕ → ℕ → List (ℕ × ℕ)
+  some v d b = map (λ (b : ℕ). (d - v * b, b)) (below b)
+
+  pub degree-none : (v d j : ℕ) (q l : List ℕ) → l ≡ loaded (numbers sixteen) h (take 0 (drop j q)) (some v d 0) l
+  degree-none v d j q l = sym (loaded-none (some v d 0) l)
+
+  pub degree-more : (v d j b : ℕ) (q l now : List ℕ) → j + b < length q → now ≡ loaded (numbers sixteen) h (take b (drop j q)) (some v d b) l
+      → set now ((d - v * b) * h + b) (getD q (j + b) 0) ≡ loaded (numbers sixteen) h (take (b + 1) (drop j q)) (some v d (b + 1)) l
+  degree-more v d j b q l now k e =
+      let n = length-drop j q in
+      let m : length (take b (drop j q)) ≡ length (some v d b) =
+      length-take-le b (drop j q) (omega arith) ∙ sym (length-map (below b) (λ (b : ℕ). (d - v * b, b)) ∙ length-below b) in
+      ap₂ (λ (x : List ℕ) (c : ℕ). set x ((d - v * b) * h + b) c) e (sym (getD-drop j q b 0))
+      ∙ sym (loaded-one (getD (drop j q) b 0) (d - v * b, b) (loaded (numbers sixteen) h (take b (drop j q)) (some v d b) l))
+      ∙ sym (loaded-append (take b (drop j q)) (some v d b) (getD (drop j q) b 0 ∷ []) ((d - v * b, b) ∷ []) l m)
+      ∙ ap₂ (λ (x : List ℕ) (y : List (ℕ × ℕ)). loaded (numbers sixteen) h x y l) (sym (take-suc (drop j q) b 0 (omega arith))) (sym (map-below (λ (b : ℕ). (d - v * b, b)) b))
+      ∙ ap (λ (n : ℕ). loaded (numbers sixteen) h (take n (drop j q)) (some v d n) l) (sym (add-one b))
+
+-- the place of a monomial of weighted degree d
+pub degree-place : (v d b : ℕ) → 0 < v → b ≤ d / v → v * b ≤ d
+degree-place v d b pos l = let k : b * v ≤ d = (le-div-iff-mul-le pos) .0 l in omega arith
+
+pub degree-grows : (v d D : ℕ) → 0 < v → d ≤ D → d / v ≤ D / v
+degree-grows v d D pos l = let e = div-mul-le-self d v in (le-div-iff-mul-le pos) .1 (omega arith)
+
+module _ (v : ℕ) where
+  -- the monomials of weighted degree below d
+  abbrev pub lower : ℕ → List (ℕ × ℕ)
+  lower d = flatMap (monomialsOf v) (below d)
+
+  length-of : (d : ℕ) → length (monomialsOf v d) ≡ d / v + 1
+  length-of d = length-map (below (d / v + 1)) (λ (b : ℕ). (d - v * b, b)) ∙ length-below (d / v + 1)
+
+  lower-more : (d : ℕ) → length (lower (suc d)) ≡ length (lower d) + (d / v + 1)
+  lower-more d = ap length (join-below (monomialsOf v) d) ∙ length-append (lower d) (monomialsOf v d) ∙ ap (λ (n : ℕ). length (lower d) + n) (length-of d)
+
+  lower-grows : (d E : ℕ) → d ≤ E → length (lower d) ≤ length (lower E)
+  lower-grows d zero l = let e : d ≡ 0 = omega arith in rw e (omega arith)
+  lower-grows d (suc E) l =
+      elim (decLt d (suc E)) [
+        | yes k ↦ let r = lower-grows d E (omega arith) in let s = lower-more E in omega arith
+        | no n ↦ let e : d ≡ suc E = omega arith in rw e (omega arith)
+      ]
+
+  pub none-lower : 0 ≡ length (lower 0)
+  none-lower = sym (ap (λ (l : List ℕ). length (flatMap (monomialsOf v) l)) below-zero ∙ ap length (join-nil (monomialsOf v)))
+
+  module _ (pos : 0 < v) (D : ℕ) (q : List ℕ) (full : length q ≡ count v D) where
+    size : length (lower (suc D)) ≡ length q
+    size = ap (λ (n : ℕ). length (lower n)) (sym (add-one D)) ∙ monomials-in-order v pos D .size ∙ sym full
+
+    -- the coefficients of degree d are there
+    pub degree-within : (d : ℕ) → d ≤ D → length (lower d) + (d / v + 1) ≤ length q
+    degree-within d l = let a = lower-grows (suc d) (suc D) (omega arith) in let b = lower-more d in let c = size in omega arith
+
+    module _ (h : ℕ) (zs : List ℕ) where
+      pub load-none : zs ≡ loaded (numbers sixteen) h (take 0 q) (lower 0) zs
+      load-none = sym (loaded-none h (lower 0) zs)
+
+      -- one degree more
+      pub load-more : (d j : ℕ) (p r : List ℕ) → d ≤ D → j ≡ length (lower d) → p ≡ loaded (numbers sixteen) h (take j q) (lower d) zs
+          → r ≡ loaded (numbers sixteen) h (take (d / v + 1) (drop j q)) (monomialsOf v d) p
+          → (j + (d / v + 1) ≡ length (lower (d + 1))) × (r ≡ loaded (numbers sixteen) h (take (j + (d / v + 1)) q) (lower (d + 1)) zs)
+      load-more d j p r l ej ep er =
+          let w = degree-within d l in (
+            ap (λ (n : ℕ). n + (d / v + 1)) ej ∙ sym (lower-more d) ∙ ap (λ (n : ℕ). length (lower n)) (sym (add-one d)),
+            er ∙ ap (loaded (numbers sixteen) h (take (d / v + 1) (drop j q)) (monomialsOf v d)) ep
+                ∙ sym (loaded-append h (take j q) (lower d) (take (d / v + 1) (drop j q)) (monomialsOf v d) zs (length-take-le j q (omega arith) ∙ ej))
+                ∙ ap₂ (λ (x : List ℕ) (y : List (ℕ × ℕ)). loaded (numbers sixteen) h x y zs) (sym (take-add j (d / v + 1) q))
+                (sym (join-below (monomialsOf v) d) ∙ ap lower (sym (add-one d))),
+          )
+
+      pub load-all : (d j : ℕ) (p : List ℕ) → d ≡ D + 1 → j ≡ length (lower d) → p ≡ loaded (numbers sixteen) h (take j q) (lower d) zs
+          → p ≡ loaded (numbers sixteen) h q (monomials v D) zs
+      load-all d j p ed ej ep =
+          let s = size in
+          let f : j ≡ length q = ej ∙ ap (λ (n : ℕ). length (lower n)) (ed ∙ add-one D) ∙ s in
+          ep ∙ ap₂ (λ (x : List ℕ) (y : List (ℕ × ℕ)). loaded (numbers sixteen) h x y zs) (take-all j q (omega arith)) (ap lower ed)

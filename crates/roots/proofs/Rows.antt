@@ -1,0 +1,252 @@
+-- The steps of the search: the rows below a prefix, symbol after symbol, and rows laid over the lent memory.
+-- Assumes nothing.
+use mathlib.Core.Bool.{Bool, true, false, cond}
+use mathlib.Core.List.{List, [], _∷_, _++_, map, flatMap, append-assoc, append-nil}
+use mathlib.Core.Path.{_≡_, refl, sym, _∙_, ap, ap₂, subst}
+use Prim.Native.Nat.{ℕ, zero, suc, _+_, _-_, _*_, _≤_, _<_}
+use native.Mathlib.Decide.{decLt}
+use native.Mathlib.Nat.{add-zero, add-assoc, mul-le-mul-left}
+use native.Mathlib.Numerals.{add-one}
+use native.Mathlib.Omega.{arith}
+use borrow.Author.Tests.{eq-eqb, ne-eqb}
+use lib.ListN.{length, getD, take, drop, set, length-append, take-append-drop}
+use lib.Seq.{take-at, drop-drop, drop-append-add, length-take-le, take-suc-set, paste}
+use Rattle.definitions.proofs.Joined.{join-nil, join-cons, join-append, join-below}
+use Rattle.definitions.proofs.Tools.{below-zero}
+use Rattle.definitions.specs.Code.{Symbols}
+use Rattle.definitions.specs.Field.{numbers, value, sixteen}
+use Rattle.definitions.specs.Tools.{below}
+use Rattle.field.proofs.Instance.{sixteen-field}
+use Rattle.search.proofs.Levels.{search-handed, under-handed}
+use Rattle.search.proofs.Search.{branch, search-zero, search-suc}
+use Rattle.search.specs.Columns.{first, columns}
+use Rattle.search.specs.Tree.{constantsZero, begins, next, search}
+use Rattle.roots.specs.Array.{polynomial, Handed, DegreeWithin, rowsAfter, laidOver}
+
+-- ---- a list laid over another
+
+laid-nothing : (d : List ℕ) (at : ℕ) → d ≡ laidOver d at []
+laid-nothing d at = sym (rw (add-zero, append-nil, take-append-drop))
+
+laid-after : (d : List ℕ) (at : ℕ) (l m : List ℕ) → at + length l ≤ length d → laidOver (laidOver d at l) (at + length l) m ≡ laidOver d at (l ++ m)
+laid-after d at l m h =
+    let n : length (take at d ++ l) ≡ at + length l = simp (length-append, length-take-le at d (omega arith)) in
+    let t : take (at + length l) (laidOver d at l) ≡ take at d ++ l = take-at (take at d ++ l) (drop (at + length l) d) (at + length l) n in
+    let u : drop (at + length l + length m) (laidOver d at l) ≡ drop (at + length (l ++ m)) d =
+    ap (λ (k : ℕ). drop (k + length m) (laidOver d at l)) (sym n)
+    ∙ drop-append-add (take at d ++ l) (drop (at + length l) d) (length m)
+    ∙ drop-drop (length m) (at + length l) d
+    ∙ ap (λ (k : ℕ). drop k d) (add-assoc at (length l) (length m) ∙ ap (λ (k : ℕ). at + k) (sym (length-append l m))) in
+    ap (λ (x : List ℕ). x ++ m ++ drop (at + length l + length m) (laidOver d at l)) t
+    ∙ ap (λ (x : List ℕ). take at d ++ l ++ m ++ x) u
+    ∙ ap (λ (x : List ℕ). x ++ drop (at + length (l ++ m)) d) (append-assoc (take at d) l m)
+
+-- ---- rows after a prefix
+
+rows-none : (prefix : List ℕ) → rowsAfter prefix [] ≡ []
+rows-none prefix = join-nil (λ (f : List ℕ). prefix ++ f)
+
+-- one symbol more in the prefix
+rows-symbol : (prefix : List ℕ) (c : ℕ) (rows : List (List ℕ)) → rowsAfter prefix (map (λ (f : List ℕ). c ∷ f) rows) ≡ rowsAfter (prefix ++ (c ∷ [])) rows
+rows-symbol prefix c [] = rows-none prefix ∙ sym (rows-none (prefix ++ (c ∷ [])))
+rows-symbol prefix c (f ∷ rows) =
+    join-cons (λ (f : List ℕ). prefix ++ f) (c ∷ f) (map (λ (f : List ℕ). c ∷ f) rows)
+    ∙ ap₂ _++_ (sym (append-assoc prefix (c ∷ []) f)) (rows-symbol prefix c rows)
+    ∙ sym (join-cons (λ (f : List ℕ). (prefix ++ (c ∷ [])) ++ f) f rows)
+
+rows-joined : (prefix : List ℕ) (f : ℕ → List (List ℕ)) (n : ℕ) → rowsAfter prefix (flatMap f (below n)) ≡ flatMap (λ (c : ℕ). rowsAfter prefix (f c)) (below n)
+rows-joined prefix f zero =
+    rw below-zero (ap (rowsAfter prefix) (join-nil f) ∙ rows-none prefix ∙ sym (join-nil (λ (c : ℕ). rowsAfter prefix (f c))))
+rows-joined prefix f (suc n) =
+    ap (rowsAfter prefix) (join-below f n) ∙ join-append (λ (f : List ℕ). prefix ++ f) (flatMap f (below n)) (f n)
+    ∙ ap (λ (l : List ℕ). l ++ rowsAfter prefix (f n)) (rows-joined prefix f n) ∙ sym (join-below (λ (c : ℕ). rowsAfter prefix (f c)) n)
+
+-- the rows of one symbol, and of those before g
+abbrev pub rowsOf : List ℕ → ℕ → List (List ℕ) → ℕ → List ℕ
+rowsOf prefix n M c = rowsAfter prefix (branch sixteen n M c)
+
+abbrev pub rowsBefore : List ℕ → ℕ → List (List ℕ) → ℕ → List ℕ
+rowsBefore prefix n M g = flatMap (rowsOf prefix n M) (below g)
+
+before-none : (prefix : List ℕ) (n : ℕ) (M : List (List ℕ)) → rowsBefore prefix n M 0 ≡ []
+before-none prefix n M = rw below-zero (join-nil (rowsOf prefix n M))
+
+before-more : (prefix : List ℕ) (n : ℕ) (M : List (List ℕ)) (g : ℕ) → rowsBefore prefix n M (g + 1) ≡ rowsBefore prefix n M g ++ rowsOf prefix n M g
+before-more prefix n M g = ap (rowsBefore prefix n M) (add-one g) ∙ join-below (rowsOf prefix n M) g
+
+-- all symbols
+pub rows-all : (prefix : List ℕ) (left : ℕ) (M : List (List ℕ)) → 0 < left → rowsAfter prefix (search sixteen left M) ≡ rowsBefore prefix (left - 1) M 16
+rows-all prefix left M h =
+    let e : left ≡ suc (left - 1) = omega arith in
+    ap (λ (n : ℕ). rowsAfter prefix (search sixteen n M)) e ∙ ap (rowsAfter prefix) (search-suc sixteen (left - 1) M)
+    ∙ rows-joined prefix (branch sixteen (left - 1) M) 16
+
+before-grows : (prefix : List ℕ) (n : ℕ) (M : List (List ℕ)) (g m : ℕ) → length (rowsBefore prefix n M g) ≤ length (rowsBefore prefix n M (m + g))
+before-grows prefix n M g zero = let e : zero + g ≡ g = omega arith in rw e (omega arith)
+before-grows prefix n M g (suc m) =
+    let e : suc m + g ≡ m + g + 1 = omega arith in
+    let a = before-grows prefix n M g m in
+    let b = ap length (before-more prefix n M (m + g)) ∙ length-append (rowsBefore prefix n M (m + g)) (rowsOf prefix n M (m + g)) in
+    rw e (omega arith)
+
+-- the rows of symbol g have room behind those before it
+before-room : (prefix : List ℕ) (n : ℕ) (M : List (List ℕ)) (g : ℕ) → g < 16
+    → length (rowsBefore prefix n M g) + length (rowsOf prefix n M g) ≤ length (rowsBefore prefix n M 16)
+before-room prefix n M g h =
+    let e : 15 - g + (g + 1) ≡ 16 = omega arith in
+    let a : length (rowsBefore prefix n M (g + 1)) ≤ length (rowsBefore prefix n M 16) =
+    subst (λ (m : ℕ). length (rowsBefore prefix n M (g + 1)) ≤ length (rowsBefore prefix n M m)) e (before-grows prefix n M (g + 1) (15 - g)) in
+    let b = ap length (before-more prefix n M g) ∙ length-append (rowsBefore prefix n M g) (rowsOf prefix n M g) in
+    omega arith
+
+-- ---- the last level
+
+module _ (row : List ℕ) (k left : ℕ) (M : List (List ℕ)) (z : left ≡ 0) where
+  leaf-rows : (b : Bool) → constantsZero M ≡ b → rowsAfter (take (k - left) row) (search sixteen left M) ≡ rowsAfter (take k row) (cond b ([] ∷ []) [])
+  leaf-rows b e =
+      let f : k - left ≡ k = omega arith in
+      ap₂ (λ (n m : ℕ). rowsAfter (take n row) (search sixteen m M)) f z
+      ∙ ap (rowsAfter (take k row)) (search-zero sixteen M ∙ ap (λ (b : Bool). cond {A = List (List ℕ)} b ([] ∷ []) []) e)
+
+  -- a root
+  pub leaf-root : true ≡ constantsZero M → rowsAfter (take (k - left) row) (search sixteen left M) ≡ take k row
+  leaf-root e =
+      leaf-rows true (sym e) ∙ join-cons (λ (f : List ℕ). take k row ++ f) [] [] ∙ ap (λ (l : List ℕ). (take k row ++ []) ++ l) (rows-none (take k row))
+      ∙ append-nil (take k row ++ []) ∙ append-nil (take k row)
+
+  pub leaf-root-length : true ≡ constantsZero M → k ≤ length row → length (rowsAfter (take (k - left) row) (search sixteen left M)) ≡ k
+  leaf-root-length e h = ap length (leaf-root e) ∙ length-take-le k row h
+
+  pub leaf-written : true ≡ constantsZero M → k ≤ length row → (d r : List ℕ) (at : ℕ) → r ≡ paste d at row k
+      → r ≡ laidOver d at (rowsAfter (take (k - left) row) (search sixteen left M))
+  leaf-written e h d r at w = w ∙ rw (leaf-root-length e h, leaf-root e)
+
+  -- none
+  leaf-none : false ≡ constantsZero M → rowsAfter (take (k - left) row) (search sixteen left M) ≡ []
+  leaf-none e = leaf-rows false (sym e) ∙ rows-none (take k row)
+
+  pub leaf-nothing : false ≡ constantsZero M → (d : List ℕ) (at : ℕ)
+      → (at ≡ at + length (rowsAfter (take (k - left) row) (search sixteen left M))) × (d ≡ laidOver d at (rowsAfter (take (k - left) row) (search sixteen left M)))
+  leaf-nothing e d at = (rw (leaf-none e) (sym (add-zero at)), rw (leaf-none e) (laid-nothing d at))
+
+-- before the first symbol nothing is written
+pub before-nothing : (prefix : List ℕ) (n : ℕ) (M : List (List ℕ)) (d : List ℕ) (at : ℕ)
+    → (at ≡ at + length (rowsBefore prefix n M 0)) × (d ≡ laidOver d at (rowsBefore prefix n M 0))
+before-nothing prefix n M d at = (rw (before-none prefix n M) (sym (add-zero at)), rw (before-none prefix n M) (laid-nothing d at))
+
+-- a level that is not the last
+pub positive : (n : ℕ) → (n ≡ 0 → ⊥) → 0 < n
+positive n f =
+    elim (decLt 0 n) [
+      | yes l ↦ l
+      | no m ↦ absurd (f (omega arith))
+    ]
+
+-- levels left fall
+pub fewer : (n t : ℕ) → n ≡ t → 0 < n → n - 1 < t
+fewer n t e h = omega arith
+
+pub fewer-fit : (n k : ℕ) → n ≤ k → n - 1 ≤ k
+fewer-fit n k h = omega arith
+
+pub same-room : (a n m : ℕ) → m ≡ n → a ≤ n → a ≤ m
+same-room a n m e h = omega arith
+
+pub row-holds : (row : List ℕ) (k : ℕ) → length row ≡ 15 → k ≤ 15 → k ≤ length row
+row-holds row k e h = omega arith
+
+-- there are at most 512 columns
+pub columns-fit : (h w : ℕ) → 0 < h → w * h ≤ 512 → w ≤ 512
+columns-fit h w pos l = let m : w * 1 ≤ w * h = mul-le-mul-left w pos in omega arith
+
+-- ---- one symbol tried
+
+front-column : (h D : ℕ) (p : List ℕ) → first (numbers sixteen) (polynomial h (suc D) p) ≡ take h p
+unfolding first columns
+front-column h D p = refl
+
+first-of : (h D : ℕ) (p : List ℕ) → first (numbers sixteen) (polynomial h (D + 1) p) ≡ take h p
+first-of h D p = ap (λ (n : ℕ). first (numbers sixteen) (polynomial h n p)) (add-one D) ∙ front-column h D p
+
+module _ (h D g : ℕ) (p : List ℕ) (y : ℕ) (e : y ≡ value (numbers sixteen) g (take h p)) where
+  first-value : value (numbers sixteen) g (first (numbers sixteen) (polynomial h (D + 1) p)) ≡ y
+  first-value = ap (value (numbers sixteen) g) (first-of h D p) ∙ sym e
+
+  pub begins-yes : y ≡ 0 → begins sixteen g (polynomial h (D + 1) p) ≡ true
+  unfolding begins
+  begins-yes z = eq-eqb (value (numbers sixteen) g (first (numbers sixteen) (polynomial h (D + 1) p))) 0 (first-value ∙ z)
+
+  pub begins-no : (y ≡ 0 → ⊥) → begins sixteen g (polynomial h (D + 1) p) ≡ false
+  unfolding begins
+  begins-no n = ne-eqb (value (numbers sixteen) g (first (numbers sixteen) (polynomial h (D + 1) p))) 0 (λ z. n (sym first-value ∙ z))
+
+module _ (k left D h : ℕ) (row p : List ℕ) (d : List ℕ) (at : ℕ) (out : List ℕ) (end g : ℕ) (hg : g < 16) (pos : 0 < left) (fits : left ≤ k) (k15 : k ≤ length row)
+    (room : at + length (rowsAfter (take (k - left) row) (search sixteen left (polynomial h (D + 1) p))) ≤ length d)
+    (he : end ≡ at + length (rowsBefore (take (k - left) row) (left - 1) (polynomial h (D + 1) p) g))
+    (ho : out ≡ laidOver d at (rowsBefore (take (k - left) row) (left - 1) (polynomial h (D + 1) p) g)) where
+  abbrev M : List (List ℕ)
+  M = polynomial h (D + 1) p
+
+  abbrev prefix : List ℕ
+  prefix = take (k - left) row
+
+  -- a symbol that begins no root
+  pub tried-none : begins sixteen g (polynomial h (D + 1) p) ≡ false
+      → (end ≡ at + length (rowsBefore (take (k - left) row) (left - 1) (polynomial h (D + 1) p) (g + 1)))
+      × (out ≡ laidOver d at (rowsBefore (take (k - left) row) (left - 1) (polynomial h (D + 1) p) (g + 1)))
+  tried-none b =
+      let f : rowsOf prefix (left - 1) M g ≡ [] =
+      ap (λ (b : Bool). rowsAfter prefix (cond b (map (λ (f : List ℕ). g ∷ f) (search sixteen (left - 1) (next sixteen g M))) [])) b ∙ rows-none prefix in
+      let e : rowsBefore prefix (left - 1) M (g + 1) ≡ rowsBefore prefix (left - 1) M g =
+      before-more prefix (left - 1) M g ∙ ap (λ (l : List ℕ). rowsBefore prefix (left - 1) M g ++ l) f ∙ append-nil (rowsBefore prefix (left - 1) M g) in
+      (rw e he, rw e ho)
+
+  module _ (h0 : 0 < h) (sp : Symbols sixteen p) (u : DegreeWithin (left - 1) D h p) (b : begins sixteen g (polynomial h (D + 1) p) ≡ true)
+      (r : List ℕ) (sr : Symbols sixteen r) (q : Handed h (D + 1) g p r) where
+    abbrev rows : List ℕ
+    rows = rowsAfter (take (k - (left - 1)) (set row (k - left) g)) (search sixteen (left - 1) (polynomial h (D + 1) r))
+
+    -- the degree of what is handed on is within the array
+    pub handed-within : DegreeWithin (left - 1 - 1) D h r
+    handed-within = under-handed sixteen sixteen-field h D h0 g hg p (q .0) r sp (q .1) sr (q .2) (q .3) (left - 1) u
+
+    longer : take (k - (left - 1)) (set row (k - left) g) ≡ prefix ++ (g ∷ [])
+    longer =
+        let e : k - (left - 1) ≡ suc (k - left) = omega arith in
+        ap (λ (n : ℕ). take n (set row (k - left) g)) e ∙ take-suc-set row (k - left) g (omega arith)
+
+    -- its rows are those of the symbol
+    handed-rows : rowsOf prefix (left - 1) M g ≡ rows
+    handed-rows =
+        ap (λ (b : Bool). rowsAfter prefix (cond b (map (λ (f : List ℕ). g ∷ f) (search sixteen (left - 1) (next sixteen g M))) [])) b
+        ∙ rows-symbol prefix g (search sixteen (left - 1) (next sixteen g M))
+        ∙ ap₂ rowsAfter (sym longer) (sym (search-handed sixteen sixteen-field h D h0 g hg p (q .0) r sp (q .1) sr (q .2) (q .3) (left - 1) u))
+
+    all-room : at + length (rowsBefore prefix (left - 1) M 16) ≤ length d
+    all-room = subst (λ (l : List ℕ). at + length l ≤ length d) (rows-all prefix left M pos) room
+
+    -- they have room
+    pub handed-room : end + length (rowsAfter (take (k - (left - 1)) (set row (k - left) g)) (search sixteen (left - 1) (polynomial h (D + 1) r))) ≤ length d
+    handed-room =
+        let a = before-room prefix (left - 1) M g hg in
+        let c = ap length handed-rows in
+        let f = all-room in
+        omega arith
+
+    -- and are written behind those before
+    pub tried-some : (e : ℕ) (o : List ℕ)
+        → e ≡ end + length (rowsAfter (take (k - (left - 1)) (set row (k - left) g)) (search sixteen (left - 1) (polynomial h (D + 1) r)))
+        → o ≡ laidOver out end (rowsAfter (take (k - (left - 1)) (set row (k - left) g)) (search sixteen (left - 1) (polynomial h (D + 1) r)))
+        → (e ≡ at + length (rowsBefore (take (k - left) row) (left - 1) (polynomial h (D + 1) p) (g + 1)))
+        × (o ≡ laidOver d at (rowsBefore (take (k - left) row) (left - 1) (polynomial h (D + 1) p) (g + 1)))
+    tried-some e o ee eo =
+        let f : rowsBefore prefix (left - 1) M (g + 1) ≡ rowsBefore prefix (left - 1) M g ++ rows =
+        before-more prefix (left - 1) M g ∙ ap (λ (l : List ℕ). rowsBefore prefix (left - 1) M g ++ l) handed-rows in
+        let n : length (rowsBefore prefix (left - 1) M (g + 1)) ≡ length (rowsBefore prefix (left - 1) M g) + length rows =
+        ap length f ∙ length-append (rowsBefore prefix (left - 1) M g) rows in
+        let a = before-room prefix (left - 1) M g hg in
+        let w = all-room in (
+          omega arith,
+          eo ∙ ap₂ (λ (x : List ℕ) (y : ℕ). laidOver x y rows) ho he ∙ laid-after d at (rowsBefore prefix (left - 1) M g) rows (omega arith)
+              ∙ ap (laidOver d at) (sym f),
+        )

@@ -1,0 +1,113 @@
+use mathlib.Core.Path.{_≡_, refl, sym, _∙_, ap, subst}
+use Prim.Native.Nat.{ℕ, _+_, _-_, _*_, _/_, _≤_, _<_}
+use lib.ListN.{length, getD, take, drop, length-set}
+use Rattle.definitions.specs.Field.{numbers, sixteen}
+use Rattle.search.proofs.Arrays.{place-within}
+use Rattle.search.specs.Columns.{loaded}
+use Rattle.roots.proofs.Loading.{some, degree-none, degree-more, degree-place}
+use native.Mathlib.Omega.{arith}
+use Rattle.roots.proofs.inside.load_degree.Statement.{statement}
+use Rattle.roots.proofs.inside.load_degree.Tie as tie
+
+abbrev Inv-loop : tie.InvT-loop
+Inv-loop p₀ coefficients j d v h b₀ p b = (b ≤ d / v + 1) × (length p ≡ length p₀) × (p ≡ loaded (numbers sixteen) h (take b (drop j coefficients)) (some h v d b) p₀)
+
+abbrev μ-loop : tie.MeasureT-loop
+μ-loop p₀ coefficients j d v h b₀ p b = d / v + 1 - b
+
+loop-holds : tie.Need-loop-holds Inv-loop μ-loop
+loop-holds c = (omega arith, refl, degree-none (c .args .h) (c .args .v) (c .args .d) (c .args .j) (c .args .coefficients .now) (c .args .p .now))
+
+div-loop : tie.Need-div-loop Inv-loop μ-loop
+div-loop c = omega arith
+
+add-p : tie.Need-add-p Inv-loop μ-loop
+add-p c = omega arith
+
+shared-slice-read-p : tie.Need-shared-slice-read-p Inv-loop μ-loop
+shared-slice-read-p c = omega arith
+
+mul-p : tie.Need-mul-p Inv-loop μ-loop
+mul-p c =
+    let l = c .before .before in
+    let s = l .before in
+    let low = degree-place (s .args .v) (s .args .d) (l .loop .b) (s .pre .0 .0) (c .before .loop-test .taken) in
+    omega arith
+
+sub-p : tie.Need-sub-p Inv-loop μ-loop
+sub-p c =
+    let l = c .before .before in
+    let s = l .before in
+    let low = degree-place (s .args .v) (s .args .d) (l .loop .b) (s .pre .0 .0) (c .before .loop-test .taken) in
+    omega arith
+
+mul-p-2 : tie.Need-mul-p-2 Inv-loop μ-loop
+mul-p-2 c =
+    let l = c .before .before in
+    let s = l .before in
+    let low = degree-place (s .args .v) (s .args .d) (l .loop .b) (s .pre .0 .0) (c .before .loop-test .taken) in
+    let i = place-within (s .args .h) (s .args .d - s .args .v * l .loop .b) (l .loop .b) (s .args .d + 1) (omega arith) (omega arith) in
+    omega arith
+
+add-p-2 : tie.Need-add-p-2 Inv-loop μ-loop
+add-p-2 c =
+    let l = c .before .before in
+    let s = l .before in
+    let low = degree-place (s .args .v) (s .args .d) (l .loop .b) (s .pre .0 .0) (c .before .loop-test .taken) in
+    let i = place-within (s .args .h) (s .args .d - s .args .v * l .loop .b) (l .loop .b) (s .args .d + 1) (omega arith) (omega arith) in
+    omega arith
+
+slice-write-p : tie.Need-slice-write-p Inv-loop μ-loop
+slice-write-p c =
+    let l = c .before .before in
+    let s = l .before in
+    let low = degree-place (s .args .v) (s .args .d) (l .loop .b) (s .pre .0 .0) (c .before .loop-test .taken) in
+    let i = place-within (s .args .h) (s .args .d - s .args .v * l .loop .b) (l .loop .b) (s .args .d + 1) (omega arith) (omega arith) in
+    omega arith
+
+add-b : tie.Need-add-b Inv-loop μ-loop
+add-b c = omega arith
+
+loop-less : tie.Need-loop-less Inv-loop μ-loop
+loop-less c = omega arith
+
+loop-again : tie.Need-loop-again Inv-loop μ-loop
+loop-again c =
+    let l = c .before .before in
+    let s = l .before in
+    let low = degree-place (s .args .v) (s .args .d) (l .loop .b) (s .pre .0 .0) (c .before .loop-test .taken) in (
+      omega arith,
+      length-set (l .loop .p) ((s .args .d - s .args .v * l .loop .b) * s .args .h + l .loop .b) (getD (s .args .coefficients .now) (s .args .j + l .loop .b) 0) ∙ l .loop .inv .1,
+      degree-more (s .args .h) (s .args .v) (s .args .d) (s .args .j) (l .loop .b) (s .args .coefficients .now) (s .args .p .now) (l .loop .p) (omega arith) (l .loop .inv .2),
+    )
+
+same-length : tie.Need-same-length Inv-loop μ-loop
+same-length c = c .before .loop .inv .1
+
+returns : tie.Need-returns Inv-loop μ-loop
+returns c =
+    let l = c .before in
+    let s = l .before in
+    let e : l .loop .b ≡ s .args .d / s .args .v + 1 = omega arith in
+    rw e at (l .loop .inv .2)
+
+pub load-degree-spec : {M : Type 1} → statement M
+load-degree-spec =
+    tie.close
+    (tie.spec
+    Inv-loop
+    μ-loop
+    loop-holds
+    div-loop
+    add-p
+    shared-slice-read-p
+    mul-p
+    sub-p
+    mul-p-2
+    add-p-2
+    slice-write-p
+    add-b
+    loop-less
+    loop-again
+    same-length
+    returns)

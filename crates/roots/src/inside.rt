@@ -1,0 +1,140 @@
+// y-roots of what is within limits already.
+ghost use mathlib.Core.Bool.{Bool, false};
+ghost use mathlib.Core.List.{_++_, map, flatMap};
+ghost use mathlib.Core.Path.{_≡_};
+ghost use Prim.Native.Nat.{ℕ, suc, _+_, _-_, _*_, _/_, _≤_, _<_};
+ghost use lib.ListN.{length, take, drop};
+ghost use lib.Seq.{paste};
+ghost use Rattle.definitions.specs.Answers.{rowsOnto};
+ghost use Rattle.definitions.specs.Bound.{count};
+ghost use Rattle.definitions.specs.Code.{Symbols};
+ghost use Rattle.definitions.specs.Field.{numbers, sixteen};
+ghost use Rattle.definitions.specs.Polynomial.{monomialsOf, monomials, isZero};
+ghost use Rattle.definitions.specs.Roots.{rootsOf};
+ghost use Rattle.field.specs.Table.{Products};
+ghost use Rattle.search.specs.Columns.{loaded};
+ghost use Rattle.search.specs.Tree.{zeros, search};
+ghost use Rattle.roots.specs.Array.{polynomial, DegreeWithin, rowsAfter, laidOver};
+use crate::array;
+
+pub fn all_zero(list: &[u8]) -> bool
+    ensures { λ r. ⌜ r ≡ isZero (now (list .entry)) ⌝ }
+{
+    let mut i = 0;
+    while i < list.len() {
+        if list[i] != 0 {
+            return false;
+        }
+        i += 1;
+    }
+    true
+}
+
+// The coefficients of weighted degree d, from place j of the list on, each to its place.
+fn load_degree(p: &mut [u8], coefficients: &[u8], j: usize, d: usize, v: usize, h: usize)
+    requires { ⌜ (0 < v) × (d / v < h) × ((d + 1) * h ≤ length (now p)) ⌝ }
+    requires { ⌜ j + (d / v + 1) ≤ length (now coefficients) ⌝ }
+    ensures { λ _. ⌜ now (p .exit) ≡ loaded (numbers sixteen) h (take (d / v + 1) (drop j (now (coefficients .entry)))) (monomialsOf v d) (now (p .entry)) ⌝ }
+{
+    let mut b = 0;
+    while b <= d / v {
+        p[(d - v * b) * h + b] = coefficients[j + b];
+        b += 1;
+    }
+}
+
+// The coefficients of a polynomial with degree limit `degree`, each to its place.
+fn load(coefficients: &[u8], degree: usize, v: usize) -> [u8; 512]
+    requires { ⌜ (0 < v) × ((degree + 1) * (degree / v + 1) ≤ 512) ⌝ }
+    requires { ⌜ length (now coefficients) ≡ count v degree ⌝ }
+    ensures { λ r. ⌜ r ≡ loaded (numbers sixteen) (degree / v + 1) (now (coefficients .entry)) (monomials v degree) (zeros 512) ⌝ }
+{
+    let mut p = [0u8; 512];
+    let h = degree / v + 1;
+    let mut j = 0;
+    let mut d = 0;
+    while d <= degree {
+        load_degree(&mut p, coefficients, j, d, v, h);
+        j += d / v + 1;
+        d += 1;
+    }
+    p
+}
+
+fn write_row(out: &mut [u8], at: usize, row: [u8; 15], k: usize)
+    requires { ⌜ (k ≤ 15) × (at + k ≤ length (now out)) ⌝ }
+    ensures { λ _. ⌜ now (out .exit) ≡ paste (now (out .entry)) at row k ⌝ }
+{
+    let mut i = 0;
+    while i < k {
+        out[at + i] = row[i];
+        i += 1;
+    }
+}
+
+// Every way to go on from the prefix of k - left symbols in `row`: writes the rows from `at` on, and answers the place after them.
+pub fn search(
+    table: &[u8; 256],
+    p: [u8; 512],
+    degree: usize,
+    h: usize,
+    row: [u8; 15],
+    k: usize,
+    left: usize,
+    out: &mut [u8],
+    at: usize,
+) -> usize
+    requires { ⌜ Products (now table) ⌝ }
+    requires { ⌜ Symbols sixteen p ⌝ }
+    requires { ⌜ (0 < h) × (h ≤ 32) × ((degree + 1) * h ≤ 512) × (left ≤ k) × (k ≤ 15) ⌝ }
+    requires { ⌜ DegreeWithin (left - 1) degree h p ⌝ }
+    requires { ⌜ at + length (rowsAfter (take (k - left) row) (search sixteen left (polynomial h (degree + 1) p))) ≤ length (now out) ⌝ }
+    ensures { λ r. ⌜ r ≡ at + length (rowsAfter (take (k - left) row) (search sixteen left (polynomial h (degree + 1) p))) ⌝ }
+    ensures { λ _. ⌜ now (out .exit) ≡ laidOver (now (out .entry)) at (rowsAfter (take (k - left) row) (search sixteen left (polynomial h (degree + 1) p))) ⌝ }
+{
+    if left == 0 {
+        if array::constants_zero(&p, h, degree + 1) {
+            write_row(out, at, row, k);
+            return at + k;
+        }
+        return at;
+    }
+    let mut end = at;
+    let mut g = 0u8;
+    while g < 16 {
+        if array::first_value(table, &p, h, g) == 0 {
+            let mut next = row;
+            next[k - left] = g;
+            end = search(
+                table,
+                array::handed(table, &p, h, degree + 1, g),
+                degree,
+                h,
+                next,
+                k,
+                left - 1,
+                out,
+                end,
+            );
+        }
+        g += 1;
+    }
+    end
+}
+
+// The rows of all y-roots, to the front of out; answers how many there are.
+pub fn roots_into(degree: usize, k: usize, coefficients: &[u8], out: &mut [u8]) -> usize
+    requires { ⌜ (2 ≤ k) × (k ≤ 15) × (count (k - 1) degree ≤ 256) ⌝ }
+    requires { ⌜ (length (now coefficients) ≡ count (k - 1) degree) × (k * (degree / (k - 1)) ≤ length (now out)) ⌝ }
+    requires { ⌜ Symbols sixteen (now coefficients) ⌝ }
+    requires { ⌜ isZero (now coefficients) ≡ false ⌝ }
+    ensures { λ r. ⌜ r ≡ length (rootsOf sixteen degree k (now (coefficients .entry))) ⌝ }
+    ensures { λ _. ⌜ now (out .exit) ≡ rowsOnto sixteen k (rootsOf sixteen degree k (now (coefficients .entry))) (now (out .entry)) ⌝ }
+{
+    let table = field::inside::products();
+    let h = degree / (k - 1) + 1;
+    let loaded = load(coefficients, degree, k - 1);
+    let p = array::freed(&loaded, h, degree + 1);
+    let row = [0u8; 15];
+    search(&table, p, degree, h, row, k, k, out, 0) / k
+}

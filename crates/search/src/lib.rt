@@ -1,0 +1,1 @@
+// The search for y-roots: definitions and laws only.
