@@ -1,0 +1,135 @@
+-- The chain of the list: the roots of what interpolates hold the high scores, their rows are ranked, and that is the list.
+-- Assumes nothing.
+use mathlib.Core.Bool.{false}
+use mathlib.Core.List.{List, [], _∷_, _++_, map, flatten, List·Memᴰ, List·Memᴰ·head, List·Memᴰ·tail}
+use mathlib.Core.Path.{_≡_, refl, sym, _∙_, ap, subst}
+use Prim.Native.Nat.{ℕ, zero, suc, _+_, _*_, _-_, _/_, _≤_, _<_}
+use native.Mathlib.Decide.{decLt}
+use native.Mathlib.Nat.{mul-le-mul}
+use native.Mathlib.Omega.{arith}
+use lib.Dec.{ltb}
+use lib.ListN.{length, take, drop, getD, replicate, length-append, length-drop}
+use lib.Seq.{getD-drop}
+use Rattle.algebra.proofs.Complete.{roots-hold-high-scores}
+use Rattle.algebra.proofs.Elements.{zero-symbol}
+use Rattle.algebra.proofs.Every.{All}
+use Rattle.definitions.proofs.Messages.{messages-in-order}
+use Rattle.definitions.proofs.Tools.{select-from}
+use Rattle.definitions.specs.Answers.{rowsOnto, scoresOnto}
+use Rattle.definitions.specs.Bound.{count, bound}
+use Rattle.definitions.specs.Code.{Symbols, messages}
+use Rattle.definitions.specs.Field.{sixteen}
+use Rattle.definitions.specs.Listing.{fallingOnto, listOf}
+use Rattle.definitions.specs.Polynomial.{Interpolates, isZero}
+use Rattle.definitions.specs.Roots.{isRoot, rootsOf}
+use Rattle.definitions.specs.Weights.{cost, score}
+use Rattle.field.proofs.Instance.{sixteen-field}
+use Rattle.list.proofs.Degrees.{powers-of-y}
+use Rattle.list.specs.Within.{Lists}
+use Rattle.ranking.proofs.Levels.{all-ranked}
+use Rattle.ranking.proofs.Memory.{rows-read}
+use Rattle.ranking.proofs.Same.{ranked-same, map-same}
+use Rattle.ranking.proofs.Scores.{matrix-score}
+use Rattle.ranking.proofs.Written.{Sized, length-flatten}
+use Rattle.ranking.specs.Rows.{rowsOf, matrixScore, ranked, scoresOf}
+use Rattle.search.proofs.Roots.{roots-at-most}
+use Rattle.weights.specs.Matrix.{matrixOf}
+
+-- what holds of every member holds of all
+all-members : {B : Type 0} (P : B → Type 0) (l : List B) → ((x : B) → List·Memᴰ x l → P x) → All P l
+all-members P [] h = tt
+all-members P (x ∷ l) h = (h x (List·Memᴰ·head refl), all-members P l (λ y m. h y (List·Memᴰ·tail m)))
+
+-- lists of symbols, one behind the other
+symbols-append : (a b : List ℕ) → Symbols sixteen a → Symbols sixteen b → Symbols sixteen (a ++ b)
+symbols-append [] b sa sb j = sb j
+symbols-append (x ∷ a) b sa sb zero = sa zero
+symbols-append (x ∷ a) b sa sb (suc j) = symbols-append a b (λ i. sa (suc i)) sb j
+
+symbols-flatten : (rows : List (List ℕ)) → All (λ f. Symbols sixteen f) rows → Symbols sixteen (flatten rows)
+unfolding flatten
+symbols-flatten [] h j = omega arith
+symbols-flatten (f ∷ rows) h j = symbols-append f (flatten rows) (h .0) (symbols-flatten rows (h .1)) j
+
+module _ (D k : ℕ) (q : List ℕ) where
+  root-member : (f : List ℕ) → List·Memᴰ f (rootsOf sixteen D k q) → List·Memᴰ f (messages sixteen k)
+  root-member f m = select-from (isRoot sixteen (k - 1) D q) (messages sixteen k) f m
+
+  -- roots are messages: k symbols each
+  pub roots-sized : Sized k (rootsOf sixteen D k q)
+  roots-sized = all-members (λ f. length f ≡ k) (rootsOf sixteen D k q) (λ f m. messages-in-order sixteen (zero-symbol sixteen sixteen-field) k .sized f (root-member f m))
+
+  pub roots-symbols : All (λ f. Symbols sixteen f) (rootsOf sixteen D k q)
+  roots-symbols = all-members (λ f. Symbols sixteen f) (rootsOf sixteen D k q) (λ f m. messages-in-order sixteen (zero-symbol sixteen sixteen-field) k .symbols f (root-member f m))
+
+  -- memory that held symbols holds symbols after they are written
+  pub found-symbols : (before found : List ℕ) → Symbols sixteen before → found ≡ rowsOnto sixteen k (rootsOf sixteen D k q) before → Symbols sixteen found
+  found-symbols before found s e =
+      subst (λ (l : List ℕ). Symbols sixteen l) (sym e)
+      (symbols-append (flatten (rootsOf sixteen D k q)) (drop (k * length (rootsOf sixteen D k q)) before) (symbols-flatten (rootsOf sixteen D k q) roots-symbols)
+      (λ j. rw (getD-drop (k * length (rootsOf sixteen D k q)) before j 0) (s (k * length (rootsOf sixteen D k q) + j))))
+
+-- zeros are symbols
+pub zeros-symbols : (n : ℕ) → Symbols sixteen (replicate n 0)
+zeros-symbols zero j = omega arith
+zeros-symbols (suc n) zero = omega arith
+zeros-symbols (suc n) (suc j) = zeros-symbols n j
+
+module _ (m q : List ℕ) (n k D : ℕ) (hk : 2 ≤ k) (hn : k ≤ n) (small : n ≤ 15) (size : length m ≡ 16 * n) (cheap : cost m ≤ 150)
+    (is-bound : D ≡ bound (k - 1) (cost m)) (i : Interpolates sixteen n (k - 1) D m q) where
+  -- at most sixteen, and room for them
+  pub few-roots : (length (rootsOf sixteen D k q) ≤ 16) × (k * (D / (k - 1)) ≤ 240)
+  few-roots =
+      let powers : D / (k - 1) ≤ 16 = subst (λ (d : ℕ). d / (k - 1) ≤ 16) (sym is-bound) (powers-of-y (k - 1) (cost m) (omega arith) (omega arith) cheap) in
+      let most = roots-at-most sixteen sixteen-field k D hk q (i .symbols) (let e = i .size in omega arith) (i .nonzero) in
+      (omega arith, mul-le-mul {n₁ = k} {m₁ = D / (k - 1)} {n₂ = 15} {m₂ = 16} (omega arith) powers)
+
+  -- the ranking of the roots is the list
+  list-of-roots : ranked (score sixteen n m) D (rootsOf sixteen D k q) ≡ listOf sixteen n k m
+  unfolding ranked
+  list-of-roots =
+      ap (fallingOnto (score sixteen n m) []) (roots-hold-high-scores sixteen sixteen-field n k D D m q (omega arith) small (i .symbols) (i .through) (omega arith)
+      ∙ ap (λ (d : ℕ). Rattle.definitions.specs.Tools.select (λ (f : List ℕ). ltb d (score sixteen n m f)) (messages sixteen k)) is-bound)
+
+  agree : All (λ f. matrixScore (matrixOf m n) n f ≡ score sixteen n m f) (rootsOf sixteen D k q)
+  agree = all-members (λ f. matrixScore (matrixOf m n) n f ≡ score sixteen n m f) (rootsOf sixteen D k q) (λ f e.
+      matrix-score m n small size f (messages-in-order sixteen (zero-symbol sixteen sixteen-field) k .symbols f (root-member D k q f e)))
+
+  ranked-is-list : (a : List (List ℕ)) (before found : List ℕ) (many : ℕ) → a ≡ matrixOf m n → many ≡ length (rootsOf sixteen D k q) → found ≡ rowsOnto sixteen k (rootsOf sixteen D k q) before
+      → ranked (matrixScore a n) D (rowsOf k many found) ≡ listOf sixteen n k m
+  ranked-is-list a before found many ea em ef =
+      ap (λ (x : List (List ℕ)). ranked (matrixScore x n) D (rowsOf k many found)) ea
+      ∙ ap (ranked (matrixScore (matrixOf m n) n) D) (rows-read k (rootsOf sixteen D k q) before found many (roots-sized D k q) em ef)
+      ∙ ranked-same (matrixScore (matrixOf m n) n) (score sixteen n m) D (rootsOf sixteen D k q) agree ∙ list-of-roots
+
+  -- the scores are the list's
+  listed-scores : map (matrixScore (matrixOf m n) n) (listOf sixteen n k m) ≡ map (score sixteen n m) (listOf sixteen n k m)
+  listed-scores =
+      map-same (matrixScore (matrixOf m n) n) (score sixteen n m) (listOf sixteen n k m)
+      (subst (λ (l : List (List ℕ)). All (λ f. matrixScore (matrixOf m n) n f ≡ score sixteen n m f) l) list-of-roots
+      (all-ranked (score sixteen n m) (λ f. matrixScore (matrixOf m n) n f ≡ score sixteen n m f) D (rootsOf sixteen D k q) agree))
+
+  pub lists : (a : List (List ℕ)) (before found : List ℕ) (many : ℕ) → a ≡ matrixOf m n → many ≡ length (rootsOf sixteen D k q) → found ≡ rowsOnto sixteen k (rootsOf sixteen D k q) before
+      → (out scores : List ℕ) (count : ℕ) (outAfter scoresAfter : List ℕ) → count ≡ length (ranked (matrixScore a n) D (rowsOf k many found))
+      → outAfter ≡ rowsOnto sixteen k (ranked (matrixScore a n) D (rowsOf k many found)) out → scoresAfter ≡ scoresOf (matrixScore a n) (ranked (matrixScore a n) D (rowsOf k many found)) scores
+      → Lists n k m out scores count outAfter scoresAfter
+  lists a before found many ea em ef out scores count outAfter scoresAfter ec eo es =
+      let e = ranked-is-list a before found many ea em ef in
+      record {
+        counted = ec ∙ ap length e;
+        rows-are = eo ∙ ap (λ (l : List (List ℕ)). rowsOnto sixteen k l out) e;
+        scores-are =
+            es ∙ ap (λ (l : List (List ℕ)). scoresOf (matrixScore a n) l scores) e ∙ ap (λ (x : List (List ℕ)). scoresOf (matrixScore x n) (listOf sixteen n k m) scores) ea
+            ∙ ap (λ (l : List ℕ). l ++ drop (length (listOf sixteen n k m)) scores) listed-scores;
+      }
+
+-- memory is as long after roots are written
+pub length-found : (D k : ℕ) (q before found : List ℕ) → k * length (rootsOf sixteen D k q) ≤ length before → found ≡ rowsOnto sixteen k (rootsOf sixteen D k q) before → length found ≡ length before
+length-found D k q before found h e =
+    let size = length-flatten k (rootsOf sixteen D k q) (roots-sized D k q) in
+    ap length e ∙ length-append (flatten (rootsOf sixteen D k q)) (drop (k * length (rootsOf sixteen D k q)) before)
+    ∙ ap (λ (x : ℕ). length (flatten (rootsOf sixteen D k q)) + x) (length-drop (k * length (rootsOf sixteen D k q)) before) ∙ omega arith
+
+-- sixteen rows of fifteen symbols
+pub rows-fit : (k many : ℕ) → k ≤ 15 → many ≤ 16 → k * many ≤ 240
+rows-fit k many hk hm = mul-le-mul {n₁ = k} {m₁ = many} {n₂ = 15} {m₂ = 16} hk hm

@@ -1,0 +1,3 @@
+pub mod Degrees
+pub mod Laws
+pub mod Facts
