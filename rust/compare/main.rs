@@ -3,8 +3,10 @@
 
 #[path = "../answer.rs"]
 mod answer;
+#[allow(dead_code)] // until every entry is compared
 #[path = "../library.rs"]
 mod library;
+#[allow(dead_code)] // until every entry is compared
 #[path = "../second/mod.rs"]
 mod second;
 

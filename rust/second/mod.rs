@@ -4,5 +4,11 @@
 pub mod bound;
 pub mod code;
 pub mod field;
+pub mod interpolation;
+pub mod list;
+mod polynomial;
+pub mod program;
 mod refusal;
+pub mod roots;
+mod search;
 pub mod weights;
