@@ -7,6 +7,7 @@ pub mod field;
 pub mod interpolation;
 pub mod list;
 mod polynomial;
+#[allow(dead_code)] // only the comparison of programs asks for it
 pub mod program;
 mod refusal;
 pub mod roots;
