@@ -13,7 +13,7 @@ use crate::second::bound::{cost, GREATEST_LIMIT, GREATEST_MULTIPLICITY};
 use crate::second::field::SYMBOLS;
 use crate::tags::{
     close_codewords, hard_word, hard_words, matrix_of, multiplicity, random_codeword,
-    random_matrix, soft_weights, with_wrong_marks, within_cost,
+    random_matrix, soft_weights, with_wrong_marks, within_cost, words_of_one_more,
 };
 use crate::tally::{Outcome, Tally};
 
@@ -194,10 +194,11 @@ impl Comparison {
     fn words_together(&mut self, n: usize, k: usize) {
         for count in 2..=MOST_WORDS_TOGETHER {
             let close = close_codewords(&mut self.random, n, k, count);
+            let too_long = words_of_one_more(&mut self.random, n, k, count);
             let mut random = || random_codeword(&mut self.random, n, k);
             let any: Vec<Vec<u8>> = (0..count).map(|_| random()).collect();
             for m in 1..=2 {
-                for words in [&close, &any] {
+                for words in [&close, &too_long, &any] {
                     let matrix = hard_words(words, m);
                     let matrix = within_cost(&mut self.random, matrix, GREATEST_LIMIT);
                     self.seen.word(k, &matrix, &words[0]);

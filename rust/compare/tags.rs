@@ -4,7 +4,7 @@ use crate::random::Random;
 use crate::second;
 use crate::second::bound::{cost, cost_of_entry, GREATEST_MULTIPLICITY};
 use crate::second::code::x_of;
-use crate::second::field::{plus, times, GREATEST_SYMBOL, SYMBOLS};
+use crate::second::field::{plus, power, times, GREATEST_SYMBOL, SYMBOLS};
 use crate::second::weights::WHOLE;
 
 pub fn codeword(n: usize, message: &[u8]) -> Vec<u8> {
@@ -28,6 +28,14 @@ pub fn close_codewords(random: &mut Random, n: usize, k: usize, count: usize) ->
         factors.fold(1, times)
     };
     let symbol = |i: usize, c: usize| plus(base[i], times(c as u8, difference(i)));
+    let word = |c: usize| (0..n).map(|i| symbol(i, c)).collect();
+    (0..count).map(word).collect()
+}
+
+/// A codeword, and words of the same message with a symbol too many, no two of them the same.
+pub fn words_of_one_more(random: &mut Random, n: usize, k: usize, count: usize) -> Vec<Vec<u8>> {
+    let base = random_codeword(random, n, k);
+    let symbol = |i: usize, c: usize| plus(base[i], times(c as u8, power(x_of(i), k)));
     let word = |c: usize| (0..n).map(|i| symbol(i, c)).collect();
     (0..count).map(word).collect()
 }
