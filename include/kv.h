@@ -92,9 +92,9 @@ struct kv_answer kv_cost_and_bound(size_t n, size_t k,
  * bound: as kv_cost_and_bound answers it.
  * count: of the monomials of weighted degree at most bound, 167 or fewer.
  * Memory: out[j], for j from 0 to count-1, is the coefficient of the monomial j in their order, of
- * the one polynomial that is not zero, passes through each (alpha^i, b) as often as the matrix says,
- * has the smallest leading monomial of all that do, and leading coefficient 1; out from count on
- * stays.
+ * the one polynomial that is not zero, passes through each (alpha^i, b) as often as the matrix
+ * says, has the smallest leading monomial of all that do, and leading coefficient 1; out from count
+ * on stays.
  * Refusals: 1 unless 2 <= k <= n <= 15; 2 where limit is above 150; 3 where matrix_len is not 16n;
  * 4 where out_len is below 167; 5 where an entry is above 4, place its index, the first one's; 7
  * where the matrix's cost is above limit.
@@ -104,8 +104,8 @@ struct kv_answer kv_interpolate(size_t n, size_t k, size_t limit,
                                 uint8_t *out, size_t out_len);
 
 /*
- * coefficients[j] is that of the monomial j, in kv_interpolate's order, of a polynomial Q of weighted
- * degree at most degree. N is the number of these monomials.
+ * coefficients[j] is that of the monomial j, in kv_interpolate's order, of a polynomial Q. N is the
+ * number of monomials of weighted degree at most degree.
  * count: of the messages of k symbols, f being a message's polynomial, for which Q(x, f(x)) is zero
  * identically; at most the whole part of degree / (k-1).
  * Memory: out[kr + j], for r from 0 to count-1 and j from 0 to k-1, is symbol j of message r; each
@@ -122,8 +122,8 @@ struct kv_answer kv_roots(size_t degree, size_t k,
 /*
  * The matrix has the multiplicity of position i, symbol b at 16i + b. The score of a message is the
  * sum, over positions, of the entry at its codeword's symbol.
- * count: of the messages of k symbols whose score is above the bound that kv_cost_and_bound answers,
- * 16 or fewer.
+ * count: of the messages of k symbols whose score is above the bound that kv_cost_and_bound
+ * answers, 16 or fewer.
  * Memory: rows[kr + j], for r from 0 to count-1 and j from 0 to k-1, is symbol j of the message of
  * row r, and scores[r] its score; each message is there once, highest score first, equal scores
  * ordered by symbol 0, then symbol 1 and so on, smaller first; rows from k * count on and scores

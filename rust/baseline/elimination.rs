@@ -24,7 +24,7 @@ fn multiples(row: &Row) -> [Row; SYMBOLS] {
     multiples
 }
 
-/// Puts the row found at `found` into place, with 1 in its column, and clears that column elsewhere.
+/// Puts the row at `found` into its place, with 1 in the column, and clears that column elsewhere.
 fn pivot(rows: &mut [Row], column: usize, found: usize) {
     rows.swap(column, found);
     let factor = inverse(rows[column][column]);

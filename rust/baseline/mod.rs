@@ -1,5 +1,5 @@
 //! The proved library's own algorithm in plain safe Rust, to be timed against it: elimination over
-//! the monomials in order, the root search of Roth and Ruckenstein, and the roots filtered by score.
+//! the monomials in order, the root search of Roth and Ruckenstein, the roots filtered by score.
 //! Inputs are those that the library accepts; nothing is refused here.
 
 mod elimination;

@@ -77,8 +77,8 @@ impl Comparison {
         self.call(&call);
     }
 
-    /// A matrix of little cost, one that costs too much for any limit, and both with a bad entry, so
-    /// that every other fault also meets these.
+    /// A matrix of little cost, one that costs too much for any limit, and both with a bad entry,
+    /// so that every other fault also meets these.
     fn good_and_bad(&mut self, call: Call, length: usize) {
         let mut cheap = vec![0; length];
         if length > 0 {

@@ -72,10 +72,12 @@ impl Comparison {
 
     fn accepted(&mut self, k: usize, matrix: Vec<u8>) {
         let wanted = Room::asked_for(k);
+        let cost = cost(&matrix);
+        let most = [cost, GREATEST_LIMIT][self.random.between(0, 1)];
         let call = Call {
             n: matrix.len() / SYMBOLS,
             k,
-            limit: self.random.between(cost(&matrix), GREATEST_LIMIT),
+            limit: self.random.between(cost, most),
             matrix,
             room: Room {
                 rows: wanted.rows + self.random.between(0, MOST_SPARE_ROOM),
@@ -85,8 +87,8 @@ impl Comparison {
         self.call(&call);
     }
 
-    /// A matrix of little cost, one that costs too much for any limit, and both with a bad entry, so
-    /// that every other fault also meets these.
+    /// A matrix of little cost, one that costs too much for any limit, and both with a bad entry,
+    /// so that every other fault also meets these.
     fn good_and_bad(&mut self, call: &Call, length: usize) {
         let costly = vec![GREATEST_MULTIPLICITY; length];
         for matrix in [vec![0; length], costly] {

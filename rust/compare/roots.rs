@@ -113,8 +113,8 @@ impl Comparison {
         });
     }
 
-    /// Coefficients in good number, and those with a bad one, with none but zeros, and with a bad one
-    /// among zeros, so that every other fault also meets these.
+    /// Good coefficients, nothing but zeros, and both with a bad one, so that every other fault
+    /// also meets these.
     fn good_and_bad(&mut self, call: &Call, length: usize) {
         let zeros = vec![0; length];
         let mut good = self.random.bytes(length, GREATEST_SYMBOL);
@@ -234,8 +234,8 @@ impl Comparison {
         message
     }
 
-    /// Roots planted up to so many: new ones, ones that are there already, and polynomials of degree
-    /// k that look like roots.
+    /// A polynomial with so many factors y plus f, or as many as the degree holds: f is a message,
+    /// one that was taken already, or of degree k.
     fn planted(&mut self, degree: usize, k: usize, most: usize) -> Vec<u8> {
         let v = k - 1;
         let mut left = degree;

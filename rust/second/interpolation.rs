@@ -1,5 +1,5 @@
-//! The interpolating polynomial, by Koetter's algorithm: for each power of y the smallest polynomial
-//! that leads with it and meets the conditions so far; then the smallest of these.
+//! The interpolating polynomial, by Koetter's algorithm: for each power of y the smallest one that
+//! leads with that power and meets the conditions so far; in the end the smallest of these.
 //!
 //! Two polynomials that pass, lead with the same smallest monomial and have leading coefficient 1
 //! are equal, for their difference passes and would lead with a smaller one.

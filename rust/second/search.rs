@@ -84,7 +84,7 @@ struct Search {
 }
 
 impl Search {
-    /// Goes on where the first `fixed` positions from `start` on have their symbols and lose `lost`.
+    /// Goes on where so many positions from `start` on have their symbols, which lose `lost`.
     fn go_on(&mut self, start: usize, fixed: usize, lost: usize) {
         let all = self.columns.len();
         if lost * all > self.spare * fixed {
