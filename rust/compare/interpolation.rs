@@ -1,4 +1,5 @@
 use crate::answer::Answer;
+use crate::cost_and_bound::matrix_of_cost;
 use crate::edges::{hold, Line};
 use crate::inputs::{
     allowed_pairs, huge_pairs, huge_sizes, lengths_around, lengths_like, looks_like, small_sizes,
@@ -13,8 +14,8 @@ use crate::second::field::SYMBOLS;
 use crate::second::interpolation::ROOM_FOR_COEFFICIENTS;
 use crate::second::weights::WHOLE;
 use crate::tags::{
-    hard_word, matrix_of, multiplicity, random_codeword, random_matrix, soft_weights,
-    with_wrong_marks, within_cost,
+    hard_word, matrix_of, multiplicity, random_codeword, random_matrix, shuffled, soft_weights,
+    with_wrong_marks,
 };
 use crate::tally::{Outcome, Tally};
 
@@ -195,11 +196,10 @@ impl Comparison {
 
     /// Limits on both sides of the cost, and costs on both sides of the greatest limit.
     fn limits(&mut self, n: usize, k: usize) {
-        for most_cost in [GREATEST_LIMIT / 4, GREATEST_LIMIT, GREATEST_LIMIT + 1] {
-            let full = vec![GREATEST_MULTIPLICITY; SYMBOLS * n];
-            let matrix = within_cost(&mut self.random, full, most_cost);
-            let cost = cost(&matrix);
-            let beside = [cost.saturating_sub(1), cost, cost + 1, GREATEST_LIMIT];
+        for cost in [1, GREATEST_LIMIT - 1, GREATEST_LIMIT, GREATEST_LIMIT + 1] {
+            let matrix = matrix_of_cost(n, cost).expect("two positions have room for this cost");
+            let matrix = shuffled(&mut self.random, matrix);
+            let beside = [cost - 1, cost, cost + 1, GREATEST_LIMIT];
             for limit in beside.into_iter().chain(huge_sizes()) {
                 self.call(&Call {
                     n,

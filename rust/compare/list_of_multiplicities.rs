@@ -1,5 +1,6 @@
 use crate::answer::Answer;
-use crate::edges::hold;
+use crate::cost_and_bound::matrix_of_cost;
+use crate::edges::{hold, Line};
 use crate::inputs::{
     allowed_pairs, huge_pairs, huge_sizes, lengths_around, lengths_like, looks_like, small_sizes,
     with_entry,
@@ -11,9 +12,10 @@ use crate::random::Random;
 use crate::second;
 use crate::second::bound::{cost, GREATEST_LIMIT, GREATEST_MULTIPLICITY};
 use crate::second::field::SYMBOLS;
+use crate::second::weights::WHOLE;
 use crate::tags::{
     close_codewords, hard_word, hard_words, matrix_of, multiplicity, random_codeword,
-    random_matrix, soft_weights, with_wrong_marks, within_cost, words_of_one_more,
+    random_matrix, shuffled, soft_weights, with_wrong_marks, within_cost, words_of_one_more,
 };
 use crate::tally::{Outcome, Tally};
 
@@ -183,7 +185,7 @@ impl Comparison {
             let wrong = self.random.between(0, (n - k) / 2 + 2);
             let word = with_wrong_marks(&mut self.random, &right, wrong);
             let level = multiplicity(&mut self.random);
-            let share = self.random.between(1, 16) * 256;
+            let share = self.random.between(0, WHOLE as usize);
             let soft = soft_weights(&mut self.random, &word, share);
             for matrix in [hard_word(&word, level), matrix_of(&soft, level.into())] {
                 self.seen.word(k, &matrix, &right);
@@ -248,11 +250,10 @@ impl Comparison {
 
     /// Limits on both sides of the cost, and costs on both sides of the greatest limit.
     fn limits(&mut self, n: usize, k: usize) {
-        for most_cost in [GREATEST_LIMIT / 4, GREATEST_LIMIT, GREATEST_LIMIT + 1] {
-            let full = vec![GREATEST_MULTIPLICITY; SYMBOLS * n];
-            let matrix = within_cost(&mut self.random, full, most_cost);
-            let cost = cost(&matrix);
-            let beside = [cost.saturating_sub(1), cost, cost + 1, GREATEST_LIMIT];
+        for cost in [1, GREATEST_LIMIT - 1, GREATEST_LIMIT, GREATEST_LIMIT + 1] {
+            let matrix = matrix_of_cost(n, cost).expect("two positions have room for this cost");
+            let matrix = shuffled(&mut self.random, matrix);
+            let beside = [cost - 1, cost, cost + 1, GREATEST_LIMIT];
             for limit in beside.into_iter().chain(huge_sizes()) {
                 self.call(&Call {
                     n,
@@ -266,7 +267,7 @@ impl Comparison {
     }
 }
 
-fn lines_of(list: Entry) -> Vec<crate::edges::Line> {
+fn lines_of(list: Entry) -> Vec<Line> {
     lines(|n, k, _, limit, matrix, rows, scores| list(n, k, limit, matrix, rows, scores))
 }
 

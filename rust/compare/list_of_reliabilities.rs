@@ -19,10 +19,10 @@ use crate::tally::{Outcome, Tally};
 const LEAST_CALLS: usize = 295_000;
 const LEAST_SEEN: Seen = Seen {
     lists: 4_500,
-    lists_of_many: 750,
-    longest: 5,
+    lists_of_many: 700,
+    longest: 4,
     equal_scores: 1_000,
-    scores_just_above: 300,
+    scores_just_above: 250,
     scores_at_bound: 1_000,
 };
 const SEED: u64 = 7;
@@ -196,7 +196,7 @@ impl Comparison {
             let right = random_codeword(&mut self.random, call.n, call.k);
             let wrong = self.random.between(0, (call.n - call.k) / 2 + 2);
             let word = with_wrong_marks(&mut self.random, &right, wrong);
-            let share = self.random.between(1, 16) * 256;
+            let share = self.random.between(0, WHOLE as usize);
             let weights = soft_weights(&mut self.random, &word, share);
             for level in LEAST_LEVEL..=GREATEST_LEVEL {
                 let matrix = matrix_of(&weights, level);

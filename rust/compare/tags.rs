@@ -7,14 +7,10 @@ use crate::second::code::x_of;
 use crate::second::field::{plus, power, times, GREATEST_SYMBOL, SYMBOLS};
 use crate::second::weights::WHOLE;
 
-pub fn codeword(n: usize, message: &[u8]) -> Vec<u8> {
-    let mut codeword = vec![0; n];
-    second::code::encode(n, message.len(), message, &mut codeword);
-    codeword
-}
-
 pub fn random_codeword(random: &mut Random, n: usize, k: usize) -> Vec<u8> {
-    codeword(n, &random.bytes(k, GREATEST_SYMBOL))
+    let mut codeword = vec![0; n];
+    second::code::encode(n, k, &random.bytes(k, GREATEST_SYMBOL), &mut codeword);
+    codeword
 }
 
 /// Codewords that agree with one another at k-1 positions and nowhere else.
@@ -91,16 +87,17 @@ pub fn soft_weights(random: &mut Random, word: &[u8], least_share: usize) -> Vec
 
 /// The weights of words that share each position evenly, the last one taking what is left over.
 pub fn shared_weights(words: &[Vec<u8>]) -> Vec<u16> {
-    let share = WHOLE as u16 / words.len() as u16;
-    let left_over = WHOLE as u16 % words.len() as u16;
     let mut weights = vec![0; SYMBOLS * words[0].len()];
-    for word in words {
+    let mut left = WHOLE as u16;
+    for (index, word) in words.iter().enumerate() {
+        let share = match words.len() - index {
+            1 => left,
+            _ => WHOLE as u16 / words.len() as u16,
+        };
+        left -= share;
         for (position, &symbol) in word.iter().enumerate() {
             weights[SYMBOLS * position + usize::from(symbol)] += share;
         }
-    }
-    for (position, &symbol) in words[words.len() - 1].iter().enumerate() {
-        weights[SYMBOLS * position + usize::from(symbol)] += left_over;
     }
     weights
 }
@@ -131,6 +128,14 @@ pub fn within_cost(random: &mut Random, mut matrix: Vec<u8>, most_cost: usize) -
     while cost(&matrix) > most_cost {
         let place = random.between(0, matrix.len() - 1);
         matrix[place] = matrix[place].saturating_sub(1);
+    }
+    matrix
+}
+
+/// The same entries in random places.
+pub fn shuffled(random: &mut Random, mut matrix: Vec<u8>) -> Vec<u8> {
+    for place in (1..matrix.len()).rev() {
+        matrix.swap(place, random.between(0, place));
     }
     matrix
 }

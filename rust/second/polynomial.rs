@@ -88,13 +88,12 @@ impl Polynomial {
 
     /// The monomials with a coefficient other than 0, each with that coefficient.
     pub fn terms(&self) -> Vec<(Monomial, u8)> {
-        let of_power = |(b, in_x): (usize, &InX)| {
-            let terms = in_x.iter().enumerate();
-            let terms = terms.map(|(a, &coefficient)| ((a, b), coefficient));
-            terms.collect::<Vec<(Monomial, u8)>>()
-        };
-        let all = self.of_power.iter().enumerate().flat_map(of_power);
-        all.filter(|&(_, coefficient)| coefficient != 0).collect()
+        let mut terms = Vec::new();
+        for (b, in_x) in self.of_power.iter().enumerate() {
+            let all = in_x.iter().enumerate().map(|(a, &c)| ((a, b), c));
+            terms.extend(all.filter(|&(_, c)| c != 0));
+        }
+        terms
     }
 
     pub fn add_multiple(&mut self, factor: u8, other: &Polynomial) {

@@ -3,7 +3,7 @@
 
 use super::bound::monomials;
 use super::code::{every_message, value_at, LEAST_SIZE, MOST_POSITIONS};
-use super::field::{plus, power, times, GREATEST_SYMBOL, SYMBOLS};
+use super::field::{power, times, GREATEST_SYMBOL, SYMBOLS};
 use super::polynomial::{binomial_is_odd, Polynomial};
 use super::refusal::{symbol_above, unless_refused, Refusal};
 use crate::answer::Answer;
@@ -12,6 +12,9 @@ pub const MOST_COEFFICIENTS: usize = 256;
 
 /// The most message symbols for which every message is tried.
 pub const FEW_SYMBOLS: usize = 4;
+
+/// The coefficients of 1, y, y² and so on.
+type InY = Vec<u8>;
 
 fn every_symbol() -> std::ops::RangeInclusive<u8> {
     0..=GREATEST_SYMBOL
@@ -40,17 +43,19 @@ fn substituted(q: &Polynomial, c: u8, j: usize) -> Polynomial {
     total
 }
 
-/// Whether c times x^j can be what a root of Q leads with, if no root of interest has a higher
-/// power: what Q leads with, x weighing 1 and y weighing j, must then vanish at y = c.
-fn may_lead(q: &Polynomial, c: u8, j: usize) -> bool {
+/// What Q leads with, x weighing 1 and y weighing j, as a polynomial in y at x = 1. Where no root of
+/// interest has a power of x above j, it vanishes at the coefficient of x^j of each of them.
+fn leading(q: &Polynomial, j: usize) -> InY {
     let weight = |(a, b): (usize, usize)| a + j * b;
     let terms = q.terms();
     let greatest = terms.iter().map(|&(monomial, _)| weight(monomial)).max();
-    let leading = terms
-        .iter()
-        .filter(|&&(monomial, _)| Some(weight(monomial)) == greatest);
-    let values = leading.map(|&((_, b), coefficient)| times(coefficient, power(c, b)));
-    values.fold(0, plus) == 0
+    let mut leading = vec![0; q.powers().1];
+    for (monomial, coefficient) in terms {
+        if Some(weight(monomial)) == greatest {
+            leading[monomial.1] = coefficient;
+        }
+    }
+    leading
 }
 
 /// All roots of Q whose highest power of x is at most j, each from f_0 on.
@@ -64,8 +69,9 @@ fn from_the_top(q: &Polynomial, j: usize) -> Vec<Vec<u8>> {
         let completed = move |f: Vec<u8>| [f, vec![c]].concat();
         lower.into_iter().map(completed)
     };
+    let leading = leading(q, j);
     every_symbol()
-        .filter(|&c| may_lead(q, c, j))
+        .filter(|&c| value_at(&leading, c) == 0)
         .flat_map(led_by)
         .collect()
 }
