@@ -59,7 +59,7 @@ pub fn bound(k: usize, matrix: &[u8]) -> usize {
 }
 
 /// What the lists that were compared had in them.
-#[derive(Debug, Default)]
+#[derive(Default)]
 pub struct Seen {
     pub lists: usize,
     pub lists_of_many: usize,
@@ -85,22 +85,27 @@ impl Seen {
         self.scores_just_above += usize::from(score == bound + 1);
     }
 
-    /// Ends the run if it saw too few of something.
+    fn by_name(&self) -> [(&'static str, usize); 6] {
+        [
+            ("lists with rows", self.lists),
+            ("with several", self.lists_of_many),
+            ("rows in the longest", self.longest),
+            ("equal scores", self.equal_scores),
+            ("scores just above the bound", self.scores_just_above),
+            ("scores at the bound", self.scores_at_bound),
+        ]
+    }
+
+    /// Says what was seen. A run fails that saw too little of something.
     pub fn suffices(&self, least: &Seen) {
-        let pairs = [
-            (self.lists, least.lists),
-            (self.lists_of_many, least.lists_of_many),
-            (self.longest, least.longest),
-            (self.equal_scores, least.equal_scores),
-            (self.scores_just_above, least.scores_just_above),
-            (self.scores_at_bound, least.scores_at_bound),
-        ];
-        if pairs.iter().any(|(seen, least)| seen < least) {
-            eprintln!("lists: at least {least:?} were to be seen");
-            eprintln!("seen: {self:?}");
-            exit(1);
+        for ((name, seen), (_, least)) in self.by_name().into_iter().zip(least.by_name()) {
+            if seen < least {
+                eprintln!("{name}: {seen}; at least {least} were to be seen");
+                exit(1);
+            }
         }
-        println!("seen in lists: {self:?}");
+        let number_of = |(name, seen)| format!("{name}: {seen}");
+        println!("seen: {}", self.by_name().map(number_of).join(", "));
     }
 }
 

@@ -4,9 +4,9 @@ use crate::inputs::document_example;
 use crate::second::program::output;
 use std::collections::BTreeMap;
 use std::io::Write;
-use std::process::{exit, ChildStdin, Command, Stdio};
-use std::thread::sleep;
-use std::time::Duration;
+use std::process::{exit, Child, ChildStdin, Command, Stdio};
+use std::thread::{scope, sleep};
+use std::time::{Duration, Instant};
 
 const LEAST_RUNS: usize = 400;
 const SEEN: [&str; 6] = [
@@ -24,6 +24,7 @@ const PIECES: [usize; 4] = [usize::MAX, 1, 7, 101];
 /// The pieces after which the writer waits, so that the reader gets them one by one.
 const WAITS: usize = 3;
 const WAIT: Duration = Duration::from_micros(300);
+const PATIENCE: Duration = Duration::from_secs(20);
 
 /// Writes the input in pieces. A reader that has stopped reading may leave the rest.
 fn feed(mut pipe: ChildStdin, input: &[u8], piece: usize) {
@@ -35,6 +36,20 @@ fn feed(mut pipe: ChildStdin, input: &[u8], piece: usize) {
             sleep(WAIT);
         }
     }
+}
+
+/// Waits until the reader ends, and ends it where that takes too long.
+fn wait_for(reader: &mut Child) -> Result<(), String> {
+    let start = Instant::now();
+    while start.elapsed() < PATIENCE {
+        let status = reader.try_wait().map_err(|error| error.to_string())?;
+        if status.is_some() {
+            return Ok(());
+        }
+        sleep(WAIT);
+    }
+    reader.kill().map_err(|error| error.to_string())?;
+    Err("does not end".to_string())
 }
 
 pub struct Comparison {
@@ -61,7 +76,11 @@ impl Comparison {
             .spawn()
             .map_err(|error| error.to_string())?;
         let pipe = child.stdin.take().expect("the input is a pipe");
-        feed(pipe, input, PIECES[self.runs % PIECES.len()]);
+        let piece = PIECES[self.runs % PIECES.len()];
+        scope(|threads| {
+            threads.spawn(|| feed(pipe, input, piece));
+            wait_for(&mut child)
+        })?;
         let ended = child
             .wait_with_output()
             .map_err(|error| error.to_string())?;
@@ -107,9 +126,12 @@ impl Comparison {
             eprintln!("at least {LEAST_RUNS} runs and {SEEN:?} were to be seen");
             exit(1);
         }
+        let runs_of = |(answer, runs): (&String, &usize)| format!("{answer}: {runs}");
+        let by_answer: Vec<String> = self.seen.iter().map(runs_of).collect();
         println!(
-            "compared program: {} runs equal ({:?})",
-            self.runs, self.seen
+            "compared program: {} runs equal (by answer {})",
+            self.runs,
+            by_answer.join(", ")
         );
     }
 }
