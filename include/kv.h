@@ -84,6 +84,72 @@ struct kv_answer kv_multiplicities(size_t n, size_t level,
 struct kv_answer kv_cost_and_bound(size_t n, size_t k,
                                    const uint8_t *matrix, size_t matrix_len);
 
+/*
+ * The matrix has the multiplicity of position i, symbol b at 16i + b. The weighted degree of
+ * x^a y^b is a + (k-1)b; monomials are ordered by weighted degree, then by the power of y, lower
+ * first. A polynomial passes through (alpha^i, b) m times when each of its Hasse derivatives of
+ * order below m is zero there.
+ * bound: as kv_cost_and_bound answers it.
+ * count: of the monomials of weighted degree at most bound, 167 or fewer.
+ * Memory: out[j], for j from 0 to count-1, is the coefficient of the monomial j in their order, of
+ * the one polynomial that is not zero, passes through each (alpha^i, b) as often as the matrix
+ * says, has the smallest leading monomial of all that do, and leading coefficient 1; out from count
+ * on stays.
+ * Refusals: 1 unless 2 <= k <= n <= 15; 2 where limit is above 150; 3 where matrix_len is not 16n;
+ * 4 where out_len is below 167; 5 where an entry is above 4, place its index, the first one's; 7
+ * where the matrix's cost is above limit.
+ */
+struct kv_answer kv_interpolate(size_t n, size_t k, size_t limit,
+                                const uint8_t *matrix, size_t matrix_len,
+                                uint8_t *out, size_t out_len);
+
+/*
+ * coefficients[j] is that of the monomial j, in kv_interpolate's order, of a polynomial Q. N is the
+ * number of monomials of weighted degree at most degree.
+ * count: of the messages of k symbols, f being a message's polynomial, for which Q(x, f(x)) is zero
+ * identically; at most the whole part of degree / (k-1).
+ * Memory: out[kr + j], for r from 0 to count-1 and j from 0 to k-1, is symbol j of message r; each
+ * message is there once, ordered by symbol 0, then symbol 1 and so on, smaller first; out from
+ * k * count on stays.
+ * Refusals: 1 unless 2 <= k <= 15; 2 where N is above 256; 3 where coefficients_len is not N; 4
+ * where out_len is below k times the whole part of degree / (k-1); 5 where a coefficient is above
+ * 15, place its index, the first one's; 8 where all coefficients are 0.
+ */
+struct kv_answer kv_roots(size_t degree, size_t k,
+                          const uint8_t *coefficients, size_t coefficients_len,
+                          uint8_t *out, size_t out_len);
+
+/*
+ * The matrix has the multiplicity of position i, symbol b at 16i + b. The score of a message is the
+ * sum, over positions, of the entry at its codeword's symbol.
+ * count: of the messages of k symbols whose score is above the bound that kv_cost_and_bound
+ * answers, 16 or fewer.
+ * Memory: rows[kr + j], for r from 0 to count-1 and j from 0 to k-1, is symbol j of the message of
+ * row r, and scores[r] its score; each message is there once, highest score first, equal scores
+ * ordered by symbol 0, then symbol 1 and so on, smaller first; rows from k * count on and scores
+ * from count on stay.
+ * Refusals: 1 unless 2 <= k <= n <= 15; 2 where limit is above 150; 3 where matrix_len is not 16n;
+ * 4 where rows_len is below 16k or scores_len, in numbers, below 16; 5 where an entry is above 4,
+ * place its index, the first one's; 7 where the matrix's cost is above limit.
+ */
+struct kv_answer kv_list_of_multiplicities(size_t n, size_t k, size_t limit,
+                                           const uint8_t *matrix, size_t matrix_len,
+                                           uint8_t *rows, size_t rows_len,
+                                           uint16_t *scores, size_t scores_len);
+
+/*
+ * The matrix is what kv_multiplicities writes for these reliabilities at this level.
+ * count, memory: as kv_list_of_multiplicities answers and leaves them for the matrix.
+ * Refusals: 1 unless 2 <= k <= n <= 15; 2 unless 1 <= level <= 4 and limit <= 150; 3 where
+ * reliabilities_len, in numbers, is not 16n; 4 where rows_len is below 16k or scores_len, in
+ * numbers, below 16; 6 where a position's sixteen reliabilities do not sum to 4096, place that
+ * position, the first one's; 7 where the matrix's cost is above limit.
+ */
+struct kv_answer kv_list_of_reliabilities(size_t n, size_t k, size_t level, size_t limit,
+                                          const uint16_t *reliabilities, size_t reliabilities_len,
+                                          uint8_t *rows, size_t rows_len,
+                                          uint16_t *scores, size_t scores_len);
+
 #ifdef __cplusplus
 }
 #endif

@@ -35,7 +35,7 @@ impl Call {
 }
 
 /// A matrix of the given cost, from the greatest multiplicities down, if it has room for them.
-fn matrix_of_cost(n: usize, cost: usize) -> Option<Vec<u8>> {
+pub fn matrix_of_cost(n: usize, cost: usize) -> Option<Vec<u8>> {
     let mut matrix = Vec::new();
     let mut left = cost;
     for m in (1..=GREATEST_MULTIPLICITY).rev() {

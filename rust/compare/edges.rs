@@ -24,7 +24,6 @@ const COSTS_AND_BOUNDS: [(&[usize], u8, usize, u16, u16); 5] = [
 ];
 
 struct Program {
-    name: &'static str,
     product: fn(u8, u8) -> Answer,
     inverse: fn(u8) -> Answer,
     encode: fn(usize, usize, &[u8], &mut [u8]) -> Answer,
@@ -33,7 +32,6 @@ struct Program {
 }
 
 const PROVED: Program = Program {
-    name: "proved library",
     product: library::product,
     inverse: library::inverse,
     encode: library::encode,
@@ -42,7 +40,6 @@ const PROVED: Program = Program {
 };
 
 const SECOND: Program = Program {
-    name: "second program",
     product: second::field::product,
     inverse: second::field::inverse,
     encode: second::code::encode,
@@ -50,10 +47,11 @@ const SECOND: Program = Program {
     cost_and_bound: second::bound::cost_and_bound,
 };
 
-struct Line {
-    text: String,
-    written: Vec<u16>,
-    answered: Vec<u16>,
+/// What document 01 has written, and what a program answered.
+pub struct Line {
+    pub text: String,
+    pub written: Vec<u16>,
+    pub answered: Vec<u16>,
 }
 
 fn field_lines(program: &Program) -> Vec<Line> {
@@ -124,23 +122,30 @@ fn lines(program: &Program) -> Vec<Line> {
     lines
 }
 
-pub fn compare() {
-    for program in [PROVED, SECOND] {
-        let lines = lines(&program);
-        if let Some(line) = lines.iter().find(|line| line.answered != line.written) {
-            eprintln!("{}: {}", program.name, line.text);
-            eprintln!("document 01: {:?}", line.written);
-            eprintln!("answered: {:?}", line.answered);
-            exit(1);
-        }
-        if lines.len() < LEAST_LINES {
-            eprintln!("fewer than {LEAST_LINES} lines of document 01 were asked");
-            exit(1);
-        }
-        println!(
-            "compared {}: {} lines of document 01 hold",
-            program.name,
-            lines.len()
-        );
+fn hold_for(entries: &str, program: &str, lines: &[Line]) {
+    if let Some(line) = lines.iter().find(|line| line.answered != line.written) {
+        eprintln!("{program}: {}", line.text);
+        eprintln!("document 01: {:?}", line.written);
+        eprintln!("answered: {:?}", line.answered);
+        exit(1);
     }
+    println!(
+        "compared {entries}, {program}: {} lines of document 01 hold",
+        lines.len()
+    );
+}
+
+/// Ends the run unless all lines about some entries hold.
+pub fn hold(entries: &str, proved: &[Line], second: &[Line]) {
+    hold_for(entries, "proved library", proved);
+    hold_for(entries, "second program", second);
+}
+
+pub fn compare() {
+    let (proved, second) = (lines(&PROVED), lines(&SECOND));
+    if second.len() < LEAST_LINES {
+        eprintln!("fewer than {LEAST_LINES} lines of document 01 were asked");
+        exit(1);
+    }
+    hold("first layer", &proved, &second);
 }

@@ -1,5 +1,7 @@
 //! Memory lent to a call, between guards that belong to nobody.
 
+use crate::random::Random;
+
 /// Odd, so that what is lent starts at no rounder address than its type asks for.
 const GUARDS: usize = 17;
 
@@ -8,11 +10,15 @@ pub struct Lent<T> {
     memory: Vec<T>,
 }
 
-impl<T: Copy> Lent<T> {
-    fn new(content: &[T], guard: T) -> Self {
-        let guards = [guard; GUARDS];
+impl<T: Copy + Into<u64>> Lent<T> {
+    /// The guards have any value and follow from the content: for the same call they are the same,
+    /// from call to call they change, and whoever reads one meets symbols, faults and all else.
+    fn new(content: &[T], guard: fn(&mut Random) -> T) -> Self {
+        let mixed = |seed: u64, &entry: &T| seed.rotate_left(5).wrapping_add(entry.into());
+        let mut random = Random::new(content.iter().fold(content.len() as u64, mixed));
+        let mut guards = || (0..GUARDS).map(|_| guard(&mut random)).collect::<Vec<T>>();
         Lent {
-            memory: [&guards, content, &guards].concat(),
+            memory: [&guards(), content, &guards()].concat(),
         }
     }
 
@@ -28,7 +34,7 @@ impl<T: Copy> Lent<T> {
 
 impl Lent<u8> {
     pub fn bytes(content: &[u8]) -> Self {
-        Lent::new(content, u8::MAX)
+        Lent::new(content, |random| random.between(0, u8::MAX.into()) as u8)
     }
 
     /// Room for an answer, filled with bytes that no entry writes.
@@ -40,6 +46,6 @@ impl Lent<u8> {
 
 impl Lent<u16> {
     pub fn numbers(content: &[u16]) -> Self {
-        Lent::new(content, u16::MAX)
+        Lent::new(content, |random| random.between(0, u16::MAX.into()) as u16)
     }
 }

@@ -1,6 +1,8 @@
 //! Calls the proved library and the second program on the same inputs, and compares what they
 //! answer and what they leave in lent memory. The first difference ends the run with status 1.
 
+#![allow(dead_code)] // until every entry is compared
+
 #[path = "../answer.rs"]
 mod answer;
 #[path = "../library.rs"]
@@ -13,9 +15,15 @@ mod edges;
 mod encode;
 mod field;
 mod inputs;
+mod interpolation;
 mod lent;
+mod list_of_multiplicities;
+mod list_of_reliabilities;
+mod lists;
 mod multiplicities;
 mod random;
+mod roots;
+mod tags;
 mod tally;
 
 fn main() {

@@ -6,6 +6,7 @@ use super::weights::entries;
 use crate::answer::Answer;
 
 pub const GREATEST_MULTIPLICITY: u8 = 4;
+pub const GREATEST_LIMIT: usize = 150;
 
 /// What one entry m adds to the cost: m(m+1)/2.
 pub fn cost_of_entry(m: u8) -> usize {
@@ -13,18 +14,18 @@ pub fn cost_of_entry(m: u8) -> usize {
     m * (m + 1) / 2
 }
 
-fn cost(matrix: &[u8]) -> usize {
+pub fn cost(matrix: &[u8]) -> usize {
     matrix.iter().map(|&m| cost_of_entry(m)).sum()
 }
 
 /// N(D), by counting the pairs (a, b) with a + vb at most D.
-fn monomials(v: usize, d: usize) -> usize {
+pub fn monomials(v: usize, d: usize) -> usize {
     let powers_of_x = |b: usize| (0..=d).filter(|a| a + v * b <= d).count();
     (0..=d / v).map(powers_of_x).sum()
 }
 
 /// The smallest D with N(D) above the cost.
-fn bound(v: usize, cost: usize) -> usize {
+pub fn bound(v: usize, cost: usize) -> usize {
     let mut degrees = 0..;
     let smallest = degrees.find(|&d| monomials(v, d) > cost);
     smallest.expect("N(D) is above D")

@@ -1,6 +1,6 @@
 //! Sizes, messages and codewords.
 
-use super::field::{plus, power, times, ALPHA, GREATEST_SYMBOL};
+use super::field::{plus, power, times, ALPHA, GREATEST_SYMBOL, SYMBOLS};
 use super::refusal::{symbol_above, unless_refused, Refusal};
 use crate::answer::Answer;
 
@@ -11,13 +11,22 @@ pub fn sizes_allowed(n: usize, k: usize) -> bool {
     LEAST_SIZE <= k && k <= n && n <= MOST_POSITIONS
 }
 
-/// f(x), the sum of f_j times x to the j.
-fn value_at(message: &[u8], x: u8) -> u8 {
-    let terms = message
-        .iter()
-        .enumerate()
-        .map(|(j, &f)| times(f, power(x, j)));
-    terms.fold(0, plus)
+/// f(x), the sum of f_j times x to the j, from the highest power down.
+pub fn value_at(message: &[u8], x: u8) -> u8 {
+    let from_the_top = message.iter().rev();
+    from_the_top.fold(0, |value, &f| plus(times(value, x), f))
+}
+
+/// x_i, at which the codeword has the symbol of position i.
+pub fn x_of(position: usize) -> u8 {
+    power(ALPHA, position)
+}
+
+/// Every message of k symbols, ordered by f_0, then f_1 and so on.
+pub fn every_message(k: usize) -> impl Iterator<Item = Vec<u8>> {
+    let symbol = move |number: usize, j: usize| number / SYMBOLS.pow((k - 1 - j) as u32) % SYMBOLS;
+    let message = move |number| (0..k).map(|j| symbol(number, j) as u8).collect();
+    (0..SYMBOLS.pow(k as u32)).map(message)
 }
 
 pub fn encode(n: usize, k: usize, message: &[u8], out: &mut [u8]) -> Answer {
@@ -29,7 +38,7 @@ pub fn encode(n: usize, k: usize, message: &[u8], out: &mut [u8]) -> Answer {
     ];
     unless_refused(&tests, || {
         for i in 0..n {
-            out[i] = value_at(message, power(ALPHA, i));
+            out[i] = value_at(message, x_of(i));
         }
         Answer {
             count: n as u16,

@@ -2,6 +2,7 @@
 
 use super::refusal::{symbol_above, unless_refused, Refusal};
 use crate::answer::Answer;
+use std::sync::LazyLock;
 
 pub const SYMBOLS: usize = 16;
 pub const GREATEST_SYMBOL: u8 = 15;
@@ -27,7 +28,8 @@ fn add(total: &mut Coefficients, power: usize, bit: u8) {
     total[power] = (total[power] + bit) % 2;
 }
 
-pub fn plus(a: u8, b: u8) -> u8 {
+/// The sum, coefficient by coefficient.
+fn sum_by_rule(a: u8, b: u8) -> u8 {
     let mut total = coefficients(a);
     for (power, bit) in coefficients(b).into_iter().enumerate() {
         add(&mut total, power, bit);
@@ -35,7 +37,8 @@ pub fn plus(a: u8, b: u8) -> u8 {
     symbol(total)
 }
 
-pub fn times(a: u8, b: u8) -> u8 {
+/// The product of the polynomials, reduced.
+fn product_by_rule(a: u8, b: u8) -> u8 {
     let (a, b) = (coefficients(a), coefficients(b));
     let mut total = [0; PRODUCT_COEFFICIENTS];
     for i in 0..SYMBOL_COEFFICIENTS {
@@ -55,6 +58,37 @@ fn reduced(mut total: Coefficients) -> Coefficients {
         add(&mut total, power - SYMBOL_COEFFICIENTS, bit);
     }
     total
+}
+
+type Table = [[u8; SYMBOLS]; SYMBOLS];
+
+fn table(rule: fn(u8, u8) -> u8) -> Table {
+    std::array::from_fn(|a| std::array::from_fn(|b| rule(a as u8, b as u8)))
+}
+
+/// The symbol whose product with b is a; 0 where b is 0.
+fn quotient_by_search(a: u8, b: u8) -> u8 {
+    let quotient = (0..=GREATEST_SYMBOL).find(|&c| product_by_rule(b, c) == a);
+    quotient.unwrap_or(0)
+}
+
+/// What the rules give, worked out once.
+static SUMS: LazyLock<Table> = LazyLock::new(|| table(sum_by_rule));
+static PRODUCTS: LazyLock<Table> = LazyLock::new(|| table(product_by_rule));
+static QUOTIENTS: LazyLock<Table> = LazyLock::new(|| table(quotient_by_search));
+
+pub fn plus(a: u8, b: u8) -> u8 {
+    SUMS[usize::from(a)][usize::from(b)]
+}
+
+pub fn times(a: u8, b: u8) -> u8 {
+    PRODUCTS[usize::from(a)][usize::from(b)]
+}
+
+/// The symbol whose product with b, which is not 0, is a.
+pub fn over(a: u8, b: u8) -> u8 {
+    assert_ne!(b, 0);
+    QUOTIENTS[usize::from(a)][usize::from(b)]
 }
 
 pub fn power(base: u8, exponent: usize) -> u8 {
@@ -85,8 +119,5 @@ pub fn inverse(a: u8) -> Answer {
         symbol_above(GREATEST_SYMBOL, &[a]),
         (a == 0).then_some(Refusal::Zero),
     ];
-    unless_refused(&tests, || {
-        let inverse = (0..=GREATEST_SYMBOL).find(|&b| times(a, b) == 1);
-        value(inverse.expect("every symbol but 0 has an inverse"))
-    })
+    unless_refused(&tests, || value(over(1, a)))
 }

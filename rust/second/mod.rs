@@ -1,8 +1,16 @@
 //! The second program: the public entries written anew from document 01 alone, by the most literal
-//! reading and brute force. It shares no code and no table with the proved library, and is slow.
+//! reading, by brute force, and by other methods than the proved library's where that would take
+//! too long. It shares no code and no table with that library, and is slow.
 
 pub mod bound;
 pub mod code;
 pub mod field;
+pub mod interpolation;
+pub mod list;
+mod polynomial;
+#[allow(dead_code)] // only the comparison of programs asks for it
+pub mod program;
 mod refusal;
+pub mod roots;
+mod search;
 pub mod weights;

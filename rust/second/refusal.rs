@@ -10,6 +10,7 @@ pub enum Refusal {
     Room,
     Symbol(usize),
     Column(usize),
+    Cost,
     Zero,
 }
 
@@ -22,6 +23,7 @@ impl Refusal {
             Refusal::Room => 4,
             Refusal::Symbol(_) => 5,
             Refusal::Column(_) => 6,
+            Refusal::Cost => 7,
             Refusal::Zero => 8,
         }
     }
@@ -34,7 +36,7 @@ impl Refusal {
         }
     }
 
-    fn answer(self) -> Answer {
+    pub fn answer(self) -> Answer {
         Answer {
             number: self.number(),
             place: u16::try_from(self.place())

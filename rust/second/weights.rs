@@ -15,7 +15,7 @@ pub fn entries(n: usize) -> u128 {
     SYMBOLS as u128 * n as u128
 }
 
-fn column_off(reliabilities: &[u16]) -> Option<Refusal> {
+pub fn column_off(reliabilities: &[u16]) -> Option<Refusal> {
     let sum = |column: &[u16]| column.iter().map(|&r| u64::from(r)).sum::<u64>();
     reliabilities
         .chunks(SYMBOLS)
@@ -24,7 +24,7 @@ fn column_off(reliabilities: &[u16]) -> Option<Refusal> {
 }
 
 /// The whole part of the level times the reliability over the whole.
-fn multiplicity(level: usize, reliability: u16) -> u8 {
+pub fn multiplicity(level: usize, reliability: u16) -> u8 {
     (level as u64 * u64::from(reliability) / WHOLE) as u8
 }
 

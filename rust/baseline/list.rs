@@ -1,0 +1,49 @@
+//! The roots whose score is above the bound.
+
+use super::elimination::COLUMNS;
+use super::field::{point, product, SYMBOLS};
+use super::polynomial::interpolate;
+use super::roots::roots;
+
+/// k times D/v is no more for any bound of a cost up to 150.
+const ROOM_FOR_ROOTS: usize = 384;
+
+fn value(message: &[u8], x: u8) -> u8 {
+    let from_the_top = message.iter().rev();
+    from_the_top.fold(0, |value, &symbol| product(value, x) ^ symbol)
+}
+
+fn score(matrix: &[u8], message: &[u8]) -> u16 {
+    let entry = |(position, column): (usize, &[u8])| {
+        let symbol = value(message, point(position));
+        u16::from(column[usize::from(symbol)])
+    };
+    matrix.chunks_exact(SYMBOLS).enumerate().map(entry).sum()
+}
+
+/// Puts a row behind those of no lower score.
+fn insert(message: &[u8], score: u16, count: usize, rows: &mut [u8], scores: &mut [u16]) {
+    let k = message.len();
+    let place = scores[..count].partition_point(|&before| before >= score);
+    scores.copy_within(place..count, place + 1);
+    rows.copy_within(k * place..k * count, k * (place + 1));
+    scores[place] = score;
+    rows[k * place..][..k].copy_from_slice(message);
+}
+
+/// Writes rows and scores, and answers how many there are.
+pub fn list(k: usize, matrix: &[u8], rows: &mut [u8], scores: &mut [u16]) -> usize {
+    let mut coefficients = [0; COLUMNS];
+    let (bound, coefficients_count) = interpolate(k, matrix, &mut coefficients);
+    let mut found = [0; ROOM_FOR_ROOTS];
+    let found_count = roots(bound, k, &coefficients[..coefficients_count], &mut found);
+    let mut count = 0;
+    for message in found[..k * found_count].chunks_exact(k) {
+        let score = score(matrix, message);
+        if usize::from(score) > bound {
+            insert(message, score, count, rows, scores);
+            count += 1;
+        }
+    }
+    count
+}

@@ -1,0 +1,35 @@
+//! Times the proved library against the same algorithm in plain Rust, on the same matrices, in
+//! turns. With `--check` nothing is timed, and the plain Rust is compared with the second program.
+
+#[path = "../answer.rs"]
+mod answer;
+#[path = "../baseline/mod.rs"]
+mod baseline;
+#[allow(dead_code)] // the entries of the first layer are not timed
+#[path = "../library.rs"]
+mod library;
+#[allow(dead_code)]
+#[path = "../compare/random.rs"]
+mod random;
+#[allow(dead_code)]
+#[path = "../second/mod.rs"]
+mod second;
+#[allow(dead_code)]
+#[path = "../compare/tags.rs"]
+mod tags;
+
+mod check;
+mod matrices;
+mod room;
+mod timing;
+
+fn main() {
+    match std::env::args().nth(1).as_deref() {
+        None => timing::time(),
+        Some("--check") => check::check(),
+        Some(_) => {
+            eprintln!("usage: bench [--check]");
+            std::process::exit(2);
+        }
+    }
+}
