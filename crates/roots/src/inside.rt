@@ -1,8 +1,7 @@
 // y-roots of what is within limits already.
-ghost use mathlib.Core.Bool.{Bool, false};
-ghost use mathlib.Core.List.{_++_, map, flatMap};
+ghost use mathlib.Core.Bool.{false};
 ghost use mathlib.Core.Path.{_≡_};
-ghost use Prim.Native.Nat.{ℕ, suc, _+_, _-_, _*_, _/_, _≤_, _<_};
+ghost use Prim.Native.Nat.{_+_, _-_, _*_, _/_, _≤_, _<_};
 ghost use lib.ListN.{length, take, drop};
 ghost use lib.Seq.{paste};
 ghost use Rattle.definitions.specs.Answers.{rowsOnto};
@@ -14,8 +13,8 @@ ghost use Rattle.definitions.specs.Roots.{rootsOf};
 ghost use Rattle.field.specs.Table.{Products};
 ghost use Rattle.search.specs.Columns.{loaded};
 ghost use Rattle.search.specs.Tree.{zeros, search};
-ghost use Rattle.roots.specs.Array.{polynomial, DegreeWithin, rowsAfter, laidOver};
-use crate::array;
+ghost use Rattle.substitution.specs.Array.{polynomial};
+ghost use Rattle.roots.specs.Rows.{DegreeWithin, rowsAfter, laidOver};
 
 pub fn all_zero(list: &[u8]) -> bool
     ensures { λ r. ⌜ r ≡ isZero (now (list .entry)) ⌝ }
@@ -73,7 +72,7 @@ fn write_row(out: &mut [u8], at: usize, row: [u8; 15], k: usize)
 }
 
 // Every way to go on from the prefix of k - left symbols in `row`: writes the rows from `at` on, and answers the place after them.
-pub fn search(
+fn search(
     table: &[u8; 256],
     p: [u8; 512],
     degree: usize,
@@ -87,13 +86,12 @@ pub fn search(
     requires { ⌜ Products (now table) ⌝ }
     requires { ⌜ Symbols sixteen p ⌝ }
     requires { ⌜ (0 < h) × (h ≤ 32) × ((degree + 1) * h ≤ 512) × (left ≤ k) × (k ≤ 15) ⌝ }
-    requires { ⌜ DegreeWithin (left - 1) degree h p ⌝ }
-    requires { ⌜ at + length (rowsAfter (take (k - left) row) (search sixteen left (polynomial h (degree + 1) p))) ≤ length (now out) ⌝ }
+    requires { ⌜ DegreeWithin (left - 1) degree h p × (at + length (rowsAfter (take (k - left) row) (search sixteen left (polynomial h (degree + 1) p))) ≤ length (now out)) ⌝ }
     ensures { λ r. ⌜ r ≡ at + length (rowsAfter (take (k - left) row) (search sixteen left (polynomial h (degree + 1) p))) ⌝ }
     ensures { λ _. ⌜ now (out .exit) ≡ laidOver (now (out .entry)) at (rowsAfter (take (k - left) row) (search sixteen left (polynomial h (degree + 1) p))) ⌝ }
 {
     if left == 0 {
-        if array::constants_zero(&p, h, degree + 1) {
+        if substitution::inside::constants_zero(&p, h, degree + 1) {
             write_row(out, at, row, k);
             return at + k;
         }
@@ -102,20 +100,11 @@ pub fn search(
     let mut end = at;
     let mut g = 0u8;
     while g < 16 {
-        if array::first_value(table, &p, h, g) == 0 {
+        if substitution::inside::first_value(table, &p, h, g) == 0 {
             let mut next = row;
             next[k - left] = g;
-            end = search(
-                table,
-                array::handed(table, &p, h, degree + 1, g),
-                degree,
-                h,
-                next,
-                k,
-                left - 1,
-                out,
-                end,
-            );
+            let rest = substitution::inside::handed(table, &p, h, degree + 1, g);
+            end = search(table, rest, degree, h, next, k, left - 1, out, end);
         }
         g += 1;
     }
@@ -134,7 +123,7 @@ pub fn roots_into(degree: usize, k: usize, coefficients: &[u8], out: &mut [u8]) 
     let table = field::inside::products();
     let h = degree / (k - 1) + 1;
     let loaded = load(coefficients, degree, k - 1);
-    let p = array::freed(&loaded, h, degree + 1);
+    let p = substitution::inside::freed(&loaded, h, degree + 1);
     let row = [0u8; 15];
     search(&table, p, degree, h, row, k, k, out, 0) / k
 }
