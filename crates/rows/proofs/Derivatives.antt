@@ -53,6 +53,10 @@ abbrev pub lead : ℕ → ℕ
 lead zero = 1
 lead (suc s) = 0
 
+pub lead-symbol : (s : ℕ) → lead s < 16
+lead-symbol zero = omega arith
+lead-symbol (suc s) = omega arith
+
 -- the row of the order before; of none before order 0
 abbrev pub lower : ℕ → ℕ → ℕ → List ℕ
 lower n x zero = replicate width 0
@@ -121,7 +125,3 @@ module _ (x : ℕ) (h : x < 16) where
   pub lower-symbols : (n s : ℕ) → Symbols sixteen (lower n x s)
   lower-symbols n zero e = rw (none-before e) (omega arith)
   lower-symbols n (suc s) e = derivatives-symbols n s e
-
-  pub lead-symbol : (s : ℕ) → lead s < 16
-  lead-symbol zero = omega arith
-  lead-symbol (suc s) = omega arith

@@ -1,3 +1,5 @@
 pub mod Filled
 pub mod Derivatives
 pub mod Walk
+pub mod Placed
+pub mod Counts

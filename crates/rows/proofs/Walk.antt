@@ -168,13 +168,13 @@ module _ (v : ℕ) (pos : 0 < v) where
       (subst (Stands (k + 1)) (sym (walked-suc v k)) (stands-next k (walked v k) (stands k)))
 
   -- no power is above the number of steps
-  pub walked-le : (k : ℕ) → (walked v k .0 ≤ k) × (walked v k .1 ≤ k)
+  pub walked-le : (k : ℕ) → (walked v k .0 ≤ k) × (walked v k .1 ≤ k) × (walked v k .2 ≤ k)
   walked-le k =
       let s = stands k in
       let d = degree-le v (walked v k .2) in
       let q = div-le-self (walked v k .2) v in
       let a = s .place in let b = s .power in let e = s .rest in
-      (omega arith, omega arith)
+      (omega arith, omega arith, omega arith)
 
   module _ (D k : ℕ) (h : k < count v D) where
     counted : k < earlier v (suc D)

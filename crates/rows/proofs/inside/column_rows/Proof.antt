@@ -1,0 +1,93 @@
+use mathlib.Core.List.{List, flatMap}
+use mathlib.Core.Path.{_≡_, refl, sym, _∙_, ap, subst}
+use Prim.Native.Nat.{ℕ, _+_, _-_, _/_, _≤_, _<_}
+use lib.ListN.{length, getD}
+use lib.Seq.{sets}
+use Rattle.definitions.specs.Tools.{below}
+use Rattle.rows.proofs.Placed.{joined-none, none-counted, joined-more, count-more, joined-room}
+use Rattle.rows.specs.Constraints.{pointRows}
+use native.Mathlib.Omega.{arith}
+use borrow.Author.Needs.{needs}
+use Rattle.rows.proofs.inside.column_rows.Statement.{statement}
+use Rattle.rows.proofs.inside.column_rows.Tie as tie
+
+abbrev Inv-loop : tie.InvT-loop
+Inv-loop rows₀ table at a column v d count next₀ symbol₀ rows next symbol = 
+    (symbol ≤ 16) × (next ≡ at + length (flatMap (λ (b : ℕ). pointRows v d count a b (getD column b 0)) (below symbol))) × (rows ≡ sets rows₀ at (flatMap (λ (b : ℕ). pointRows v d count a b (getD column b 0)) (below symbol)))
+
+abbrev μ-loop : tie.MeasureT-loop
+μ-loop rows₀ table at a column v d count next₀ symbol₀ rows next symbol = 16 - symbol
+
+loop-holds : tie.Need-loop-holds Inv-loop μ-loop
+loop-holds c =
+    let a = c .args in
+    (omega arith, none-counted (λ (b : ℕ). pointRows (a .v) (a .d) (a .count) (a .a) b (getD (a .column .now) b 0)) (a .rows .now) (a .at), joined-none (λ (b : ℕ). pointRows (a .v) (a .d) (a .count) (a .a) b (getD (a .column .now) b 0)) (a .rows .now) (a .at))
+
+wide-requires : tie.Need-wide-requires Inv-loop μ-loop
+wide-requires c κs = search needs
+
+element-copy-out-wide : tie.Need-element-copy-out-wide Inv-loop μ-loop
+element-copy-out-wide c = omega arith
+
+wide-requires-2 : tie.Need-wide-requires-2 Inv-loop μ-loop
+wide-requires-2 c κs = search needs
+
+point-rows-requires : tie.Need-point-rows-requires Inv-loop μ-loop
+point-rows-requires c κs =
+    let l = c .before .before .before .before .before in
+    let s = l .before in
+    let a = s .args in
+    let m : c .before .wide2 .result ≡ getD (a .column .now) (l .loop .symbol) 0 =
+    c .before .wide2 .ensures .0 ∙ ap (λ (k : ℕ). getD (a .column .now) k 0) (c .before .before .before .wide .ensures .0) in
+    let room = joined-room (λ (b : ℕ). pointRows (a .v) (a .d) (a .count) (a .a) b (getD (a .column .now) b 0)) 16 (l .loop .symbol) (omega arith) in
+    (
+      s .pre .0,
+      (
+        (omega arith, omega arith, omega arith, omega arith, omega arith),
+        subst (λ (k : ℕ). l .loop .next + length (pointRows (a .v) (a .d) (a .count) (a .a) (l .loop .symbol) k) ≤ 150) (sym m) (omega arith),
+      ),
+    )
+
+add-symbol : tie.Need-add-symbol Inv-loop μ-loop
+add-symbol c = omega arith
+
+loop-less : tie.Need-loop-less Inv-loop μ-loop
+loop-less c = omega arith
+
+loop-again : tie.Need-loop-again Inv-loop μ-loop
+loop-again c =
+    let l = c .before .before .before .before .before .before in
+    let s = l .before in
+    let a = s .args in
+    let m : c .before .before .wide2 .result ≡ getD (a .column .now) (l .loop .symbol) 0 =
+    c .before .before .wide2 .ensures .0 ∙ ap (λ (k : ℕ). getD (a .column .now) k 0) (c .before .before .before .before .wide .ensures .0) in
+    (
+      omega arith,
+      c .point-rows .ensures .0
+      ∙ ap (λ (k : ℕ). l .loop .next + length (pointRows (a .v) (a .d) (a .count) (a .a) (l .loop .symbol) k)) m
+      ∙ count-more (λ (b : ℕ). pointRows (a .v) (a .d) (a .count) (a .a) b (getD (a .column .now) b 0)) (a .rows .now) (a .at) (l .loop .symbol) (l .loop .next) (l .loop .inv .1),
+      joined-more (λ (b : ℕ). pointRows (a .v) (a .d) (a .count) (a .a) b (getD (a .column .now) b 0)) (a .rows .now) (a .at) (l .loop .rows) (c .point-rows .last .0) (l .loop .symbol) (l .loop .next) (l .loop .inv .2) (l .loop .inv .1)
+          (c .point-rows .ensures .1 ∙ ap (λ (k : ℕ). sets (l .loop .rows) (l .loop .next) (pointRows (a .v) (a .d) (a .count) (a .a) (l .loop .symbol) k)) m),
+    )
+
+returns : tie.Need-returns Inv-loop μ-loop
+returns c =
+    let l = c .before in
+    let e : l .loop .symbol ≡ 16 = omega arith in
+    (rw e at (l .loop .inv .1), rw e at (l .loop .inv .2))
+
+pub column-rows-spec : {M : Type 1} → statement M
+column-rows-spec =
+    tie.close
+    (tie.spec
+    Inv-loop
+    μ-loop
+    loop-holds
+    wide-requires
+    element-copy-out-wide
+    wide-requires-2
+    point-rows-requires
+    add-symbol
+    loop-less
+    loop-again
+    returns)

@@ -1,0 +1,101 @@
+use mathlib.Core.List.{List, [], flatMap}
+use mathlib.Core.Path.{_≡_, sym, _∙_, ap, subst}
+use Prim.Native.Nat.{ℕ, _+_, _-_, _≤_, _<_}
+use native.Mathlib.Numerals.{add-one}
+use lib.ListN.{length, getD}
+use lib.Seq.{sets}
+use Rattle.algebra.proofs.Closed.{point-symbol}
+use Rattle.definitions.proofs.Codeword.{power-zero, power-suc}
+use Rattle.definitions.specs.Code.{point}
+use Rattle.definitions.specs.Field.{numbers, sixteen}
+use Rattle.definitions.specs.Tools.{below}
+use Rattle.field.proofs.Instance.{sixteen-field}
+use Rattle.rows.proofs.Placed.{joined-none, none-counted, joined-more, count-more, joined-room}
+use Rattle.rows.specs.Constraints.{columnRows, positionRows}
+use native.Mathlib.Omega.{arith}
+use Rattle.rows.proofs.inside.conditions.Statement.{statement}
+use Rattle.rows.proofs.inside.conditions.Tie as tie
+
+abbrev Inv-loop : tie.InvT-loop
+Inv-loop rows₀ table matrix v d count next₀ a₀ i₀ rows next a i = 
+    (i ≤ 15) × (a ≡ point sixteen i) × (next ≡ 0 + length (flatMap (λ (i : ℕ). columnRows v d count (point sixteen i) (getD matrix i [])) (below i)))
+    × (rows ≡ sets rows₀ 0 (flatMap (λ (i : ℕ). columnRows v d count (point sixteen i) (getD matrix i [])) (below i)))
+
+abbrev μ-loop : tie.MeasureT-loop
+μ-loop rows₀ table matrix v d count next₀ a₀ i₀ rows next a i = 15 - i
+
+loop-holds : tie.Need-loop-holds Inv-loop μ-loop
+loop-holds c =
+    let a = c .args in
+    (omega arith, sym (power-zero (numbers sixteen) 2), none-counted (λ (i : ℕ). columnRows (a .v) (a .d) (a .count) (point sixteen i) (getD (a .matrix .now) i [])) (a .rows .now) 0, joined-none (λ (i : ℕ). columnRows (a .v) (a .d) (a .count) (point sixteen i) (getD (a .matrix .now) i [])) (a .rows .now) 0)
+
+mul-column-rows : tie.Need-mul-column-rows Inv-loop μ-loop
+mul-column-rows c = omega arith
+
+index-1-column-rows : tie.Need-index-1-column-rows Inv-loop μ-loop
+index-1-column-rows c = omega arith
+
+column-rows-requires : tie.Need-column-rows-requires Inv-loop μ-loop
+column-rows-requires c κs =
+    let l = c .before .before .before in
+    let s = l .before in
+    let a = s .args in
+    let room = joined-room (λ (i : ℕ). columnRows (a .v) (a .d) (a .count) (point sixteen i) (getD (a .matrix .now) i [])) 15 (l .loop .i) (omega arith) in
+    (
+      s .pre .0,
+      (
+        (subst (λ (x : ℕ). x < 16) (sym (l .loop .inv .1)) (point-symbol sixteen sixteen-field (l .loop .i)), omega arith, omega arith, omega arith),
+        subst (λ (x : ℕ). l .loop .next + length (columnRows (a .v) (a .d) (a .count) x (getD (a .matrix .now) (l .loop .i) [])) ≤ 150) (sym (l .loop .inv .1))
+            (omega arith),
+      ),
+    )
+
+look-requires : tie.Need-look-requires Inv-loop μ-loop
+look-requires c κs =
+    let l = c .before .before .before .before in
+    (l .before .pre .0, (omega arith, subst (λ (x : ℕ). x < 16) (sym (l .loop .inv .1)) (point-symbol sixteen sixteen-field (l .loop .i))))
+
+add-i : tie.Need-add-i Inv-loop μ-loop
+add-i c = omega arith
+
+loop-less : tie.Need-loop-less Inv-loop μ-loop
+loop-less c = omega arith
+
+loop-again : tie.Need-loop-again Inv-loop μ-loop
+loop-again c =
+    let l = c .before .before .before .before .before in
+    let a = l .before .args in
+    (
+      omega arith,
+      c .look .ensures ∙ ap (sixteen .times 2) (l .loop .inv .1) ∙ sym (power-suc (numbers sixteen) 2 (l .loop .i)) ∙ ap (point sixteen) (sym (add-one (l .loop .i))),
+      c .before .column-rows .ensures .0
+      ∙ ap (λ (x : ℕ). l .loop .next + length (columnRows (a .v) (a .d) (a .count) x (getD (a .matrix .now) (l .loop .i) []))) (l .loop .inv .1)
+      ∙ count-more (λ (i : ℕ). columnRows (a .v) (a .d) (a .count) (point sixteen i) (getD (a .matrix .now) i [])) (a .rows .now) 0 (l .loop .i) (l .loop .next) (l .loop .inv .2),
+      joined-more (λ (i : ℕ). columnRows (a .v) (a .d) (a .count) (point sixteen i) (getD (a .matrix .now) i [])) (a .rows .now) 0 (l .loop .rows) (c .before .column-rows .last .0) (l .loop .i) (l .loop .next) (l .loop .inv .3) (l .loop .inv .2)
+          (c .before .column-rows .ensures .1
+          ∙ ap (λ (x : ℕ). sets (l .loop .rows) (l .loop .next) (columnRows (a .v) (a .d) (a .count) x (getD (a .matrix .now) (l .loop .i) []))) (l .loop .inv .1)),
+    )
+
+returns : tie.Need-returns Inv-loop μ-loop
+returns c =
+    let l = c .before in
+    let a = l .before .args in
+    let e : l .loop .i ≡ 15 = omega arith in
+    let n : l .loop .next ≡ 0 + length (positionRows (a .v) (a .d) (a .count) (a .matrix .now) 15) = rw e at (l .loop .inv .2) in
+    (omega arith, rw e at (l .loop .inv .3))
+
+pub conditions-spec : {M : Type 1} → statement M
+conditions-spec =
+    tie.close
+    (tie.spec
+    Inv-loop
+    μ-loop
+    loop-holds
+    mul-column-rows
+    index-1-column-rows
+    column-rows-requires
+    look-requires
+    add-i
+    loop-less
+    loop-again
+    returns)
