@@ -1,0 +1,2 @@
+// Interpolation: the polynomial with the smallest leading monomial.
+pub mod inside;
