@@ -1,0 +1,255 @@
+-- The rows of a matrix' conditions: as many as it costs, and what solves them is what passes.
+-- Assumes nothing.
+use mathlib.Core.List.{List, [], _∷_, map, flatMap, List·Memᴰ, List·Memᴰ·head, List·Memᴰ·tail, Memᴰ·map, Memᴰ·of-map, List·Memᴰ·cases-cons, List·Memᴰ·not-nil}
+use mathlib.Core.Logic.{⊎-elim}
+use mathlib.Core.Path.{_≡_, refl, sym, _∙_, ap, ap₂, subst}
+use Prim.Native.Nat.{ℕ, zero, suc, _+_, _-_, _*_, _/_, _≤_, _<_}
+use native.Mathlib.Decide.{decLt, ℕ-discrete}
+use native.Mathlib.Nat.{suc-mul, mul-suc}
+use native.Mathlib.Omega.{arith}
+use lib.Bits.{xor-zero-r}
+use lib.Dec.{T, eqb, eqb→eq}
+use lib.ListN.{length, getD, drop, set, replicate, length-map, length-replicate, getD-replicate, List·getD-append, List·getD-eq-default}
+use lib.Seq.{sets, sets-eq}
+use Rattle.algebra.proofs.Closed.{times-symbol, point-symbol}
+use Rattle.algebra.proofs.Linear.{dot, row, dot-equal}
+use Rattle.algebra.proofs.Solutions.{hasse-is-dot-of-numbers}
+use Rattle.algebra.proofs.Tests.{every, every-at}
+use Rattle.definitions.proofs.Joined.{join-nil, join-member, member-join}
+use Rattle.definitions.proofs.Monomials.{monomials-in-order}
+use Rattle.definitions.proofs.Ordered.{member-at}
+use Rattle.definitions.proofs.Tools.{below-zero, length-below, below-member, member-below, sum-zero, sum-suc, sum-ext}
+use Rattle.definitions.specs.Bound.{count}
+use Rattle.definitions.specs.Code.{Symbols, point}
+use Rattle.definitions.specs.Field.{numbers, sixteen, sumOf, double, shifted}
+use Rattle.definitions.specs.Polynomial.{Through, hasse, terms, monomials}
+use Rattle.definitions.specs.Tools.{below, sum}
+use Rattle.definitions.specs.Weights.{entry, entryCost}
+use Rattle.elimination.specs.Rows.{entryOf, SymbolRows, Solves}
+use Rattle.field.proofs.Instance.{sixteen-field}
+use Rattle.interpolation.proofs.Steps.{system-set}
+use Rattle.interpolation.specs.Search.{System}
+use Rattle.rows.proofs.Counts.{orders, length-orders}
+use Rattle.rows.proofs.Derivatives.{derivatives-symbols}
+use Rattle.rows.proofs.Filled.{filled-symbols}
+use Rattle.rows.proofs.Placed.{joined-count}
+use Rattle.rows.proofs.Walk.{product-entry}
+use Rattle.rows.specs.Constraints.{walked, derivativesRow, productRow, orderRows, pointRows, columnRows, positionRows}
+use Rattle.rows.specs.Row.{width}
+use Rattle.weights.proofs.Cost.{matrix-entry}
+use Rattle.weights.specs.Matrix.{matrixOf, cell, columnCost, matrixCost}
+
+-- ---- how many
+
+-- joined lists are as long as all of them together
+length-joined : {A : Type 0} (f : ℕ → List A) (n : ℕ) → length (flatMap f (below n)) ≡ sum n (λ j. length (f j))
+length-joined f zero = ap (λ (l : List ℕ). length (flatMap f l)) below-zero ∙ ap length (join-nil f) ∙ sym (sum-zero (λ j. length (f j)))
+length-joined f (suc n) =
+    sym (joined-at n) ∙ ap (λ (x : ℕ). x + length (f n)) (length-joined f n) ∙ sym (sum-suc n (λ j. length (f j)))
+  where
+    joined-at : (n : ℕ) → length (flatMap f (below n)) + length (f n) ≡ length (flatMap f (below (suc n)))
+    joined-at n = joined-count f n ∙ ap (λ (k : ℕ). length (flatMap f (below k))) (let e : n + 1 ≡ suc n = omega arith in e)
+
+-- m + (m - 1) + .. , n numbers of it
+falling-sum : (m n : ℕ) → n ≤ m → 2 * sum n (λ s. m - s) ≡ n * (2 * m + 1 - n)
+falling-sum m zero h = let e = sum-zero (λ s. m - s) in omega arith
+falling-sum m (suc n) h =
+    let e = sum-suc n (λ s. m - s) in
+    let i = falling-sum m n (omega arith) in
+    let a : 2 * m + 1 - n ≡ suc (2 * m - n) = omega arith in
+    let b = mul-suc n (2 * m - n) in
+    let c = suc-mul n (2 * m - n) in
+    let d : 2 * m + 1 - suc n ≡ 2 * m - n = omega arith in
+    let x : n * (2 * m + 1 - n) ≡ n * suc (2 * m - n) = ap (λ (k : ℕ). n * k) a in
+    ap (λ (k : ℕ). 2 * k) e ∙ sym (ap (λ (k : ℕ). suc n * k) d ∙ sym (omega arith))
+
+-- a point of multiplicity m has m(m+1)/2 conditions
+point-cost : (m : ℕ) → sum m (λ s. m - s) ≡ entryCost m
+point-cost m =
+    let e = falling-sum m m (omega arith) in
+    let d : 2 * m + 1 - m ≡ m + 1 = omega arith in
+    let f : m * (2 * m + 1 - m) ≡ m * (m + 1) = ap (λ (k : ℕ). m * k) d in
+    omega arith
+
+module _ (v d w : ℕ) where
+  length-point : (x y m : ℕ) → length (pointRows v d w x y m) ≡ entryCost m
+  length-point x y m =
+      length-joined (orders v d w x y m) m ∙ sum-ext m _ (λ s. m - s) (λ s h. length-orders v d w x y m s) ∙ point-cost m
+
+  length-column : (x : ℕ) (column : List ℕ) → length (columnRows v d w x column) ≡ columnCost column
+  length-column x column =
+      length-joined (λ b. pointRows v d w x b (getD column b 0)) 16
+      ∙ sum-ext 16 _ (λ b. entryCost (getD column b 0)) (λ b h. length-point x b (getD column b 0))
+
+  -- there are as many conditions as the matrix costs
+  pub length-conditions : (a : List (List ℕ)) → length (positionRows v d w a 15) ≡ matrixCost a
+  length-conditions a =
+      length-joined (λ i. columnRows v d w (point sixteen i) (getD a i [])) 15
+      ∙ sum-ext 15 _ (λ i. columnCost (getD a i [])) (λ i h. length-column (point sixteen i) (getD a i []))
+
+-- ---- which
+
+-- a member has a place
+place-of : {A : Type 0} (l : List A) (x d : A) → List·Memᴰ x l → (r : ℕ) × (r < length l) × (getD l r d ≡ x)
+place-of [] x d m = absurd (List·Memᴰ·not-nil m)
+place-of (y ∷ l) x d m =
+    ⊎-elim (λ e. (0, omega arith, sym e)) (λ t. let p = place-of l x d t in (suc (p .0), (let h = p .1 in omega arith), p .2)) (List·Memᴰ·cases-cons m)
+
+-- a condition of a matrix: its position, symbol and orders, and its row
+pub record Condition (v d w : ℕ) (a : List (List ℕ)) (ρ : List ℕ) : Type 0 where
+  pub i : ℕ
+  pub b : ℕ
+  pub s : ℕ
+  pub t : ℕ
+  pub position : i < 15
+  pub symbol : b < 16
+  pub order : s + t < cell a i b
+  pub is-row : productRow v w (derivativesRow (d + 1) (point sixteen i) s) (derivativesRow (d / v + 1) b t) ≡ ρ
+
+module _ (v d w : ℕ) (a : List (List ℕ)) where
+  pub condition-of : (ρ : List ℕ) → List·Memᴰ ρ (positionRows v d w a 15) → Condition v d w a ρ
+  condition-of ρ h =
+      let x = member-join (λ i. columnRows v d w (point sixteen i) (getD a i [])) (below 15) ρ h in
+      let y = member-join (λ b. pointRows v d w (point sixteen (x .0)) b (cell a (x .0) b)) (below 16) ρ (x .2) in
+      let z = member-join (orders v d w (point sixteen (x .0)) (y .0) (cell a (x .0) (y .0))) (below (cell a (x .0) (y .0))) ρ (y .2) in
+      let u = Memᴰ·of-map (λ t. productRow v w (derivativesRow (d + 1) (point sixteen (x .0)) (z .0)) (derivativesRow (d / v + 1) (y .0) t)) (below (cell a (x .0) (y .0) - z .0)) (z .2) in
+      record {
+        i = x .0;
+        b = y .0;
+        s = z .0;
+        t = u .0;
+        position = member-below 15 (x .0) (x .1);
+        symbol = member-below 16 (y .0) (y .1);
+        order = (let p = member-below (cell a (x .0) (y .0)) (z .0) (z .1) in let q = member-below (cell a (x .0) (y .0) - z .0) (u .0) (u .1) in omega arith);
+        is-row = u .2;
+      }
+
+  pub member-of : (ρ : List ℕ) → Condition v d w a ρ → List·Memᴰ ρ (positionRows v d w a 15)
+  member-of ρ c =
+      join-member (λ i. columnRows v d w (point sixteen i) (getD a i [])) (below 15) (c .i) ρ (below-member 15 (c .i) (c .position))
+      (join-member (λ b. pointRows v d w (point sixteen (c .i)) b (cell a (c .i) b)) (below 16) (c .b) ρ (below-member 16 (c .b) (c .symbol))
+      (join-member (orders v d w (point sixteen (c .i)) (c .b) (cell a (c .i) (c .b))) (below (cell a (c .i) (c .b))) (c .s) ρ
+      (below-member (cell a (c .i) (c .b)) (c .s) (let o = c .order in omega arith))
+      (subst (λ (x : List ℕ). List·Memᴰ x (orders v d w (point sixteen (c .i)) (c .b) (cell a (c .i) (c .b)) (c .s))) (c .is-row)
+      (Memᴰ·map (λ t. productRow v w (derivativesRow (d + 1) (point sixteen (c .i)) (c .s)) (derivativesRow (d / v + 1) (c .b) t))
+      (below-member (cell a (c .i) (c .b) - c .s) (c .t) (let o = c .order in omega arith))))))
+
+  -- the row of a condition is a row of symbols
+  pub condition-symbols : (ρ : List ℕ) → Condition v d w a ρ → Symbols sixteen ρ
+  condition-symbols ρ c =
+      subst (Symbols sixteen) (c .is-row)
+      (filled-symbols _ w
+      (λ k _. times-symbol sixteen sixteen-field (getD (derivativesRow (d + 1) (point sixteen (c .i)) (c .s)) (walked v k .0) 0) (getD (derivativesRow (d / v + 1) (c .b) (c .t)) (walked v k .1) 0)
+      (derivatives-symbols (point sixteen (c .i)) (point-symbol sixteen sixteen-field (c .i)) (d + 1) (c .s) (walked v k .0))
+      (derivatives-symbols (c .b) (c .symbol) (d / v + 1) (c .t) (walked v k .1))))
+
+-- ---- the system that holds them
+
+-- rows of zeros are a system
+zero-rows : (n c : ℕ) → (r : ℕ) → Symbols sixteen (getD (replicate n (replicate c 0)) r [])
+zero-rows n c r k =
+    elim (decLt r n) [
+      | yes h ↦ subst (λ (l : List ℕ). getD l k 0 < 16) (sym (getD-replicate n r (replicate c 0) [] h)) (zero-entries c k)
+      | no l ↦ subst (λ (l : List ℕ). getD l k 0 < 16) (sym (List·getD-eq-default (replicate n (replicate c 0)) [] {n = r} (rw (length-replicate n (replicate {A = ℕ} c 0)) (omega arith)))) (omega arith)
+    ]
+  where
+    zero-entries : (c k : ℕ) → getD (replicate c 0) k 0 < 16
+    zero-entries c k =
+        elim (decLt k c) [
+          | yes h ↦ subst (λ (x : ℕ). x < 16) (sym (getD-replicate c k 0 0 h)) (omega arith)
+          | no l ↦ subst (λ (x : ℕ). x < 16) (sym (List·getD-eq-default (replicate c 0) 0 {n = k} (rw (length-replicate {A = ℕ} c 0) (omega arith)))) (omega arith)
+        ]
+
+pub empty-system : (n c : ℕ) → n ≡ 150 → System (replicate n (replicate c 0))
+empty-system n c e = record { size = length-replicate n (replicate {A = ℕ} c 0) ∙ e; symbols = zero-rows n c }
+
+-- rows of symbols are put into a system
+pub system-sets : (o : List (List ℕ)) (at : ℕ) (l : List (List ℕ)) → System o → at + length l ≤ 150 → ((ρ : List ℕ) → List·Memᴰ ρ l → Symbols sixteen ρ)
+    → System (sets o at l)
+system-sets o at [] s h f = s
+system-sets o at (ρ ∷ l) s h f =
+    system-sets (set o at ρ) (suc at) l (system-set o at ρ s (omega arith) (f ρ (List·Memᴰ·head refl))) (omega arith) (λ x m. f x (List·Memᴰ·tail m))
+
+-- and stand there
+placed-at : (o l : List (List ℕ)) (r : ℕ) → length l ≤ length o → r < length l → getD (sets o 0 l) r [] ≡ getD l r []
+placed-at o l r h k =
+    ap (λ (x : List (List ℕ)). getD x r []) (sets-eq l o 0 (omega arith)) ∙ List·getD-append l (drop (0 + length l) o) [] r k
+
+-- ---- what solves passes, and what passes solves
+
+vanishes : T (every 16 (λ x. eqb (sixteen .times x 0) 0))
+unfolding every sumOf double shifted
+vanishes = tt
+
+times-zero : (x : ℕ) → x < 16 → sixteen .times x 0 ≡ 0
+times-zero x h = eqb→eq _ _ (every-at 16 (λ x. eqb (sixteen .times x 0) 0) vanishes x h)
+
+plus-zero : (x : ℕ) → sixteen .plus x 0 ≡ x
+unfolding sumOf
+plus-zero x = xor-zero-r x
+
+dot-suc : (n : ℕ) (ρ q : ℕ → ℕ) → dot (numbers sixteen) (suc n) ρ q ≡ sixteen .plus (dot (numbers sixteen) n ρ q) (sixteen .times (ρ n) (q n))
+unfolding dot
+dot-suc n ρ q = refl
+
+-- where q has ended the row does not matter
+dot-ended : (n w : ℕ) (ρ q : ℕ → ℕ) → w ≤ n → ((k : ℕ) → ρ k < 16) → ((k : ℕ) → w ≤ k → q k ≡ 0) → dot (numbers sixteen) n ρ q ≡ dot (numbers sixteen) w ρ q
+dot-ended zero w ρ q h sr e = let z : w ≡ 0 = omega arith in ap (λ (n : ℕ). dot (numbers sixteen) n ρ q) (sym z)
+dot-ended (suc n) w ρ q h sr e =
+    elim (ℕ-discrete w (suc n)) [
+      | yes z ↦ ap (λ (n : ℕ). dot (numbers sixteen) n ρ q) (sym z)
+      | no l ↦
+          dot-suc n ρ q
+          ∙ ap (λ (x : ℕ). sixteen .plus (dot (numbers sixteen) n ρ q) x) (ap (sixteen .times (ρ n)) (e n (omega arith)) ∙ times-zero (ρ n) (sr n))
+          ∙ plus-zero (dot (numbers sixteen) n ρ q) ∙ dot-ended n w ρ q (omega arith) sr e
+    ]
+
+module _ (m : List ℕ) (n v D : ℕ) (small : n ≤ 15) (size : length m ≡ 16 * n) (pos : 0 < v) (fits : count v D ≤ width) (a : List (List ℕ)) (loaded : a ≡ matrixOf m n)
+    (q : List ℕ) (sq : Symbols sixteen q) (ended : length q ≡ count v D) where
+  -- the row of a condition times q is the derivative
+  row-is-hasse : (ρ : List ℕ) (c : Condition v D (count v D) a ρ)
+      → dot (numbers sixteen) width (λ k. getD ρ k 0) (λ k. getD q k 0)
+      ≡ hasse (numbers sixteen) (terms (numbers sixteen) q (monomials v D)) (c .s) (c .t) (point sixteen (c .i)) (c .b)
+  row-is-hasse ρ c =
+      dot-ended width (count v D) (λ k. getD ρ k 0) (λ k. getD q k 0) fits (condition-symbols v D (count v D) a ρ c) (λ k h. List·getD-eq-default q 0 {n = k} (omega arith))
+      ∙ dot-equal (numbers sixteen) (count v D) (λ k. getD ρ k 0) (row (numbers sixteen) (monomials v D) (c .s) (c .t) (point sixteen (c .i)) (c .b)) (λ k. getD q k 0) (λ k. getD q k 0)
+      (λ k h. ap (λ (x : List ℕ). getD x k 0) (sym (c .is-row)) ∙ product-entry v pos D k h (point sixteen (c .i)) (c .b) (c .s) (c .t)) (λ k h. refl)
+      ∙ ap (λ (w : ℕ). dot (numbers sixteen) w (row (numbers sixteen) (monomials v D) (c .s) (c .t) (point sixteen (c .i)) (c .b)) (λ k. getD q k 0)) (sym (monomials-in-order v pos D .size))
+      ∙ sym (hasse-is-dot-of-numbers sixteen sixteen-field (monomials v D) q (c .s) (c .t) (point sixteen (c .i)) (c .b) sq (point-symbol sixteen sixteen-field (c .i)) (c .symbol))
+
+  -- the entry of a condition is that of the bytes
+  cell-is : (i b : ℕ) → i < 15 → b < 16 → cell a i b ≡ entry sixteen m i b
+  cell-is i b hi hb = ap (λ (x : List (List ℕ)). cell x i b) loaded ∙ matrix-entry m n small size i b hi hb
+
+  used : (i b : ℕ) → b < 16 → 0 < entry sixteen m i b → i < n
+  used i b hb h =
+      elim (decLt i n) [
+        | yes l ↦ l
+        | no l ↦ let z = List·getD-eq-default m 0 {n = 16 * i + b} (omega arith) in let y : ⊥ = omega arith in absurd y
+      ]
+
+  module _ (o : List (List ℕ)) (so : System o) (room : length (positionRows v D (count v D) a 15) ≤ 150) where
+    stands : (r : ℕ) → r < length (positionRows v D (count v D) a 15)
+        → getD (sets o 0 (positionRows v D (count v D) a 15)) r [] ≡ getD (positionRows v D (count v D) a 15) r []
+    stands r h = placed-at o (positionRows v D (count v D) a 15) r (let e = so .size in omega arith) h
+
+    pub through-solves : Through sixteen n v D m q
+        → Solves sixteen (length (positionRows v D (count v D) a 15)) width (sets o 0 (positionRows v D (count v D) a 15)) q
+    through-solves passes r h =
+        let ρ = getD (positionRows v D (count v D) a 15) r [] in
+        let c = condition-of v D (count v D) a ρ (member-at (positionRows v D (count v D) a 15) r [] h) in
+        let e = cell-is (c .i) (c .b) (c .position) (c .symbol) in
+        let below : c .s + c .t < entry sixteen m (c .i) (c .b) = (let f = c .order in omega arith) in
+        ap (λ (x : List ℕ). dot (numbers sixteen) width (λ k. getD x k 0) (λ k. getD q k 0)) (stands r h) ∙ row-is-hasse ρ c
+        ∙ passes (c .i) (c .b) (used (c .i) (c .b) (c .symbol) (omega arith)) (c .symbol) (c .s) (c .t) below
+
+    pub solves-through : Solves sixteen (length (positionRows v D (count v D) a 15)) width (sets o 0 (positionRows v D (count v D) a 15)) q
+        → Through sixteen n v D m q
+    solves-through solves i b hi hb s t h =
+        let ρ = productRow v (count v D) (derivativesRow (D + 1) (point sixteen i) s) (derivativesRow (D / v + 1) b t) in
+        let e = cell-is i b (omega arith) hb in
+        let c : Condition v D (count v D) a ρ = record { i = i; b = b; s = s; t = t; position = omega arith; symbol = hb; order = omega arith; is-row = refl } in
+        let p = place-of (positionRows v D (count v D) a 15) ρ [] (member-of v D (count v D) a ρ c) in
+        sym (row-is-hasse ρ c)
+        ∙ ap (λ (x : List ℕ). dot (numbers sixteen) width (λ k. getD x k 0) (λ k. getD q k 0)) (sym (stands (p .0) (p .1) ∙ p .2))
+        ∙ solves (p .0) (p .1)
