@@ -4,12 +4,15 @@ ghost use mathlib.Core.Logic.{_≢_};
 ghost use mathlib.Core.Path.{_≡_};
 ghost use Prim.Native.Nat.{_+_, _*_, _≤_, _<_};
 ghost use lib.ListN.{length, getD, drop};
+ghost use Rattle.definitions.specs.Bound.{bound};
 ghost use Rattle.definitions.specs.Field.{sixteen};
 ghost use Rattle.definitions.specs.Tools.{below};
 ghost use Rattle.elimination.specs.Rows.{entryOf, SameSolutions, Reduced};
 ghost use Rattle.field.specs.Table.{Products};
+ghost use Rattle.interpolation.specs.Found.{Found};
 ghost use Rattle.interpolation.specs.Search.{System, ClearedRow, Cleared, Step, coefficientOf};
 ghost use Rattle.rows.specs.Row.{width, multiplesTo};
+ghost use Rattle.weights.specs.Matrix.{matrixCost};
 
 use field::Element;
 use rows::ROWS;
@@ -92,4 +95,44 @@ fn first_dependent(system: &mut [[u8; WIDTH]; ROWS], table: &[u8; 256], rows: us
         j += 1;
     };
     dependent
+}
+
+// The coefficient k that the reduced rows show: column j, then 1, then zeros.
+fn coefficient(system: &[[u8; WIDTH]; ROWS], j: usize, k: usize) -> u8
+    requires { ⌜ j ≤ 150 ⌝ }
+    ensures { λ r. ⌜ r ≡ coefficientOf j (now (system .entry)) k ⌝ }
+{
+    if k < j {
+        return system[k][j];
+    }
+    if k == j {
+        return 1;
+    }
+    0
+}
+
+// All coefficients that the reduced rows show, to the front of out.
+fn read_off(system: &[[u8; WIDTH]; ROWS], j: usize, count: usize, out: &mut [u8])
+    requires { ⌜ (j ≤ 150) × (count ≤ length (now out)) ⌝ }
+    ensures { λ _. ⌜ now (out .exit) ≡ map (coefficientOf j (now (system .entry))) (below count) ++ drop count (now (out .entry)) ⌝ }
+{
+    let mut k = 0;
+    while k < count {
+        out[k] = coefficient(system, j, k);
+        k += 1;
+    }
+}
+
+// The polynomial of a matrix within limits, d being its bound and count N(d), to the front of out. Answers the place of its leading monomial.
+pub fn polynomial(matrix: &[[u8; 16]; 15], v: usize, d: usize, count: usize, out: &mut [u8]) -> usize
+    requires { ⌜ (0 < v) × (v < 15) × (matrixCost (now matrix) ≤ 150) ⌝ }
+    requires { ⌜ (d ≡ bound v (matrixCost (now matrix))) × (count ≡ Rattle.definitions.specs.Bound.count v d) × (count ≤ length (now out)) ⌝ }
+    ensures { λ r. ⌜ Found (now (matrix .entry)) v d (now (out .entry)) r (now (out .exit)) ⌝ }
+{
+    let table = field::inside::products();
+    let mut system = [[0u8; WIDTH]; ROWS];
+    let rows = rows::inside::conditions(&mut system, &table, matrix, v, d, count);
+    let leading = first_dependent(&mut system, &table, rows);
+    read_off(&system, leading, count, out);
+    leading
 }
