@@ -65,8 +65,7 @@ module _ (n k G : ℕ) (m out : List ℕ) where
       → Found columns (k - 1) D out place after → InterpolationAnswers sixteen n k G m out (interpolated D c) after
   answers g small full columns ec price D c place after ep ed en f =
       subst (λ (X : Type 0). X)
-      (accepts (λ number place. (interpolated D c ≡ refused number place) × (after ≡ out)) (Interpolated sixteen n k m out (interpolated D c) after) g)
-      (
+      (accepts (λ number place. (interpolated D c ≡ refused number place) × (after ≡ out)) (Interpolated sixteen n k m out (interpolated D c) after) g) (
         f .coefficients,
         subst (λ (d : ℕ). Interpolates sixteen n (k - 1) d m (f .coefficients)) is-bound (f .interpolates m n small full ec),
         ap₂ interpolated is-bound (en ∙ sym (f .size)),

@@ -49,8 +49,8 @@ module _ (m : List (List ℕ)) (s : System m) (j t : ℕ) where
   clear-already c e z = record {
     system = s;
     here = λ n k h.
-      plus-nothing sixteen sixteen-field (entryOf m t k) (entryOf m j k) (s .symbols t k) (s .symbols j k)
-      ∙ ap (λ (x : ℕ). sixteen .plus (entryOf m t k) (sixteen .times x (entryOf m j k))) (sym z ∙ e);
+        plus-nothing sixteen sixteen-field (entryOf m t k) (entryOf m j k) (s .symbols t k) (s .symbols j k)
+        ∙ ap (λ (x : ℕ). sixteen .plus (entryOf m t k) (sixteen .times x (entryOf m j k))) (sym z ∙ e);
     others = λ r n. refl;
     pivot = refl;
   }
@@ -64,9 +64,9 @@ module _ (m : List (List ℕ)) (s : System m) (j t : ℕ) where
   clears-row c times row h u ec et er = record {
     system = system-set m t row s h (subst (Symbols sixteen) (sym is-row) (summed-symbols (getD m t []) (multipleRow c p) (s .symbols t) (multiple-symbols c p small (s .symbols j))));
     here = λ n k l.
-      ap (λ (x : List ℕ). getD x k 0) (getD-set-same m t row [] (let z = s .size in omega arith) ∙ is-row)
-      ∙ filled-at _ width k l
-      ∙ ap (sixteen .plus (entryOf m t k)) (filled-at _ width k l ∙ ap (λ (x : ℕ). sixteen .times x (entryOf m j k)) ec);
+        ap (λ (x : List ℕ). getD x k 0) (getD-set-same m t row [] (let z = s .size in omega arith) ∙ is-row)
+        ∙ filled-at _ width k l
+        ∙ ap (sixteen .plus (entryOf m t k)) (filled-at _ width k l ∙ ap (λ (x : ℕ). sixteen .times x (entryOf m j k)) ec);
     others = λ r n. getD-set-other m t r row [] n;
     pivot = getD-set-other m t j row [] (λ e. u (sym e));
   }

@@ -13,7 +13,6 @@ ghost use Rattle.interpolation.specs.Found.{Found};
 ghost use Rattle.interpolation.specs.Search.{System, ClearedRow, Cleared, Step, coefficientOf};
 ghost use Rattle.rows.specs.Row.{width, multiplesTo};
 ghost use Rattle.weights.specs.Matrix.{matrixCost};
-
 use field::Element;
 use rows::ROWS;
 use rows::WIDTH;
@@ -124,7 +123,13 @@ fn read_off(system: &[[u8; WIDTH]; ROWS], j: usize, count: usize, out: &mut [u8]
 }
 
 // The polynomial of a matrix within limits, d being its bound and count N(d), to the front of out. Answers the place of its leading monomial.
-pub fn polynomial(matrix: &[[u8; 16]; 15], v: usize, d: usize, count: usize, out: &mut [u8]) -> usize
+pub fn polynomial(
+    matrix: &[[u8; 16]; 15],
+    v: usize,
+    d: usize,
+    count: usize,
+    out: &mut [u8],
+) -> usize
     requires { ⌜ (0 < v) × (v < 15) × (matrixCost (now matrix) ≤ 150) ⌝ }
     requires { ⌜ (d ≡ bound v (matrixCost (now matrix))) × (count ≡ Rattle.definitions.specs.Bound.count v d) × (count ≤ length (now out)) ⌝ }
     ensures { λ r. ⌜ Found (now (matrix .entry)) v d (now (out .entry)) r (now (out .exit)) ⌝ }

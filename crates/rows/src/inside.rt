@@ -9,7 +9,6 @@ ghost use Rattle.definitions.specs.Field.{sixteen};
 ghost use Rattle.field.specs.Table.{Products};
 ghost use Rattle.rows.specs.Constraints.{stepped, productRow, orderRows, pointRows, columnRows, positionRows};
 ghost use Rattle.rows.specs.Row.{filled, summedRow, multipleRow, multiplesTo};
-
 use crate::ROWS;
 use crate::WIDTH;
 
@@ -116,7 +115,13 @@ fn derivatives(table: &[u8; 256], x: u8, first: u8, before: &[u8; WIDTH], n: usi
 }
 
 // One condition: along the monomials, the derivative by x times that by y.
-fn condition(table: &[u8; 256], hx: &[u8; WIDTH], hy: &[u8; WIDTH], v: usize, count: usize) -> [u8; WIDTH]
+fn condition(
+    table: &[u8; 256],
+    hx: &[u8; WIDTH],
+    hy: &[u8; WIDTH],
+    v: usize,
+    count: usize,
+) -> [u8; WIDTH]
     requires { ⌜ Products (now table) ⌝ }
     requires { ⌜ Symbols sixteen (now hx) ⌝ }
     requires { ⌜ Symbols sixteen (now hy) ⌝ }
@@ -144,7 +149,17 @@ fn condition(table: &[u8; 256], hx: &[u8; WIDTH], hy: &[u8; WIDTH], v: usize, co
 }
 
 // The conditions of one order by x: the orders by y below m.
-fn order_rows(rows: &mut [[u8; WIDTH]; ROWS], table: &[u8; 256], at: usize, hx: &[u8; WIDTH], b: u8, m: usize, v: usize, n: usize, count: usize)
+fn order_rows(
+    rows: &mut [[u8; WIDTH]; ROWS],
+    table: &[u8; 256],
+    at: usize,
+    hx: &[u8; WIDTH],
+    b: u8,
+    m: usize,
+    v: usize,
+    n: usize,
+    count: usize,
+)
     requires { ⌜ Products (now table) ⌝ }
     requires { ⌜ Symbols sixteen (now hx) ⌝ }
     requires { ⌜ (b < 16) × (0 < v) × (n ≤ 160) × (count ≤ 160) × (at + m ≤ 150) ⌝ }
@@ -163,7 +178,17 @@ fn order_rows(rows: &mut [[u8; WIDTH]; ROWS], table: &[u8; 256], at: usize, hx: 
 }
 
 // The conditions of one point: the orders by x below m. Answers the place after them.
-fn point_rows(rows: &mut [[u8; WIDTH]; ROWS], table: &[u8; 256], at: usize, a: u8, b: u8, m: usize, v: usize, d: usize, count: usize) -> usize
+fn point_rows(
+    rows: &mut [[u8; WIDTH]; ROWS],
+    table: &[u8; 256],
+    at: usize,
+    a: u8,
+    b: u8,
+    m: usize,
+    v: usize,
+    d: usize,
+    count: usize,
+) -> usize
     requires { ⌜ Products (now table) ⌝ }
     requires { ⌜ (a < 16) × (b < 16) × (0 < v) × (d < 160) × (count ≤ 160) ⌝ }
     requires { ⌜ at + length (pointRows v d count a b m) ≤ 150 ⌝ }
@@ -185,7 +210,16 @@ fn point_rows(rows: &mut [[u8; WIDTH]; ROWS], table: &[u8; 256], at: usize, a: u
 }
 
 // The conditions of one position.
-fn column_rows(rows: &mut [[u8; WIDTH]; ROWS], table: &[u8; 256], at: usize, a: u8, column: &[u8; 16], v: usize, d: usize, count: usize) -> usize
+fn column_rows(
+    rows: &mut [[u8; WIDTH]; ROWS],
+    table: &[u8; 256],
+    at: usize,
+    a: u8,
+    column: &[u8; 16],
+    v: usize,
+    d: usize,
+    count: usize,
+) -> usize
     requires { ⌜ Products (now table) ⌝ }
     requires { ⌜ (a < 16) × (0 < v) × (d < 160) × (count ≤ 160) ⌝ }
     requires { ⌜ at + length (columnRows v d count a (now column)) ≤ 150 ⌝ }
@@ -204,7 +238,14 @@ fn column_rows(rows: &mut [[u8; WIDTH]; ROWS], table: &[u8; 256], at: usize, a: 
 }
 
 // The conditions of a whole matrix, from the first row on. Answers how many there are.
-pub fn conditions(rows: &mut [[u8; WIDTH]; ROWS], table: &[u8; 256], matrix: &[[u8; 16]; 15], v: usize, d: usize, count: usize) -> usize
+pub fn conditions(
+    rows: &mut [[u8; WIDTH]; ROWS],
+    table: &[u8; 256],
+    matrix: &[[u8; 16]; 15],
+    v: usize,
+    d: usize,
+    count: usize,
+) -> usize
     requires { ⌜ Products (now table) ⌝ }
     requires { ⌜ (0 < v) × (d < 160) × (count ≤ 160) ⌝ }
     requires { ⌜ length (positionRows v d count (now matrix) 15) ≤ 150 ⌝ }

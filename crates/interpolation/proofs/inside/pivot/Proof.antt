@@ -82,8 +82,7 @@ clear-requires c κs =
     let a = s .args in
     let m = a .system .now in
     let u = c .before .before .before .before .before .before .before .before .u .given in
-    let l = inverse-law (entryOf m (a .r) (a .j)) (u .0 .0) (s .pre .0 .symbols (a .r) (a .j)) (s .pre .1 .1 .1) (sym (ap toldElement (u .1)) ∙ c .before .before .before .before .before .before .before .before .before .before .inverse .ensures) in
-    (
+    let l = inverse-law (entryOf m (a .r) (a .j)) (u .0 .0) (s .pre .0 .symbols (a .r) (a .j)) (s .pre .1 .1 .1) (sym (ap toldElement (u .1)) ∙ c .before .before .before .before .before .before .before .before .before .before .inverse .ensures) in (
       brought-system m (s .pre .0) (a .r) (a .j) (a .rows) (u .0 .0) (c .before .before .before .before .before .scaled .result) (omega arith) (omega arith) (omega arith) (l .0) (c .before .before .before .before .before .scaled .ensures),
       (
         (omega arith, omega arith),

@@ -36,8 +36,7 @@ loop-less c = omega arith
 loop-again : tie.Need-loop-again Inv-loop μ-loop
 loop-again c =
     let l = c .before .before in
-    let a = l .before .before .args in
-    (
+    let a = l .before .before .args in (
       omega arith,
       length-set (l .loop .out) (l .loop .k) (c .coefficient .result) ∙ l .loop .inv .1,
       written-more (coefficientOf (a .j) (a .system .now)) (a .out .now) (l .loop .out) (l .loop .k) (c .coefficient .result) (omega arith) (l .loop .inv .2) (c .coefficient .ensures),

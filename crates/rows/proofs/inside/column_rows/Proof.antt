@@ -12,7 +12,7 @@ use Rattle.rows.proofs.inside.column_rows.Statement.{statement}
 use Rattle.rows.proofs.inside.column_rows.Tie as tie
 
 abbrev Inv-loop : tie.InvT-loop
-Inv-loop rows₀ table at a column v d count next₀ symbol₀ rows next symbol = 
+Inv-loop rows₀ table at a column v d count next₀ symbol₀ rows next symbol =
     (symbol ≤ 16) × (next ≡ at + length (flatMap (λ (b : ℕ). pointRows v d count a b (getD column b 0)) (below symbol))) × (rows ≡ sets rows₀ at (flatMap (λ (b : ℕ). pointRows v d count a b (getD column b 0)) (below symbol)))
 
 abbrev μ-loop : tie.MeasureT-loop
@@ -39,8 +39,7 @@ point-rows-requires c κs =
     let a = s .args in
     let m : c .before .wide2 .result ≡ getD (a .column .now) (l .loop .symbol) 0 =
     c .before .wide2 .ensures .0 ∙ ap (λ (k : ℕ). getD (a .column .now) k 0) (c .before .before .before .wide .ensures .0) in
-    let room = joined-room (λ (b : ℕ). pointRows (a .v) (a .d) (a .count) (a .a) b (getD (a .column .now) b 0)) 16 (l .loop .symbol) (omega arith) in
-    (
+    let room = joined-room (λ (b : ℕ). pointRows (a .v) (a .d) (a .count) (a .a) b (getD (a .column .now) b 0)) 16 (l .loop .symbol) (omega arith) in (
       s .pre .0,
       (
         (omega arith, omega arith, omega arith, omega arith, omega arith),
@@ -60,12 +59,11 @@ loop-again c =
     let s = l .before in
     let a = s .args in
     let m : c .before .before .wide2 .result ≡ getD (a .column .now) (l .loop .symbol) 0 =
-    c .before .before .wide2 .ensures .0 ∙ ap (λ (k : ℕ). getD (a .column .now) k 0) (c .before .before .before .before .wide .ensures .0) in
-    (
+    c .before .before .wide2 .ensures .0 ∙ ap (λ (k : ℕ). getD (a .column .now) k 0) (c .before .before .before .before .wide .ensures .0) in (
       omega arith,
       c .point-rows .ensures .0
-      ∙ ap (λ (k : ℕ). l .loop .next + length (pointRows (a .v) (a .d) (a .count) (a .a) (l .loop .symbol) k)) m
-      ∙ count-more (λ (b : ℕ). pointRows (a .v) (a .d) (a .count) (a .a) b (getD (a .column .now) b 0)) (a .rows .now) (a .at) (l .loop .symbol) (l .loop .next) (l .loop .inv .1),
+          ∙ ap (λ (k : ℕ). l .loop .next + length (pointRows (a .v) (a .d) (a .count) (a .a) (l .loop .symbol) k)) m
+          ∙ count-more (λ (b : ℕ). pointRows (a .v) (a .d) (a .count) (a .a) b (getD (a .column .now) b 0)) (a .rows .now) (a .at) (l .loop .symbol) (l .loop .next) (l .loop .inv .1),
       joined-more (λ (b : ℕ). pointRows (a .v) (a .d) (a .count) (a .a) b (getD (a .column .now) b 0)) (a .rows .now) (a .at) (l .loop .rows) (c .point-rows .last .0) (l .loop .symbol) (l .loop .next) (l .loop .inv .2) (l .loop .inv .1)
           (c .point-rows .ensures .1 ∙ ap (λ (k : ℕ). sets (l .loop .rows) (l .loop .next) (pointRows (a .v) (a .d) (a .count) (a .a) (l .loop .symbol) k)) m),
     )

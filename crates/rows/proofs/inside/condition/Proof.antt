@@ -65,16 +65,15 @@ loop-again : tie.Need-loop-again Inv-loop μ-loop
 loop-again c =
     let l = c .before .before .before .before .before in
     let a = l .before .args in
-    let i = l .loop .inv .1 in
-    (
+    let i = l .loop .inv .1 in (
       omega arith,
       ⊎-elim
-      (λ w.
-      let r = walk-stays (a .v) (l .loop .k) (l .loop .x) (l .loop .y) (l .loop .degree) (i .0) (i .1) (i .2) (w .0 .taken) in
-      (w .1 ∙ r .0, w .2 ∙ r .1, w .3 ∙ r .2))
-      (λ w.
-      let r = walk-turns (a .v) (l .loop .k) (l .loop .x) (l .loop .y) (l .loop .degree) (i .0) (i .1) (i .2) (w .0 .left) in
-      (w .1 ∙ r .0, w .2 ∙ r .1, w .3 ∙ r .2)) (c .if1 .came),
+          (λ w.
+          let r = walk-stays (a .v) (l .loop .k) (l .loop .x) (l .loop .y) (l .loop .degree) (i .0) (i .1) (i .2) (w .0 .taken) in
+          (w .1 ∙ r .0, w .2 ∙ r .1, w .3 ∙ r .2))
+          (λ w.
+          let r = walk-turns (a .v) (l .loop .k) (l .loop .x) (l .loop .y) (l .loop .degree) (i .0) (i .1) (i .2) (w .0 .left) in
+          (w .1 ∙ r .0, w .2 ∙ r .1, w .3 ∙ r .2)) (c .if1 .came),
       filled-more (λ j. sixteen .times (getD (a .hx .now) (walked (a .v) j .0) 0) (getD (a .hy .now) (walked (a .v) j .1) 0)) (l .loop .row) (l .loop .k)
           (c .before .look .result) (omega arith) (l .loop .inv .2)
           (c .before .look .ensures ∙ ap₂ (λ (e f : ℕ). sixteen .times (getD (a .hx .now) e 0) (getD (a .hy .now) f 0)) (i .0) (i .1)),

@@ -17,7 +17,7 @@ use Rattle.rows.proofs.inside.conditions.Statement.{statement}
 use Rattle.rows.proofs.inside.conditions.Tie as tie
 
 abbrev Inv-loop : tie.InvT-loop
-Inv-loop rows₀ table matrix v d count next₀ a₀ i₀ rows next a i = 
+Inv-loop rows₀ table matrix v d count next₀ a₀ i₀ rows next a i =
     (i ≤ 15) × (a ≡ point sixteen i) × (next ≡ 0 + length (flatMap (λ (i : ℕ). columnRows v d count (point sixteen i) (getD matrix i [])) (below i)))
     × (rows ≡ sets rows₀ 0 (flatMap (λ (i : ℕ). columnRows v d count (point sixteen i) (getD matrix i [])) (below i)))
 
@@ -40,8 +40,7 @@ column-rows-requires c κs =
     let l = c .before .before .before in
     let s = l .before in
     let a = s .args in
-    let room = joined-room (λ (i : ℕ). columnRows (a .v) (a .d) (a .count) (point sixteen i) (getD (a .matrix .now) i [])) 15 (l .loop .i) (omega arith) in
-    (
+    let room = joined-room (λ (i : ℕ). columnRows (a .v) (a .d) (a .count) (point sixteen i) (getD (a .matrix .now) i [])) 15 (l .loop .i) (omega arith) in (
       s .pre .0,
       (
         (subst (λ (x : ℕ). x < 16) (sym (l .loop .inv .1)) (point-symbol sixteen sixteen-field (l .loop .i)), omega arith, omega arith, omega arith),
@@ -64,13 +63,12 @@ loop-less c = omega arith
 loop-again : tie.Need-loop-again Inv-loop μ-loop
 loop-again c =
     let l = c .before .before .before .before .before in
-    let a = l .before .args in
-    (
+    let a = l .before .args in (
       omega arith,
       c .look .ensures ∙ ap (sixteen .times 2) (l .loop .inv .1) ∙ sym (power-suc (numbers sixteen) 2 (l .loop .i)) ∙ ap (point sixteen) (sym (add-one (l .loop .i))),
       c .before .column-rows .ensures .0
-      ∙ ap (λ (x : ℕ). l .loop .next + length (columnRows (a .v) (a .d) (a .count) x (getD (a .matrix .now) (l .loop .i) []))) (l .loop .inv .1)
-      ∙ count-more (λ (i : ℕ). columnRows (a .v) (a .d) (a .count) (point sixteen i) (getD (a .matrix .now) i [])) (a .rows .now) 0 (l .loop .i) (l .loop .next) (l .loop .inv .2),
+          ∙ ap (λ (x : ℕ). l .loop .next + length (columnRows (a .v) (a .d) (a .count) x (getD (a .matrix .now) (l .loop .i) []))) (l .loop .inv .1)
+          ∙ count-more (λ (i : ℕ). columnRows (a .v) (a .d) (a .count) (point sixteen i) (getD (a .matrix .now) i [])) (a .rows .now) 0 (l .loop .i) (l .loop .next) (l .loop .inv .2),
       joined-more (λ (i : ℕ). columnRows (a .v) (a .d) (a .count) (point sixteen i) (getD (a .matrix .now) i [])) (a .rows .now) 0 (l .loop .rows) (c .before .column-rows .last .0) (l .loop .i) (l .loop .next) (l .loop .inv .3) (l .loop .inv .2)
           (c .before .column-rows .ensures .1
           ∙ ap (λ (x : ℕ). sets (l .loop .rows) (l .loop .next) (columnRows (a .v) (a .d) (a .count) x (getD (a .matrix .now) (l .loop .i) []))) (l .loop .inv .1)),

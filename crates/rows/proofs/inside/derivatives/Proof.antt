@@ -43,8 +43,7 @@ loop-again : tie.Need-loop-again Inv-loop μ-loop
 unfolding sumOf
 loop-again c =
     let l = c .before .before .before in
-    let a = l .before .args in
-    (
+    let a = l .before .args in (
       omega arith,
       stepped-more (a .x) (a .first) (a .before .now) (l .loop .e) (l .loop .next) (c .before .look .result) (l .loop .inv .1) (c .before .look .ensures),
       filled-more (stepped (a .x) (a .first) (a .before .now)) (l .loop .row) (l .loop .e) (l .loop .next) (omega arith) (l .loop .inv .2) (l .loop .inv .1),

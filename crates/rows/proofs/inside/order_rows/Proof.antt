@@ -26,8 +26,7 @@ derivatives-requires : tie.Need-derivatives-requires Inv-loop μ-loop
 derivatives-requires c κs =
     let l = c .before .before in
     let s = l .before in
-    let a = s .args in
-    (
+    let a = s .args in (
       s .pre .0,
       (
         subst (Symbols sixteen) (sym (l .loop .inv .1)) (lower-symbols (a .b) (omega arith) (a .n) (l .loop .t)),
@@ -63,8 +62,7 @@ loop-again c =
     let l = c .before .before .before .before .before in
     let s = l .before in
     let a = s .args in
-    let e = (next-order (a .b) (omega arith) (a .n) (l .loop .t) (l .loop .first) (l .loop .hy) (c .before .before .derivatives .result) (omega arith) (l .loop .inv .2) (l .loop .inv .1) (c .before .before .derivatives .ensures)) in
-    (
+    let e = (next-order (a .b) (omega arith) (a .n) (l .loop .t) (l .loop .first) (l .loop .hy) (c .before .before .derivatives .result) (omega arith) (l .loop .inv .2) (l .loop .inv .1) (c .before .before .derivatives .ensures)) in (
       omega arith,
       e ∙ ap (lower (a .n) (a .b)) (sym (add-one (l .loop .t))),
       ap lead (sym (add-one (l .loop .t))),

@@ -17,7 +17,7 @@ use Rattle.rows.proofs.inside.point_rows.Statement.{statement}
 use Rattle.rows.proofs.inside.point_rows.Tie as tie
 
 abbrev Inv-loop : tie.InvT-loop
-Inv-loop rows₀ table at a b m v d count next₀ hx₀ first₀ s₀ rows next hx first s = 
+Inv-loop rows₀ table at a b m v d count next₀ hx₀ first₀ s₀ rows next hx first s =
     (s ≤ m) × (hx ≡ lower (d + 1) a s) × (first ≡ lead s) × (next ≡ at + length (flatMap (orders v d count a b m) (below s)))
     × (rows ≡ sets rows₀ at (flatMap (orders v d count a b m) (below s)))
 
@@ -36,8 +36,7 @@ derivatives-requires : tie.Need-derivatives-requires Inv-loop μ-loop
 derivatives-requires c κs =
     let l = c .before .before in
     let s = l .before in
-    let a = s .args in
-    (
+    let a = s .args in (
       s .pre .0,
       (
         subst (Symbols sixteen) (sym (l .loop .inv .1)) (lower-symbols (a .a) (omega arith) (a .d + 1) (l .loop .s)),
@@ -69,8 +68,7 @@ order-rows-requires c κs =
     let room = joined-room (orders (a .v) (a .d) (a .count) (a .a) (a .b) (a .m)) (a .m) (l .loop .s) (omega arith) in
     let size = length-orders (a .v) (a .d) (a .count) (a .a) (a .b) (a .m) (l .loop .s) in
     let small = div-le-self (a .d) (a .v) in
-    let fits : l .loop .next + (a .m - l .loop .s) ≤ 150 = omega arith in
-    (
+    let fits : l .loop .next + (a .m - l .loop .s) ≤ 150 = omega arith in (
       s .pre .0,
       (
         subst (Symbols sixteen) (sym e) (derivatives-symbols (a .a) (omega arith) (a .d + 1) (l .loop .s)),
@@ -103,8 +101,7 @@ loop-again c =
     let a = s .args in
     let e = (next-order (a .a) (omega arith) (a .d + 1) (l .loop .s) (l .loop .first) (l .loop .hx) (c .before .before .before .derivatives .result) (omega arith) (l .loop .inv .2) (l .loop .inv .1) (c .before .before .before .derivatives .ensures)) in
     let size = length-orders (a .v) (a .d) (a .count) (a .a) (a .b) (a .m) (l .loop .s) in
-    let more = count-more (orders (a .v) (a .d) (a .count) (a .a) (a .b) (a .m)) (a .rows .now) (a .at) (l .loop .s) (l .loop .next) (l .loop .inv .3) in
-    (
+    let more = count-more (orders (a .v) (a .d) (a .count) (a .a) (a .b) (a .m)) (a .rows .now) (a .at) (l .loop .s) (l .loop .next) (l .loop .inv .3) in (
       omega arith,
       e ∙ ap (lower (a .d + 1) (a .a)) (sym (add-one (l .loop .s))),
       ap lead (sym (add-one (l .loop .s))),
