@@ -29,7 +29,7 @@ use Rattle.interpolation.proofs.Conditions.{length-conditions, conditio
 use Rattle.interpolation.proofs.Width.{width-fits}
 use Rattle.interpolation.specs.Found.{Found}
 use Rattle.interpolation.specs.Search.{System, coefficientOf}
-use Rattle.rows.specs.Constraints.{positionRows}
+use Rattle.conditions.specs.Conditions.{positionRows}
 use Rattle.rows.specs.Row.{width}
 use Rattle.weights.specs.Matrix.{matrixOf, matrixCost}
 

@@ -29,12 +29,12 @@ use Rattle.elimination.specs.Rows.{entryOf, SymbolRows, Solves}
 use Rattle.field.proofs.Instance.{sixteen-field}
 use Rattle.interpolation.proofs.Steps.{system-set}
 use Rattle.interpolation.specs.Search.{System}
-use Rattle.rows.proofs.Counts.{orders, length-orders}
-use Rattle.rows.proofs.Derivatives.{derivatives-symbols}
+use Rattle.conditions.proofs.Counts.{orders, length-orders}
+use Rattle.conditions.proofs.Derivatives.{derivatives-symbols}
 use Rattle.rows.proofs.Filled.{filled-symbols}
-use Rattle.rows.proofs.Placed.{joined-count}
-use Rattle.rows.proofs.Walk.{product-entry}
-use Rattle.rows.specs.Constraints.{walked, derivativesRow, productRow, orderRows, pointRows, columnRows, positionRows}
+use Rattle.conditions.proofs.Placed.{joined-count}
+use Rattle.conditions.proofs.Walk.{product-entry}
+use Rattle.conditions.specs.Conditions.{walked, derivativesRow, productRow, orderRows, pointRows, columnRows, positionRows}
 use Rattle.rows.specs.Row.{width}
 use Rattle.weights.proofs.Cost.{matrix-entry}
 use Rattle.weights.specs.Matrix.{matrixOf, cell, columnCost, matrixCost}

@@ -1,5 +1,1 @@
 pub mod Filled
-pub mod Derivatives
-pub mod Walk
-pub mod Placed
-pub mod Counts

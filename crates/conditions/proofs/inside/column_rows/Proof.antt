@@ -4,12 +4,12 @@ use Prim.Native.Nat.{ℕ, _+_, _-_, _/_, _≤_, _<_}
 use lib.ListN.{length, getD}
 use lib.Seq.{sets}
 use Rattle.definitions.specs.Tools.{below}
-use Rattle.rows.proofs.Placed.{joined-none, none-counted, joined-more, count-more, joined-room}
-use Rattle.rows.specs.Constraints.{pointRows}
+use Rattle.conditions.proofs.Placed.{joined-none, none-counted, joined-more, count-more, joined-room}
+use Rattle.conditions.specs.Conditions.{pointRows}
 use native.Mathlib.Omega.{arith}
 use borrow.Author.Needs.{needs}
-use Rattle.rows.proofs.inside.column_rows.Statement.{statement}
-use Rattle.rows.proofs.inside.column_rows.Tie as tie
+use Rattle.conditions.proofs.inside.column_rows.Statement.{statement}
+use Rattle.conditions.proofs.inside.column_rows.Tie as tie
 
 abbrev Inv-loop : tie.InvT-loop
 Inv-loop rows₀ table at a column v d count next₀ symbol₀ rows next symbol =

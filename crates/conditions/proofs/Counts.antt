@@ -6,7 +6,7 @@ use Prim.Native.Nat.{ℕ, _+_, _-_, _/_}
 use lib.ListN.{length, length-map}
 use Rattle.definitions.proofs.Tools.{length-below}
 use Rattle.definitions.specs.Tools.{below}
-use Rattle.rows.specs.Constraints.{derivativesRow, productRow, orderRows}
+use Rattle.conditions.specs.Conditions.{derivativesRow, productRow, orderRows}
 
 -- the conditions of order s by x, of a point of multiplicity m
 abbrev pub orders : ℕ → ℕ → ℕ → ℕ → ℕ → ℕ → ℕ → List (List ℕ)

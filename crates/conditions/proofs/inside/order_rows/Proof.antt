@@ -4,12 +4,12 @@ use native.Mathlib.Numerals.{add-one}
 use lib.Seq.{sets}
 use Rattle.definitions.specs.Code.{Symbols}
 use Rattle.definitions.specs.Field.{sixteen}
-use Rattle.rows.proofs.Derivatives.{lead, lower, lead-symbol, lower-symbols, next-order, derivatives-symbols}
-use Rattle.rows.proofs.Placed.{rows-none, rows-more}
-use Rattle.rows.specs.Constraints.{derivativesRow, productRow, orderRows}
+use Rattle.conditions.proofs.Derivatives.{lead, lower, lead-symbol, lower-symbols, next-order, derivatives-symbols}
+use Rattle.conditions.proofs.Placed.{rows-none, rows-more}
+use Rattle.conditions.specs.Conditions.{derivativesRow, productRow, orderRows}
 use native.Mathlib.Omega.{arith}
-use Rattle.rows.proofs.inside.order_rows.Statement.{statement}
-use Rattle.rows.proofs.inside.order_rows.Tie as tie
+use Rattle.conditions.proofs.inside.order_rows.Statement.{statement}
+use Rattle.conditions.proofs.inside.order_rows.Tie as tie
 
 abbrev Inv-loop : tie.InvT-loop
 Inv-loop rows₀ table at hx b m v n count hy₀ first₀ t₀ rows hy first t = (t ≤ m) × (hy ≡ lower n b t) × (first ≡ lead t) × (rows ≡ sets rows₀ at (orderRows v n count hx b t))

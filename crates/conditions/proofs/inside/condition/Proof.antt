@@ -3,13 +3,13 @@ use mathlib.Core.Path.{_≡_, _∙_, ap₂}
 use Prim.Native.Nat.{ℕ, _+_, _-_, _≤_, _<_}
 use lib.ListN.{getD}
 use Rattle.definitions.specs.Field.{sixteen}
-use Rattle.rows.proofs.Walk.{walked-le, walk-begins, walk-stays, walk-turns}
+use Rattle.conditions.proofs.Walk.{walked-le, walk-begins, walk-stays, walk-turns}
 use Rattle.rows.proofs.Filled.{filled-none, filled-more}
-use Rattle.rows.specs.Constraints.{walked}
+use Rattle.conditions.specs.Conditions.{walked}
 use Rattle.rows.specs.Row.{filled}
 use native.Mathlib.Omega.{arith}
-use Rattle.rows.proofs.inside.condition.Statement.{statement}
-use Rattle.rows.proofs.inside.condition.Tie as tie
+use Rattle.conditions.proofs.inside.condition.Statement.{statement}
+use Rattle.conditions.proofs.inside.condition.Tie as tie
 
 abbrev Inv-loop : tie.InvT-loop
 Inv-loop table hx hy v count row₀ x₀ y₀ degree₀ k₀ row x y degree k = (k ≤ count) × ((x ≡ walked v k .0) × (y ≡ walked v k .1) × (degree ≡ walked v k .2)) × (row ≡ filled k (λ (j : ℕ). sixteen .times (getD hx (walked v j .0) 0) (getD hy (walked v j .1) 0)))

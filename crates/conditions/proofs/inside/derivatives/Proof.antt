@@ -1,13 +1,13 @@
 use mathlib.Core.Path.{_≡_}
 use Prim.Native.Nat.{ℕ, _+_, _-_, _≤_, _<_}
 use Rattle.definitions.specs.Field.{sumOf}
-use Rattle.rows.proofs.Derivatives.{stepped-none, stepped-more, stepped-symbol}
+use Rattle.conditions.proofs.Derivatives.{stepped-none, stepped-more, stepped-symbol}
 use Rattle.rows.proofs.Filled.{filled-none, filled-more}
-use Rattle.rows.specs.Constraints.{stepped}
+use Rattle.conditions.specs.Conditions.{stepped}
 use Rattle.rows.specs.Row.{filled}
 use native.Mathlib.Omega.{arith}
-use Rattle.rows.proofs.inside.derivatives.Statement.{statement}
-use Rattle.rows.proofs.inside.derivatives.Tie as tie
+use Rattle.conditions.proofs.inside.derivatives.Statement.{statement}
+use Rattle.conditions.proofs.inside.derivatives.Tie as tie
 
 abbrev Inv-loop : tie.InvT-loop
 Inv-loop table x first before n row₀ next₀ e₀ row next e = (e ≤ n) × (next ≡ stepped x first before e) × (row ≡ filled e (stepped x first before))

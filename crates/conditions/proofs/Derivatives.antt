@@ -15,9 +15,9 @@ use Rattle.definitions.specs.Code.{Symbols}
 use Rattle.definitions.specs.Field.{Code, numbers, sixteen, sumOf}
 use Rattle.definitions.specs.Polynomial.{derivative}
 use Rattle.field.proofs.Instance.{sixteen-field}
 use Rattle.rows.proofs.Filled.{filled-none, filled-at, filled-rest, filled-equal, filled-symbols}
-use Rattle.rows.specs.Constraints.{stepped, derivativesRow}
+use Rattle.conditions.specs.Conditions.{stepped, derivativesRow}
 use Rattle.rows.specs.Row.{width, filled}
 
 -- derivatives of numbers are those of their elements
 module _ (C : Code) (F : FieldOf C) (x : ℕ) (h : x < C .symbols) where

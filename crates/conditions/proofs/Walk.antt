@@ -20,8 +20,8 @@ use Rattle.definitions.specs.Bound.{count}
 use Rattle.definitions.specs.Field.{numbers, sixteen}
 use Rattle.definitions.specs.Polynomial.{monomialsOf, monomials, derivative}
 use Rattle.definitions.specs.Tools.{below}
 use Rattle.rows.proofs.Filled.{filled-at}
-use Rattle.rows.specs.Constraints.{Place, nextPlace, walked, derivativesRow, productRow}
+use Rattle.conditions.specs.Conditions.{Place, nextPlace, walked, derivativesRow, productRow}
 
 module _ (v : ℕ) where
   walked-zero : walked v 0 ≡ (0, 0, 0)

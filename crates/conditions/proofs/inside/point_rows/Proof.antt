@@ -8,13 +8,13 @@ use lib.Seq.{sets}
 use Rattle.definitions.specs.Code.{Symbols}
 use Rattle.definitions.specs.Field.{sixteen}
 use Rattle.definitions.specs.Tools.{below}
-use Rattle.rows.proofs.Counts.{orders, length-orders}
-use Rattle.rows.proofs.Derivatives.{lead, lower, lead-symbol, lower-symbols, next-order, derivatives-symbols}
-use Rattle.rows.proofs.Placed.{joined-none, none-counted, joined-more, count-more, joined-room}
-use Rattle.rows.specs.Constraints.{orderRows}
+use Rattle.conditions.proofs.Counts.{orders, length-orders}
+use Rattle.conditions.proofs.Derivatives.{lead, lower, lead-symbol, lower-symbols, next-order, derivatives-symbols}
+use Rattle.conditions.proofs.Placed.{joined-none, none-counted, joined-more, count-more, joined-room}
+use Rattle.conditions.specs.Conditions.{orderRows}
 use native.Mathlib.Omega.{arith}
-use Rattle.rows.proofs.inside.point_rows.Statement.{statement}
-use Rattle.rows.proofs.inside.point_rows.Tie as tie
+use Rattle.conditions.proofs.inside.point_rows.Statement.{statement}
+use Rattle.conditions.proofs.inside.point_rows.Tie as tie
 
 abbrev Inv-loop : tie.InvT-loop
 Inv-loop rows₀ table at a b m v d count next₀ hx₀ first₀ s₀ rows next hx first s =

@@ -10,11 +10,11 @@ use Rattle.definitions.specs.Code.{point}
 use Rattle.definitions.specs.Field.{numbers, sixteen}
 use Rattle.definitions.specs.Tools.{below}
 use Rattle.field.proofs.Instance.{sixteen-field}
-use Rattle.rows.proofs.Placed.{joined-none, none-counted, joined-more, count-more, joined-room}
-use Rattle.rows.specs.Constraints.{columnRows, positionRows}
+use Rattle.conditions.proofs.Placed.{joined-none, none-counted, joined-more, count-more, joined-room}
+use Rattle.conditions.specs.Conditions.{columnRows, positionRows}
 use native.Mathlib.Omega.{arith}
-use Rattle.rows.proofs.inside.conditions.Statement.{statement}
-use Rattle.rows.proofs.inside.conditions.Tie as tie
+use Rattle.conditions.proofs.inside.matrix_rows.Statement.{statement}
+use Rattle.conditions.proofs.inside.matrix_rows.Tie as tie
 
 abbrev Inv-loop : tie.InvT-loop
 Inv-loop rows₀ table matrix v d count next₀ a₀ i₀ rows next a i =
@@ -82,8 +82,8 @@ returns c =
     let n : l .loop .next ≡ 0 + length (positionRows (a .v) (a .d) (a .count) (a .matrix .now) 15) = rw e at (l .loop .inv .2) in
     (omega arith, rw e at (l .loop .inv .3))
 
-pub conditions-spec : {M : Type 1} → statement M
-conditions-spec =
+pub matrix-rows-spec : {M : Type 1} → statement M
+matrix-rows-spec =
     tie.close
     (tie.spec
     Inv-loop

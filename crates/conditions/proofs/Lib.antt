@@ -1,0 +1,4 @@
+pub mod Derivatives
+pub mod Walk
+pub mod Placed
+pub mod Counts

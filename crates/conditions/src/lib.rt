@@ -1,0 +1,2 @@
+// The Hasse conditions of a matrix as rows over the monomials in order.
+pub mod inside;
