@@ -38,7 +38,7 @@ look-requires : tie.Need-look-requires Inv-loop μ-loop
 look-requires c κs =
     let l = c .before .before .before in
     let s = l .before in
-    (s .pre .0, (s .pre .1 .0 (l .loop .x), s .pre .1 .1 .0 (l .loop .y)))
+    (s .pre .0, (s .pre .1 .0 _, s .pre .1 .1 .0 _))
 
 array-write-row : tie.Need-array-write-row Inv-loop μ-loop
 array-write-row c = omega arith

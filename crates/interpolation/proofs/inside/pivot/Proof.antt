@@ -47,7 +47,8 @@ scaled-requires c κs =
     let m = a .system .now in
     let u = c .before .before .u .given in
     let l = inverse-law (entryOf m (a .r) (a .j)) (u .0 .0) (s .pre .0 .symbols (a .r) (a .j)) (s .pre .1 .1 .1) (sym (ap toldElement (u .1)) ∙ c .before .before .before .before .inverse .ensures) in
-    (s .pre .1 .0, (s .pre .0 .symbols (a .r), l .0))
+    let small = l .0 in
+    (s .pre .1 .0, (s .pre .0 .symbols (a .r), omega arith))
 
 mul-row : tie.Need-mul-row
 mul-row c = search needs
