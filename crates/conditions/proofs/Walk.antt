@@ -1,15 +1,14 @@
 -- The walk along the monomials: after k steps it stands at the monomial of place k in document 01's order.
 -- Assumes nothing.
-use mathlib.Core.Bool.{Bool, true, false, cond}
-use mathlib.Core.List.{List, [], _++_, flatMap}
+use mathlib.Core.Bool.{Bool, cond}
+use mathlib.Core.List.{List, flatMap}
 use mathlib.Core.Path.{_≡_, refl, sym, _∙_, ap, ap₂, subst}
 use Prim.Native.Nat.{ℕ, zero, suc, _+_, _-_, _*_, _/_, _≤_, _<_}
 use native.Mathlib.Decide.{decLt, ℕ-discrete}
-use native.Mathlib.Nat.{add-zero, mul-suc, mul-zero, le-div-iff-mul-le, div-lt-iff-lt-mul, div-le-self, mul-comm, zero-div, mul-div-le, lt-mul-div-succ}
+use native.Mathlib.Nat.{mul-suc, mul-zero, le-div-iff-mul-le, div-lt-iff-lt-mul, div-le-self, mul-comm, mul-div-le}
 use native.Mathlib.Numerals.{add-one}
 use native.Mathlib.Omega.{arith}
 use borrow.Author.Tests.{le-leb, lt-leb}
-use lib.Dec.{leb}
 use lib.ListN.{length, getD, length-append, length-map, List·getD-append}
 use lib.Seq.{getD-append-add}
 use Rattle.algebra.proofs.Linear.{row}

@@ -3,7 +3,7 @@
 -- Assumes nothing.
 use mathlib.Core.List.{List}
 use mathlib.Core.Logic.{_≢_}
-use mathlib.Core.Path.{_≡_, refl, sym, _∙_, ap, ap₂}
+use mathlib.Core.Path.{_≡_, sym, _∙_, ap, ap₂}
 use Prim.Native.Nat.{ℕ, suc, _≤_, _<_}
 use native.Mathlib.Omega.{arith}
 use lib.ListN.{getD}
@@ -12,7 +12,6 @@ use Rattle.algebra.proofs.Linear.{dot, dot-equal, carry-dot}
 use Rattle.algebra.proofs.Numbers.{number-injective}
 use Rattle.algebra.proofs.RingLaws.{plus-self, plus-zero, zero-times, equal-of-sum}
 use Rattle.algebra.specs.FieldOf.{FieldOf}
-use Rattle.algebra.specs.Ring.{Ring}
 use Rattle.definitions.specs.Code.{Symbols}
 use Rattle.definitions.specs.Field.{Ops, Code, numbers}
 use Rattle.elimination.proofs.Pivot.{Sol, UnitColumns, Pivoted, solves-after, solves-before, units-after, column-solves, ends-before}

@@ -1,6 +1,6 @@
 -- The theorem that one list of coefficients interpolates, in any code that carries a field.
 -- Assumes nothing.
-use mathlib.Core.Bool.{true, false}
+use mathlib.Core.Bool.{true}
 use mathlib.Core.List.{List, [], _∷_}
 use mathlib.Core.Path.{_≡_, refl, sym, _∙_, ap, ap₂}
 use Prim.Native.Nat.{ℕ, zero, suc, _≤_, _<_}
@@ -13,7 +13,6 @@ use Rattle.algebra.proofs.Closed.{zero-symbol}
 use Rattle.algebra.proofs.Solutions.{symbols-plus, through-plus}
 use Rattle.algebra.specs.FieldOf.{FieldOf}
 use Rattle.definitions.proofs.Tools.{split}
-use Rattle.definitions.specs.Code.{Symbols}
 use Rattle.definitions.specs.Field.{Code, numbers}
 use Rattle.definitions.specs.Polynomial.{Interpolates, isZero, leading}
 use Rattle.definitions.specs.Roots.{plus}

@@ -1,15 +1,15 @@
 -- The rows of a matrix' conditions: as many as it costs, and what solves them is what passes.
 -- Assumes nothing.
-use mathlib.Core.List.{List, [], _∷_, map, flatMap, List·Memᴰ, List·Memᴰ·head, List·Memᴰ·tail, Memᴰ·map, Memᴰ·of-map, List·Memᴰ·cases-cons, List·Memᴰ·not-nil}
+use mathlib.Core.List.{List, [], _∷_, flatMap, List·Memᴰ, List·Memᴰ·head, List·Memᴰ·tail, Memᴰ·map, Memᴰ·of-map, List·Memᴰ·cases-cons, List·Memᴰ·not-nil}
 use mathlib.Core.Logic.{⊎-elim}
-use mathlib.Core.Path.{_≡_, refl, sym, _∙_, ap, ap₂, subst}
+use mathlib.Core.Path.{_≡_, refl, sym, _∙_, ap, subst}
 use Prim.Native.Nat.{ℕ, zero, suc, _+_, _-_, _*_, _/_, _≤_, _<_}
 use native.Mathlib.Decide.{decLt, ℕ-discrete}
 use native.Mathlib.Nat.{suc-mul, mul-suc}
 use native.Mathlib.Omega.{arith}
 use lib.Bits.{xor-zero-r}
 use lib.Dec.{T, eqb, eqb→eq}
-use lib.ListN.{length, getD, drop, set, replicate, length-map, length-replicate, getD-replicate, List·getD-append, List·getD-eq-default}
+use lib.ListN.{length, getD, drop, set, replicate, length-replicate, getD-replicate, List·getD-append, List·getD-eq-default}
 use lib.Seq.{sets, sets-eq}
 use Rattle.algebra.proofs.Closed.{times-symbol, point-symbol}
 use Rattle.algebra.proofs.Linear.{dot, row, dot-equal}
@@ -18,14 +18,14 @@ use Rattle.algebra.proofs.Tests.{every, every-at}
 use Rattle.definitions.proofs.Joined.{join-nil, join-member, member-join}
 use Rattle.definitions.proofs.Monomials.{monomials-in-order}
 use Rattle.definitions.proofs.Ordered.{member-at}
-use Rattle.definitions.proofs.Tools.{below-zero, length-below, below-member, member-below, sum-zero, sum-suc, sum-ext}
+use Rattle.definitions.proofs.Tools.{below-zero, below-member, member-below, sum-zero, sum-suc, sum-ext}
 use Rattle.definitions.specs.Bound.{count}
 use Rattle.definitions.specs.Code.{Symbols, point}
 use Rattle.definitions.specs.Field.{numbers, sixteen, sumOf, double, shifted}
 use Rattle.definitions.specs.Polynomial.{Through, hasse, terms, monomials}
 use Rattle.definitions.specs.Tools.{below, sum}
 use Rattle.definitions.specs.Weights.{entry, entryCost}
-use Rattle.elimination.specs.Rows.{entryOf, SymbolRows, Solves}
+use Rattle.elimination.specs.Rows.{Solves}
 use Rattle.field.proofs.Instance.{sixteen-field}
 use Rattle.interpolation.proofs.Steps.{system-set}
 use Rattle.interpolation.specs.Search.{System}
@@ -34,7 +34,7 @@ use Rattle.conditions.proofs.Derivatives.{derivatives-symbols}
 use Rattle.rows.proofs.Filled.{filled-symbols}
 use Rattle.conditions.proofs.Placed.{joined-count}
 use Rattle.conditions.proofs.Walk.{product-entry}
-use Rattle.conditions.specs.Conditions.{walked, derivativesRow, productRow, orderRows, pointRows, columnRows, positionRows}
+use Rattle.conditions.specs.Conditions.{walked, derivativesRow, productRow, pointRows, columnRows, positionRows}
 use Rattle.rows.specs.Row.{width}
 use Rattle.weights.proofs.Cost.{matrix-entry}
 use Rattle.weights.specs.Matrix.{matrixOf, cell, columnCost, matrixCost}

@@ -1,12 +1,11 @@
 -- The refusals of interpolation in their order, and what is answered where none is given.
 -- Assumes nothing.
 use mathlib.Core.Bool.{true, false}
-use mathlib.Core.List.{List, _++_}
+use mathlib.Core.List.{List}
 use mathlib.Core.Path.{_≡_, sym, _∙_, ap, ap₂, subst}
 use Prim.Native.Nat.{ℕ, _*_, _-_, _≤_, _<_}
-use native.Mathlib.Omega.{arith}
 use borrow.Author.Tests.{lt-ltb, le-ltb}
-use lib.ListN.{length, drop}
+use lib.ListN.{length}
 use Rattle.definitions.proofs.Table.{Gives, stop, pass, Accepts, end, next, gives, accepts, sizes-given, sizes-passed, entries-given, entries-passed, room-given, room-passed, above-given, above-passed}
 use Rattle.definitions.specs.Answers.{Answer, refused, interpolated, Interpolated, InterpolationAnswers}
 use Rattle.definitions.specs.Bound.{count, bound}
@@ -15,7 +14,7 @@ use Rattle.definitions.specs.Polynomial.{Interpolates}
 use Rattle.definitions.specs.Refusals.{sizesFit, firstAbove, interpolationTable}
 use Rattle.definitions.specs.Weights.{cost}
 use Rattle.interpolation.specs.Found.{Found}
-use Rattle.weights.specs.Matrix.{matrixOf, matrixCost}
+use Rattle.weights.specs.Matrix.{matrixOf}
 
 module _ (n k G : ℕ) (m out : List ℕ) where
   -- what a refusal answers and leaves

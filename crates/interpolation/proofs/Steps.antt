@@ -4,13 +4,13 @@ use mathlib.Core.Bool.{_&&_, _||_}
 use mathlib.Core.List.{List, []}
 use mathlib.Core.Logic.{_≢_}
 use mathlib.Core.Path.{_≡_, refl, sym, _∙_, ap, ap₂, subst}
-use Prim.Native.Nat.{ℕ, suc, _+_, _≤_, _<_}
-use native.Mathlib.Decide.{ℕ-discrete, decLt}
+use Prim.Native.Nat.{ℕ, _+_, _≤_, _<_}
+use native.Mathlib.Decide.{ℕ-discrete}
 use native.Mathlib.Numerals.{add-one}
 use native.Mathlib.Omega.{arith}
 use borrow.Author.Tests.{ne-eqb}
 use lib.Dec.{T, eqb, ltb, eqb→eq, ltb→lt}
-use lib.ListN.{length, getD, set, length-set}
+use lib.ListN.{getD, set, length-set}
 use lib.Seq.{getD-set-same, getD-set-other}
 use Rattle.algebra.proofs.Tests.{every, every-at, first-passes, second-passes}
 use Rattle.definitions.specs.Answers.{Answer, refused, valued, inverseAnswer}
@@ -19,13 +19,13 @@ use Rattle.definitions.specs.Field.{numbers, sixteen, sumOf, double, shifted, i
 use Rattle.definitions.specs.Tools.{smallest}
 use Rattle.elimination.proofs.Pivot.{Pivoted}
 use Rattle.elimination.proofs.Symbols.{plus-nothing, step-solutions, step-units}
-use Rattle.elimination.specs.Rows.{entryOf, SymbolRows, SameSolutions, Units, Reduced}
+use Rattle.elimination.specs.Rows.{entryOf, SameSolutions, Units}
 use Rattle.field.proofs.Instance.{sixteen-field}
 use Rattle.field.proofs.Order.{nonzero-symbol}
 use Rattle.field.specs.Told.{toldRefusal}
 use Rattle.field.specs.declared.Refusal.{Refusal}
 use Rattle.field.specs.declared.Refusal.the-variants.{Sizes, Setting, Length, Room, Symbol, Column, Cost, Zero}
-use Rattle.interpolation.specs.Search.{System, left, ClearedRow, Cleared, Step, ZeroFrom}
+use Rattle.interpolation.specs.Search.{System, left, ClearedRow, Cleared, Step}
 use Rattle.rows.proofs.Filled.{filled-at, summed-symbols, multiple-symbols, multiple-at}
 use Rattle.rows.specs.Row.{width, summedRow, multipleRow, multiplesTo}
 
@@ -180,6 +180,10 @@ module _ (m : List (List ℕ)) (s : System m) (r j rows u : ℕ) (first : List �
     }
 
 -- ---- the search
+
+-- rows j to r - 1 have 0 in column j
+abbrev pub ZeroFrom : ℕ → ℕ → List (List ℕ) → Type 0
+ZeroFrom j r m = (t : ℕ) → j ≤ t → t < r → entryOf m t j ≡ 0
 
 pub no-units : (rows : ℕ) (m : List (List ℕ)) → Units rows 0 m
 no-units rows m k h = let z : ⊥ = omega arith in absurd z

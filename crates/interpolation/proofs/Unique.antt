@@ -3,7 +3,7 @@
 use mathlib.Core.Bool.{Bool, true, false, cond}
 use mathlib.Core.List.{List, [], _∷_, _++_}
 use mathlib.Core.Path.{_≡_, refl, sym, _∙_, ap}
-use Prim.Native.Nat.{ℕ, zero, suc, _+_, _*_, _-_, _≤_, _<_}
+use Prim.Native.Nat.{ℕ, zero, suc, _+_, _*_, _-_, _<_}
 use native.Mathlib.Omega.{arith}
 use lib.ListN.{length, drop, getD}
 use Rattle.definitions.proofs.Bound.{count-zero, bound-le}
@@ -12,7 +12,7 @@ use Rattle.definitions.specs.Answers.{Answer, refused, interpolated, Interpolat
 use Rattle.definitions.specs.Bound.{bound}
 use Rattle.definitions.specs.Code.{Symbols}
 use Rattle.definitions.specs.Field.{sixteen}
-use Rattle.definitions.specs.Polynomial.{Interpolates, isZero, leading}
+use Rattle.definitions.specs.Polynomial.{Interpolates, leading}
 use Rattle.definitions.specs.Refusals.{Line, tried, interpolationTable}
 use Rattle.definitions.specs.Tools.{sum}
 use Rattle.definitions.specs.Weights.{entryCost, cost}

@@ -40,10 +40,6 @@ pub record Step (rows j : ℕ) (m b : List (List ℕ)) : Type 0 where
   pub same : SameSolutions sixteen rows width m b
   pub units : Units rows j m → Units rows (suc j) b
 
--- rows j to r - 1 have 0 in column j
-abbrev pub ZeroFrom : ℕ → ℕ → List (List ℕ) → Type 0
-ZeroFrom j r m = (t : ℕ) → j ≤ t → t < r → entryOf m t j ≡ 0
-
 -- the coefficient that the reduced rows show: column j, then 1, then 0
 abbrev pub coefficientOf : ℕ → List (List ℕ) → ℕ → ℕ
 coefficientOf j m k = cond (ltb k j) (entryOf m k j) (cond (eqb k j) 1 0)

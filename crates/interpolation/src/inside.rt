@@ -2,7 +2,7 @@
 ghost use mathlib.Core.List.{[], _++_, map};
 ghost use mathlib.Core.Logic.{_≢_};
 ghost use mathlib.Core.Path.{_≡_};
-ghost use Prim.Native.Nat.{_+_, _*_, _≤_, _<_};
+ghost use Prim.Native.Nat.{_≤_, _<_};
 ghost use lib.ListN.{length, getD, drop};
 ghost use Rattle.definitions.specs.Bound.{bound};
 ghost use Rattle.definitions.specs.Field.{sixteen};

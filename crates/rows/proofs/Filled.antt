@@ -3,16 +3,16 @@
 use mathlib.Core.Bool.{Bool, cond}
 use mathlib.Core.List.{List, [], _∷_, _++_, map}
 use mathlib.Core.Path.{_≡_, sym, _∙_, ap, subst}
-use Prim.Native.Nat.{ℕ, zero, suc, _+_, _*_, _-_, _/_, _%_, _≤_, _<_}
+use Prim.Native.Nat.{ℕ, _+_, _*_, _-_, _/_, _%_, _≤_, _<_}
 use native.Mathlib.Decide.{decLt}
 use native.Mathlib.Numerals.{add-one}
 use native.Mathlib.Omega.{arith}
 use borrow.Author.Tests.{lt-ltb, le-ltb, eq-eqb, ne-eqb}
 use lib.Bits.{bitXor}
 use lib.Dec.{T, eqb, eqb→eq}
-use lib.ListN.{length, drop, getD, set, replicate, length-append, length-map, length-drop, length-replicate, List·getD-append, List·getD-eq-default, getD-replicate}
+use lib.ListN.{length, drop, getD, set, replicate, length-append, length-map, length-drop, List·getD-append, List·getD-eq-default, getD-replicate}
 use lib.Seq.{getD-append-add, getD-drop, ext-getD}
-use Rattle.algebra.proofs.Closed.{zero-symbol, plus-symbol, times-symbol}
+use Rattle.algebra.proofs.Closed.{plus-symbol, times-symbol}
 use Rattle.algebra.proofs.Tests.{every, everyPair, every-at, everyPair-at}
 use Rattle.definitions.proofs.Loops.{put-more}
 use Rattle.definitions.proofs.Tools.{below-zero, length-below, map-below, map-below-at}

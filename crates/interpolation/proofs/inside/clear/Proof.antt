@@ -1,10 +1,9 @@
 use mathlib.Core.Path.{_≡_, sym, _∙_, ap, subst}
 use Rattle.rows.specs.Row.{multiplesTo}
-use Prim.Native.Nat.{ℕ, _+_, _-_, _≤_, _<_}
+use Prim.Native.Nat.{ℕ, _-_, _≤_}
 use Rattle.interpolation.proofs.Steps.{none-cleared, cleared-more}
 use Rattle.interpolation.specs.Search.{Cleared}
 use native.Mathlib.Omega.{arith}
-use borrow.Author.Needs.{needs}
 use Rattle.interpolation.proofs.inside.clear.Statement.{statement}
 use Rattle.interpolation.proofs.inside.clear.Tie as tie
 

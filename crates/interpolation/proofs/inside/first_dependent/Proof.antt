@@ -1,12 +1,11 @@
 use mathlib.Core.Path.{_≡_}
-use Prim.Native.Nat.{ℕ, _+_, _-_, _≤_, _<_}
+use Prim.Native.Nat.{_+_, _-_, _≤_}
 use Rattle.definitions.specs.Field.{sixteen}
-use Rattle.elimination.specs.Rows.{entryOf, SameSolutions, Units}
-use Rattle.interpolation.proofs.Steps.{no-units, same-start, none-zero, zero-more, pass-law}
-use Rattle.interpolation.specs.Search.{System, ZeroFrom}
+use Rattle.elimination.specs.Rows.{SameSolutions, Units}
+use Rattle.interpolation.proofs.Steps.{ZeroFrom, no-units, same-start, none-zero, zero-more, pass-law}
+use Rattle.interpolation.specs.Search.{System}
 use Rattle.rows.specs.Row.{width}
 use native.Mathlib.Omega.{arith}
-use borrow.Author.Needs.{needs}
 use Rattle.interpolation.proofs.inside.first_dependent.Statement.{statement}
 use Rattle.interpolation.proofs.inside.first_dependent.Tie as tie
 

@@ -1,4 +1,4 @@
-use mathlib.Core.Path.{_≡_, sym, _∙_, ap}
+use mathlib.Core.Path.{sym, _∙_, ap}
 use Rattle.elimination.specs.Rows.{entryOf}
 use Rattle.field.specs.Told.{toldElement}
 use Rattle.interpolation.proofs.Steps.{inverse-law, not-refused, first-symbols, brought-system, brought-pivot, pivot-step}

@@ -1,6 +1,6 @@
 use mathlib.Core.List.{_++_, map}
 use mathlib.Core.Path.{_≡_, refl, _∙_}
-use Prim.Native.Nat.{ℕ, _+_, _-_, _≤_, _<_}
+use Prim.Native.Nat.{_-_, _≤_}
 use lib.ListN.{length, drop, length-set}
 use Rattle.definitions.specs.Tools.{below}
 use Rattle.interpolation.proofs.Coefficients.{written-none, written-more}
