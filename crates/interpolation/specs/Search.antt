@@ -8,12 +8,13 @@ use Prim.Native.Nat.{ℕ, suc, _≤_, _<_}
 use lib.Dec.{eqb, ltb}
 use lib.ListN.{length, getD}
 use Rattle.definitions.specs.Field.{sixteen}
+use Rattle.definitions.specs.Limits.{greatestLimit}
 use Rattle.elimination.specs.Rows.{entryOf, SymbolRows, SameSolutions, Units}
 use Rattle.rows.specs.Row.{width}
 
 -- all the rows that there is room for, of symbols
 pub record System (m : List (List ℕ)) : Type 0 where
-  pub size : length m ≡ 150
+  pub size : length m ≡ greatestLimit
   pub symbols : SymbolRows sixteen m
 
 -- what is left of the entry of row t in column k when row j, times the entry in column j, is taken away

@@ -6,6 +6,7 @@ ghost use Prim.Native.Nat.{_≤_, _<_};
 ghost use lib.ListN.{length, getD, drop};
 ghost use Rattle.definitions.specs.Bound.{bound};
 ghost use Rattle.definitions.specs.Field.{sixteen};
+ghost use Rattle.definitions.specs.Limits.{greatestLimit};
 ghost use Rattle.definitions.specs.Tools.{below};
 ghost use Rattle.elimination.specs.Rows.{entryOf, SameSolutions, Reduced};
 ghost use Rattle.field.specs.Table.{Products};
@@ -15,12 +16,13 @@ ghost use Rattle.rows.specs.Row.{width, multiplesTo};
 ghost use Rattle.weights.specs.Matrix.{matrixCost};
 use field::Element;
 use rows::ROWS;
+use rows::SYMBOLS;
 use rows::WIDTH;
 
 // Takes from row t as much of row j as clears its column j.
-fn clear_row(system: &mut [[u8; WIDTH]; ROWS], times: &[[u8; WIDTH]; 16], t: usize, j: usize)
+fn clear_row(system: &mut [[u8; WIDTH]; ROWS], times: &[[u8; WIDTH]; SYMBOLS], t: usize, j: usize)
     requires { ⌜ System (now system) ⌝ }
-    requires { ⌜ (t < 150) × (j < 150) ⌝ }
+    requires { ⌜ (t < greatestLimit) × (j < greatestLimit) ⌝ }
     requires { ⌜ now times ≡ multiplesTo 16 (getD (now system) j []) ⌝ }
     ensures { λ _. ⌜ ClearedRow j t (now (system .entry)) (now (system .exit)) ⌝ }
 {
@@ -36,9 +38,9 @@ fn clear_row(system: &mut [[u8; WIDTH]; ROWS], times: &[[u8; WIDTH]; 16], t: usi
 }
 
 // Clears column j in every row but j.
-fn clear(system: &mut [[u8; WIDTH]; ROWS], times: &[[u8; WIDTH]; 16], j: usize, rows: usize)
+fn clear(system: &mut [[u8; WIDTH]; ROWS], times: &[[u8; WIDTH]; SYMBOLS], j: usize, rows: usize)
     requires { ⌜ System (now system) ⌝ }
-    requires { ⌜ (rows ≤ 150) × (j < 150) ⌝ }
+    requires { ⌜ (rows ≤ greatestLimit) × (j < greatestLimit) ⌝ }
     requires { ⌜ now times ≡ multiplesTo 16 (getD (now system) j []) ⌝ }
     ensures { λ _. ⌜ Cleared j rows (now (system .entry)) (now (system .exit)) ⌝ }
 {
@@ -53,7 +55,7 @@ fn clear(system: &mut [[u8; WIDTH]; ROWS], times: &[[u8; WIDTH]; 16], j: usize, 
 fn pivot(system: &mut [[u8; WIDTH]; ROWS], table: &[u8; 256], r: usize, j: usize, rows: usize)
     requires { ⌜ System (now system) ⌝ }
     requires { ⌜ Products (now table) ⌝ }
-    requires { ⌜ (j ≤ r) × (r < rows) × (rows ≤ 150) ⌝ }
+    requires { ⌜ (j ≤ r) × (r < rows) × (rows ≤ greatestLimit) ⌝ }
     requires { ⌜ entryOf (now system) r j ≢ 0 ⌝ }
     ensures { λ _. ⌜ Step rows j (now (system .entry)) (now (system .exit)) ⌝ }
 {
@@ -72,7 +74,7 @@ fn pivot(system: &mut [[u8; WIDTH]; ROWS], table: &[u8; 256], r: usize, j: usize
 fn first_dependent(system: &mut [[u8; WIDTH]; ROWS], table: &[u8; 256], rows: usize) -> usize
     requires { ⌜ System (now system) ⌝ }
     requires { ⌜ Products (now table) ⌝ }
-    requires { ⌜ rows ≤ 150 ⌝ }
+    requires { ⌜ rows ≤ greatestLimit ⌝ }
     ensures { λ j. ⌜ j ≤ rows ⌝ }
     ensures { λ _. ⌜ System (now (system .exit)) ⌝ }
     ensures { λ _. ⌜ SameSolutions sixteen rows width (now (system .entry)) (now (system .exit)) ⌝ }
@@ -98,7 +100,7 @@ fn first_dependent(system: &mut [[u8; WIDTH]; ROWS], table: &[u8; 256], rows: us
 
 // The coefficient k that the reduced rows show: column j, then 1, then zeros.
 fn coefficient(system: &[[u8; WIDTH]; ROWS], j: usize, k: usize) -> u8
-    requires { ⌜ j ≤ 150 ⌝ }
+    requires { ⌜ j ≤ greatestLimit ⌝ }
     ensures { λ r. ⌜ r ≡ coefficientOf j (now (system .entry)) k ⌝ }
 {
     if k < j {
@@ -112,7 +114,7 @@ fn coefficient(system: &[[u8; WIDTH]; ROWS], j: usize, k: usize) -> u8
 
 // All coefficients that the reduced rows show, to the front of out.
 fn read_off(system: &[[u8; WIDTH]; ROWS], j: usize, count: usize, out: &mut [u8])
-    requires { ⌜ (j ≤ 150) × (count ≤ length (now out)) ⌝ }
+    requires { ⌜ (j ≤ greatestLimit) × (count ≤ length (now out)) ⌝ }
     ensures { λ _. ⌜ now (out .exit) ≡ map (coefficientOf j (now (system .entry))) (below count) ++ drop count (now (out .entry)) ⌝ }
 {
     let mut k = 0;
@@ -130,7 +132,7 @@ pub fn polynomial(
     count: usize,
     out: &mut [u8],
 ) -> usize
-    requires { ⌜ (0 < v) × (v < 15) × (matrixCost (now matrix) ≤ 150) ⌝ }
+    requires { ⌜ (0 < v) × (v < 15) × (matrixCost (now matrix) ≤ greatestLimit) ⌝ }
     requires { ⌜ (d ≡ bound v (matrixCost (now matrix))) × (count ≡ Rattle.definitions.specs.Bound.count v d) × (count ≤ length (now out)) ⌝ }
     ensures { λ r. ⌜ Found (now (matrix .entry)) v d (now (out .entry)) r (now (out .exit)) ⌝ }
 {
