@@ -72,10 +72,12 @@ point-cost m =
     omega arith
 
 module _ (v d w : ℕ) where
+  -- the conditions of a point
   length-point : (x y m : ℕ) → length (pointRows v d w x y m) ≡ entryCost m
   length-point x y m =
       length-joined (orders v d w x y m) m ∙ sum-ext m _ (λ s. m - s) (λ s h. length-orders v d w x y m s) ∙ point-cost m
 
+  -- of a position
   length-column : (x : ℕ) (column : List ℕ) → length (columnRows v d w x column) ≡ columnCost column
   length-column x column =
       length-joined (λ b. pointRows v d w x b (getD column b 0)) 16
@@ -107,6 +109,7 @@ pub record Condition (v d w : ℕ) (a : List (List ℕ)) (ρ : List ℕ) : Type 
   pub is-row : productRow v w (derivativesRow (d + 1) (point sixteen i) s) (derivativesRow (d / v + 1) b t) ≡ ρ
 
 module _ (v d w : ℕ) (a : List (List ℕ)) where
+  -- every row is one
   pub condition-of : (ρ : List ℕ) → List·Memᴰ ρ (positionRows v d w a 15) → Condition v d w a ρ
   condition-of ρ h =
       let x = member-join (λ i. columnRows v d w (point sixteen i) (getD a i [])) (below 15) ρ h in
@@ -124,6 +127,7 @@ module _ (v d w : ℕ) (a : List (List ℕ)) where
         is-row = u .2;
       }
 
+  -- and every one is a row
   pub member-of : (ρ : List ℕ) → Condition v d w a ρ → List·Memᴰ ρ (positionRows v d w a 15)
   member-of ρ c =
       join-member (λ i. columnRows v d w (point sixteen i) (getD a i [])) (below 15) (c .i) ρ (below-member 15 (c .i) (c .position))
@@ -160,6 +164,7 @@ zero-rows n c r k =
           | no l ↦ subst (λ (x : ℕ). x < 16) (sym (List·getD-eq-default (replicate c 0) 0 {n = k} (rw (length-replicate {A = ℕ} c 0) (omega arith)))) (omega arith)
         ]
 
+-- a system of zeros
 pub empty-system : (n c : ℕ) → n ≡ 150 → System (replicate n (replicate c 0))
 empty-system n c e = record { size = length-replicate n (replicate {A = ℕ} c 0) ∙ e; symbols = zero-rows n c }
 
@@ -177,17 +182,21 @@ placed-at o l r h k =
 
 -- ---- what solves passes, and what passes solves
 
+-- computed of sixteen symbols
 vanishes : T (every 16 (λ x. eqb (sixteen .times x 0) 0))
 unfolding every sumOf double shifted
 vanishes = tt
 
+-- a product with zero
 times-zero : (x : ℕ) → x < 16 → sixteen .times x 0 ≡ 0
 times-zero x h = eqb→eq _ _ (every-at 16 (λ x. eqb (sixteen .times x 0) 0) vanishes x h)
 
+-- a sum with zero
 plus-zero : (x : ℕ) → sixteen .plus x 0 ≡ x
 unfolding sumOf
 plus-zero x = xor-zero-r x
 
+-- one entry more
 dot-suc : (n : ℕ) (ρ q : ℕ → ℕ) → dot (numbers sixteen) (suc n) ρ q ≡ sixteen .plus (dot (numbers sixteen) n ρ q) (sixteen .times (ρ n) (q n))
 unfolding dot
 dot-suc n ρ q = refl
@@ -221,6 +230,7 @@ module _ (m : List ℕ) (n v D : ℕ) (small : n ≤ 15) (size : length m ≡ 16
   cell-is : (i b : ℕ) → i < 15 → b < 16 → cell a i b ≡ entry sixteen m i b
   cell-is i b hi hb = ap (λ (x : List (List ℕ)). cell x i b) loaded ∙ matrix-entry m n small size i b hi hb
 
+  -- a position with a multiplicity is one of the n
   used : (i b : ℕ) → b < 16 → 0 < entry sixteen m i b → i < n
   used i b hb h =
       elim (decLt i n) [
@@ -229,10 +239,12 @@ module _ (m : List ℕ) (n v D : ℕ) (small : n ≤ 15) (size : length m ≡ 16
       ]
 
   module _ (o : List (List ℕ)) (so : System o) (room : length (positionRows v D (count v D) a 15) ≤ 150) where
+    -- row r of the system is condition r
     stands : (r : ℕ) → r < length (positionRows v D (count v D) a 15)
         → getD (sets o 0 (positionRows v D (count v D) a 15)) r [] ≡ getD (positionRows v D (count v D) a 15) r []
     stands r h = placed-at o (positionRows v D (count v D) a 15) r (let e = so .size in omega arith) h
 
+    -- what passes solves
     pub through-solves : Through sixteen n v D m q
         → Solves sixteen (length (positionRows v D (count v D) a 15)) width (sets o 0 (positionRows v D (count v D) a 15)) q
     through-solves passes r h =
@@ -243,6 +255,7 @@ module _ (m : List ℕ) (n v D : ℕ) (small : n ≤ 15) (size : length m ≡ 16
         ap (λ (x : List ℕ). dot (numbers sixteen) width (λ k. getD x k 0) (λ k. getD q k 0)) (stands r h) ∙ row-is-hasse ρ c
         ∙ passes (c .i) (c .b) (used (c .i) (c .b) (c .symbol) (omega arith)) (c .symbol) (c .s) (c .t) below
 
+    -- what solves passes
     pub solves-through : Solves sixteen (length (positionRows v D (count v D) a 15)) width (sets o 0 (positionRows v D (count v D) a 15)) q
         → Through sixteen n v D m q
     solves-through solves i b hi hb s t h =

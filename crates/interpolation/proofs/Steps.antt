@@ -55,6 +55,7 @@ module _ (m : List (List ℕ)) (s : System m) (j t : ℕ) where
     pivot = refl;
   }
 
+  -- an entry is a symbol
   pub entry-small : (c : ℕ) → c ≡ entryOf m t j → c < 16
   entry-small c e = subst (λ (x : ℕ). x < 16) (sym e) (s .symbols t j)
 
@@ -82,6 +83,7 @@ module _ (m : List (List ℕ)) (s : System m) (j t : ℕ) where
 
 -- ---- the loop over the rows
 
+-- no row is cleared yet
 pub none-cleared : (j : ℕ) (m : List (List ℕ)) → System m → Cleared j 0 m m
 none-cleared j m s = record { system = s; here = λ t h. let z : ⊥ = omega arith in absurd z; pivot = refl; later = λ t h. refl }
 
@@ -110,6 +112,7 @@ inverts : T (every 16 (λ a. eqb a 0 || (ltb (inverseOf sixteen a) 16 && eqb (si
 unfolding every smallest sumOf double shifted
 inverts = tt
 
+-- what the inverse answers
 pub inverse-law : (a u : ℕ) → a < 16 → a ≢ 0 → valued u ≡ inverseAnswer sixteen a → (u < 16) × (sixteen .times u a ≡ 1)
 inverse-law a u h n e =
     let is : u ≡ inverseOf sixteen a = ap (λ (x : Answer). x .value) (e ∙ sym (nonzero-symbol a refused (valued (inverseOf sixteen a)) (omega arith) n)) in
@@ -118,6 +121,7 @@ inverse-law a u h n e =
     let one = eqb→eq (sixteen .times (inverseOf sixteen a) a) 1 (second-passes (ltb (inverseOf sixteen a) 16) (eqb (sixteen .times (inverseOf sixteen a) a) 1) test) in
     (subst (λ (x : ℕ). x < 16) (sym is) small, ap (λ (x : ℕ). sixteen .times x a) is ∙ one)
 
+-- no refusal has the number 0
 refusal-number : (r : Refusal) → toldRefusal r .number ≡ 0 → ⊥
 refusal-number Sizes e = omega arith
 refusal-number Setting e = omega arith
@@ -139,22 +143,28 @@ module _ (m : List (List ℕ)) (s : System m) (r j rows u : ℕ) (first : List �
   abbrev pub brought : List (List ℕ)
   brought = set (set m r (getD m j [])) j first
 
+  -- the scaled row is a row of symbols
   pub first-symbols : Symbols sixteen first
   first-symbols = subst (Symbols sixteen) (sym is-first) (multiple-symbols u (getD m r []) hu (s .symbols r))
 
+  -- the rows stay a system
   pub brought-system : System brought
   brought-system = system-set (set m r (getD m j [])) j first (system-set m r (getD m j []) s (omega arith) (s .symbols j)) (omega arith) first-symbols
 
+  -- row j is the scaled row
   pub brought-pivot : getD brought j [] ≡ first
   brought-pivot = getD-set-same (set m r (getD m j [])) j first [] (let e = length-set m r (getD m j []) in let z = s .size in omega arith)
 
+  -- row r is what row j was
   brought-moved : r ≢ j → getD brought r [] ≡ getD m j []
   brought-moved n = getD-set-other (set m r (getD m j [])) j r first [] n ∙ getD-set-same m r (getD m j []) [] (let z = s .size in omega arith)
 
+  -- every other row stays
   brought-other : (t : ℕ) → t ≢ j → t ≢ r → getD brought t [] ≡ getD m t []
   brought-other t n f = getD-set-other (set m r (getD m j [])) j t first [] n ∙ getD-set-other m r t (getD m j []) [] f
 
   module _ (b : List (List ℕ)) (c : Cleared j rows brought b) where
+    -- an entry of the pivot row
     pivot-entry : (k : ℕ) → k < width → entryOf b j k ≡ sixteen .times u (entryOf m r k)
     pivot-entry k h = ap (λ (x : List ℕ). getD x k 0) (c .pivot ∙ brought-pivot ∙ is-first) ∙ filled-at _ width k h
 
@@ -165,6 +175,7 @@ module _ (m : List (List ℕ)) (s : System m) (r j rows u : ℕ) (first : List �
         c .here t h n k l
         ∙ ap₂ (λ (x y : List ℕ). sixteen .plus (getD x k 0) (sixteen .times (getD x j 0) (getD y k 0))) e (sym (c .pivot))
 
+    -- so the step is made
     pivoted : Pivoted (numbers sixteen) rows width (entryOf m) (entryOf b) r j u
     pivoted = record {
       pivot = pivot-entry;
@@ -172,6 +183,7 @@ module _ (m : List (List ℕ)) (s : System m) (r j rows u : ℕ) (first : List �
       others = λ t l n f k h. cleared-entry t t k l n h (brought-other t n f);
     }
 
+    -- and it keeps the solutions and gains a unit column
     pub pivot-step : sixteen .times u (entryOf m r j) ≡ 1 → Step rows j m b
     pivot-step one = record {
       system = c .system;
@@ -185,15 +197,19 @@ module _ (m : List (List ℕ)) (s : System m) (r j rows u : ℕ) (first : List �
 abbrev pub ZeroFrom : ℕ → ℕ → List (List ℕ) → Type 0
 ZeroFrom j r m = (t : ℕ) → j ≤ t → t < r → entryOf m t j ≡ 0
 
+-- no unit column yet
 pub no-units : (rows : ℕ) (m : List (List ℕ)) → Units rows 0 m
 no-units rows m k h = let z : ⊥ = omega arith in absurd z
 
+-- nothing is changed yet
 pub same-start : (rows : ℕ) (m : List (List ℕ)) → SameSolutions sixteen rows width m m
 same-start rows m q sq = (λ s. s, λ s. s)
 
+-- no row is looked at yet
 pub none-zero : (j : ℕ) (m : List (List ℕ)) → ZeroFrom j j m
 none-zero j m t l h = let z : ⊥ = omega arith in absurd z
 
+-- one row more is zero there
 pub zero-more : (j r : ℕ) (m : List (List ℕ)) → ZeroFrom j r m → entryOf m r j ≡ 0 → ZeroFrom j (r + 1) m
 zero-more j r m z e t l h =
     elim (ℕ-discrete t r) [
