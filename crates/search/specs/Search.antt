@@ -1,11 +1,9 @@
 -- What each step of the elimination makes of the rows.
 -- Assumes nothing.
-use mathlib.Core.Bool.{cond}
 use mathlib.Core.List.{List, []}
 use mathlib.Core.Logic.{_≢_}
 use mathlib.Core.Path.{_≡_}
 use Prim.Native.Nat.{ℕ, suc, _≤_, _<_}
-use lib.Dec.{eqb, ltb}
 use lib.ListN.{length, getD}
 use Rattle.definitions.specs.Field.{sixteen}
 use Rattle.definitions.specs.Limits.{greatestLimit}
@@ -40,7 +38,3 @@ pub record Step (rows j : ℕ) (m b : List (List ℕ)) : Type 0 where
   pub system : System b
   pub same : SameSolutions sixteen rows width m b
   pub units : Units rows j m → Units rows (suc j) b
-
--- the coefficient that the reduced rows show: column j, then 1, then 0
-abbrev pub coefficientOf : ℕ → List (List ℕ) → ℕ → ℕ
-coefficientOf j m k = cond (ltb k j) (entryOf m k j) (cond (eqb k j) 1 0)

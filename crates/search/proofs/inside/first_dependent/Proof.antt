@@ -2,12 +2,12 @@ use mathlib.Core.Path.{_≡_}
 use Prim.Native.Nat.{_+_, _-_, _≤_}
 use Rattle.definitions.specs.Field.{sixteen}
 use Rattle.elimination.specs.Rows.{SameSolutions, Units}
-use Rattle.interpolation.proofs.Steps.{ZeroFrom, no-units, same-start, none-zero, zero-more, pass-law}
-use Rattle.interpolation.specs.Search.{System}
+use Rattle.search.proofs.Steps.{ZeroFrom, no-units, same-start, none-zero, zero-more, pass-law}
+use Rattle.search.specs.Search.{System}
 use Rattle.rows.specs.Row.{width}
 use native.Mathlib.Omega.{arith}
-use Rattle.interpolation.proofs.inside.first_dependent.Statement.{statement}
-use Rattle.interpolation.proofs.inside.first_dependent.Tie as tie
+use Rattle.search.proofs.inside.first_dependent.Statement.{statement}
+use Rattle.search.proofs.inside.first_dependent.Tie as tie
 
 abbrev Inv-down : tie.InvT-down
 Inv-down system table rows j r₀ r = (j ≤ r) × (r ≤ rows) × ZeroFrom j r system

@@ -1,11 +1,11 @@
 use mathlib.Core.Path.{_≡_, sym, _∙_, ap, subst}
 use Rattle.rows.specs.Row.{multiplesTo}
 use Prim.Native.Nat.{ℕ, _-_, _≤_}
-use Rattle.interpolation.proofs.Steps.{none-cleared, cleared-more}
-use Rattle.interpolation.specs.Search.{Cleared}
+use Rattle.search.proofs.Steps.{none-cleared, cleared-more}
+use Rattle.search.specs.Search.{Cleared}
 use native.Mathlib.Omega.{arith}
-use Rattle.interpolation.proofs.inside.clear.Statement.{statement}
-use Rattle.interpolation.proofs.inside.clear.Tie as tie
+use Rattle.search.proofs.inside.clear.Statement.{statement}
+use Rattle.search.proofs.inside.clear.Tie as tie
 
 abbrev Inv-loop : tie.InvT-loop
 Inv-loop system₀ times j rows t₀ system t = (t ≤ rows) × Cleared j t system₀ system

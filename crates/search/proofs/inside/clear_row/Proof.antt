@@ -1,8 +1,8 @@
-use Rattle.interpolation.proofs.Steps.{own-row, clear-already, entry-small, clears-row}
+use Rattle.search.proofs.Steps.{own-row, clear-already, entry-small, clears-row}
 use native.Mathlib.Omega.{arith}
 use borrow.Author.Needs.{needs}
-use Rattle.interpolation.proofs.inside.clear_row.Statement.{statement}
-use Rattle.interpolation.proofs.inside.clear_row.Tie as tie
+use Rattle.search.proofs.inside.clear_row.Statement.{statement}
+use Rattle.search.proofs.inside.clear_row.Tie as tie
 
 returns : tie.Need-returns
 returns c =

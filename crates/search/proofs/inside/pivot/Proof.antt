@@ -1,12 +1,12 @@
 use mathlib.Core.Path.{sym, _∙_, ap}
 use Rattle.elimination.specs.Rows.{entryOf}
 use Rattle.field.specs.Told.{toldElement}
-use Rattle.interpolation.proofs.Steps.{inverse-law, not-refused, first-symbols, brought-system, brought-pivot, pivot-step}
+use Rattle.search.proofs.Steps.{inverse-law, not-refused, first-symbols, brought-system, brought-pivot, pivot-step}
 use Rattle.rows.specs.Row.{multiplesTo}
 use native.Mathlib.Omega.{arith}
 use borrow.Author.Needs.{needs}
-use Rattle.interpolation.proofs.inside.pivot.Statement.{statement}
-use Rattle.interpolation.proofs.inside.pivot.Tie as tie
+use Rattle.search.proofs.inside.pivot.Statement.{statement}
+use Rattle.search.proofs.inside.pivot.Tie as tie
 
 mul-inverse : tie.Need-mul-inverse
 mul-inverse c = search needs
