@@ -137,19 +137,18 @@ pub not-refused : (a : ℕ) (r : Refusal) → a < 16 → a ≢ 0 → toldRefusal
 not-refused a r h n e =
     refusal-number r (ap (λ (x : Answer). x .number) (e ∙ sym (nonzero-symbol a refused (valued (inverseOf sixteen a)) (omega arith) n)))
 
-module _ (m : List (List ℕ)) (s : System m) (r j rows u : ℕ) (first : List ℕ) (low : j ≤ r) (hr : r < rows) (hrows : rows ≤ 150) (hu : u < 16)
-    (is-first : first ≡ multipleRow u (getD m r [])) where
+-- a multiple of a row of symbols, whatever the multiple
+pub scaled-symbols : (m : List (List ℕ)) → System m → (r : ℕ) {u : ℕ} {first : List ℕ} → u < 16 → first ≡ multipleRow u (getD m r []) → Symbols sixteen first
+scaled-symbols m s r {u} h e = subst (Symbols sixteen) (sym e) (multiple-symbols u (getD m r []) h (s .symbols r))
+
+module _ (m : List (List ℕ)) (s : System m) (r j rows : ℕ) (first : List ℕ) (low : j ≤ r) (hr : r < rows) (hrows : rows ≤ 150) where
   -- the rows with the pivot row in its place
   abbrev pub brought : List (List ℕ)
   brought = set (set m r (getD m j [])) j first
 
-  -- the scaled row is a row of symbols
-  pub first-symbols : Symbols sixteen first
-  first-symbols = subst (Symbols sixteen) (sym is-first) (multiple-symbols u (getD m r []) hu (s .symbols r))
-
   -- the rows stay a system
-  pub brought-system : System brought
-  brought-system = system-set (set m r (getD m j [])) j first (system-set m r (getD m j []) s (omega arith) (s .symbols j)) (omega arith) first-symbols
+  pub brought-system : Symbols sixteen first → System brought
+  brought-system sf = system-set (set m r (getD m j [])) j first (system-set m r (getD m j []) s (omega arith) (s .symbols j)) (omega arith) sf
 
   -- row j is the scaled row
   pub brought-pivot : getD brought j [] ≡ first
@@ -163,7 +162,7 @@ module _ (m : List (List ℕ)) (s : System m) (r j rows u : ℕ) (first : List �
   brought-other : (t : ℕ) → t ≢ j → t ≢ r → getD brought t [] ≡ getD m t []
   brought-other t n f = getD-set-other (set m r (getD m j [])) j t first [] n ∙ getD-set-other m r t (getD m j []) [] f
 
-  module _ (b : List (List ℕ)) (c : Cleared j rows brought b) where
+  module _ (b : List (List ℕ)) (c : Cleared j rows brought b) (u : ℕ) (hu : u < 16) (is-first : first ≡ multipleRow u (getD m r [])) where
     -- an entry of the pivot row
     pivot-entry : (k : ℕ) → k < width → entryOf b j k ≡ sixteen .times u (entryOf m r k)
     pivot-entry k h = ap (λ (x : List ℕ). getD x k 0) (c .pivot ∙ brought-pivot ∙ is-first) ∙ filled-at _ width k h

@@ -1,7 +1,7 @@
 use mathlib.Core.Path.{sym, _∙_, ap}
 use Rattle.elimination.specs.Rows.{entryOf}
 use Rattle.field.specs.Told.{toldElement}
-use Rattle.search.proofs.Steps.{inverse-law, not-refused, first-symbols, brought-system, brought-pivot, pivot-step}
+use Rattle.search.proofs.Steps.{inverse-law, not-refused, scaled-symbols, brought-system, brought-pivot, pivot-step}
 use Rattle.rows.specs.Row.{multiplesTo}
 use native.Mathlib.Omega.{arith}
 use borrow.Author.Needs.{needs}
@@ -75,7 +75,7 @@ multiples-requires c κs =
     let m = a .system .now in
     let u = c .before .before .before .before .before .u .given in
     let l = inverse-law (entryOf m (a .r) (a .j)) (u .0 .0) (s .pre .0 .symbols (a .r) (a .j)) (s .pre .1 .1 .1) (sym (ap toldElement (u .1)) ∙ c .before .before .before .before .before .before .before .inverse .ensures) in
-    first-symbols m (s .pre .0) (a .r) (a .j) (a .rows) (u .0 .0) (c .before .before .scaled .result) (omega arith) (omega arith) (omega arith) (l .0) (c .before .before .scaled .ensures)
+    scaled-symbols m (s .pre .0) (a .r) (let small = l .0 in omega arith) (c .before .before .scaled .ensures)
 
 clear-requires : tie.Need-clear-requires
 clear-requires c κs =
@@ -84,10 +84,10 @@ clear-requires c κs =
     let m = a .system .now in
     let u = c .before .before .before .before .before .before .before .before .u .given in
     let l = inverse-law (entryOf m (a .r) (a .j)) (u .0 .0) (s .pre .0 .symbols (a .r) (a .j)) (s .pre .1 .1 .1) (sym (ap toldElement (u .1)) ∙ c .before .before .before .before .before .before .before .before .before .before .inverse .ensures) in (
-      brought-system m (s .pre .0) (a .r) (a .j) (a .rows) (u .0 .0) (c .before .before .before .before .before .scaled .result) (omega arith) (omega arith) (omega arith) (l .0) (c .before .before .before .before .before .scaled .ensures),
+      brought-system m (s .pre .0) (a .r) (a .j) (a .rows) (c .before .before .before .before .before .scaled .result) (omega arith) (omega arith) (omega arith) (scaled-symbols m (s .pre .0) (a .r) (let small = l .0 in omega arith) (c .before .before .before .before .before .scaled .ensures)),
       (
         (omega arith, omega arith),
-        c .before .before .multiples .ensures ∙ ap (multiplesTo 16) (sym (brought-pivot m (s .pre .0) (a .r) (a .j) (a .rows) (u .0 .0) (c .before .before .before .before .before .scaled .result) (omega arith) (omega arith) (omega arith) (l .0) (c .before .before .before .before .before .scaled .ensures))),
+        c .before .before .multiples .ensures ∙ ap (multiplesTo 16) (sym (brought-pivot m (s .pre .0) (a .r) (a .j) (a .rows) (c .before .before .before .before .before .scaled .result) (omega arith) (omega arith) (omega arith))),
       ),
     )
 
@@ -98,7 +98,7 @@ returns-2 c =
     let m = a .system .now in
     let u = c .before .before .before .before .before .before .before .before .before .u .given in
     let l = inverse-law (entryOf m (a .r) (a .j)) (u .0 .0) (s .pre .0 .symbols (a .r) (a .j)) (s .pre .1 .1 .1) (sym (ap toldElement (u .1)) ∙ c .before .before .before .before .before .before .before .before .before .before .before .inverse .ensures) in
-    pivot-step m (s .pre .0) (a .r) (a .j) (a .rows) (u .0 .0) (c .before .before .before .before .before .before .scaled .result) (omega arith) (omega arith) (omega arith) (l .0) (c .before .before .before .before .before .before .scaled .ensures) (c .clear .last .0) (c .clear .ensures) (l .1)
+    pivot-step m (s .pre .0) (a .r) (a .j) (a .rows) (c .before .before .before .before .before .before .scaled .result) (omega arith) (omega arith) (omega arith) (c .clear .last .0) (c .clear .ensures) (u .0 .0) (l .0) (c .before .before .before .before .before .before .scaled .ensures) (l .1)
 
 pub pivot-spec : {M : Type 1} → statement M
 pivot-spec =
