@@ -28,7 +28,7 @@ use Rattle.field.proofs.Instance.{sixteen-field}
 use Rattle.interpolation.proofs.Conditions.{length-conditions, condition-of, condition-symbols, system-sets, through-solves, solves-through}
 use Rattle.interpolation.proofs.Width.{width-fits}
 use Rattle.interpolation.specs.Found.{Found}
-use Rattle.search.specs.Search.{System}
+use Rattle.dependence.specs.Dependence.{System}
 use Rattle.interpolation.specs.Found.{coefficientOf}
 use Rattle.conditions.specs.Conditions.{positionRows}
 use Rattle.rows.specs.Row.{width}

@@ -27,8 +27,8 @@ use Rattle.definitions.specs.Tools.{below, sum}
 use Rattle.definitions.specs.Weights.{entry, entryCost}
 use Rattle.elimination.specs.Rows.{Solves}
 use Rattle.field.proofs.Instance.{sixteen-field}
-use Rattle.search.proofs.Steps.{system-set}
-use Rattle.search.specs.Search.{System}
+use Rattle.dependence.proofs.Steps.{system-set}
+use Rattle.dependence.specs.Dependence.{System}
 use Rattle.conditions.proofs.Counts.{orders, length-orders}
 use Rattle.conditions.proofs.Derivatives.{derivatives-symbols}
 use Rattle.rows.proofs.Filled.{filled-symbols}

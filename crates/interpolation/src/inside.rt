@@ -52,7 +52,7 @@ pub fn polynomial(
     let table = field::inside::products();
     let mut system = [[0u8; WIDTH]; ROWS];
     let rows = conditions::inside::matrix_rows(&mut system, &table, matrix, v, d, count);
-    let leading = search::inside::first_dependent(&mut system, &table, rows);
+    let leading = dependence::inside::first_dependent(&mut system, &table, rows);
     read_off(&system, leading, count, out);
     leading
 }

@@ -9,7 +9,7 @@ ghost use Rattle.definitions.specs.Limits.{greatestLimit};
 ghost use Rattle.elimination.specs.Rows.{entryOf, SameSolutions, Reduced};
 ghost use Rattle.field.specs.Table.{Products};
 ghost use Rattle.rows.specs.Row.{width, multiplesTo};
-ghost use Rattle.search.specs.Search.{System, ClearedRow, Cleared, Step};
+ghost use Rattle.dependence.specs.Dependence.{System, ClearedRow, Cleared, Step};
 use field::Element;
 use rows::ROWS;
 use rows::SYMBOLS;

@@ -25,7 +25,7 @@ use Rattle.field.proofs.Order.{nonzero-symbol}
 use Rattle.field.specs.Told.{toldRefusal}
 use Rattle.field.specs.declared.Refusal.{Refusal}
 use Rattle.field.specs.declared.Refusal.the-variants.{Sizes, Setting, Length, Room, Symbol, Column, Cost, Zero}
-use Rattle.search.specs.Search.{System, left, ClearedRow, Cleared, Step}
+use Rattle.dependence.specs.Dependence.{System, left, ClearedRow, Cleared, Step}
 use Rattle.rows.proofs.Filled.{filled-at, summed-symbols, multiple-symbols, multiple-at}
 use Rattle.rows.specs.Row.{width, summedRow, multipleRow, multiplesTo}
 
