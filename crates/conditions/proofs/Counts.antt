@@ -1,6 +1,6 @@
 -- How many conditions a matrix has: its cost.
 -- Assumes nothing.
-use mathlib.Core.List.{List, map}
+use mathlib.Core.List.{List}
 use mathlib.Core.Path.{_≡_, _∙_}
 use Prim.Native.Nat.{ℕ, _+_, _-_, _/_}
 use lib.ListN.{length, length-map}

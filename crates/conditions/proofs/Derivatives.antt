@@ -21,16 +21,20 @@ use Rattle.rows.specs.Row.{width, filled}
 
 -- derivatives of numbers are those of their elements
 module _ (C : Code) (F : FieldOf C) (x : ℕ) (h : x < C .symbols) where
+  -- the number of a derivative
   pub number-derivative : (a s : ℕ) → F .number .φ (derivative (F .ring .ops) a s (F .element x)) ≡ derivative (numbers C) a s x
   number-derivative a s =
       carry-derivative (F .ring .ops) (numbers C) (F .number) a s (F .element x) ∙ ap (derivative (numbers C) a s) (F .number-element x h)
 
+  -- a derivative is a symbol
   pub derivative-symbol : (a s : ℕ) → derivative (numbers C) a s x < C .symbols
   derivative-symbol a s = rw (← number-derivative a s) (F .number-symbol (derivative (F .ring .ops) a s (F .element x)))
 
+  -- 1 has the derivative 1 of order 0
   zero-zero : derivative (numbers C) zero zero x ≡ 1
   zero-zero = sym (number-derivative zero zero) ∙ ap (F .number .φ) (derivative-zero-zero (F .ring) (F .element x)) ∙ F .number .φ-one
 
+  -- and 0 of any other order
   zero-suc : (s : ℕ) → derivative (numbers C) zero (suc s) x ≡ 0
   zero-suc s = sym (number-derivative zero (suc s)) ∙ ap (F .number .φ) (derivative-zero-suc (F .ring) s (F .element x)) ∙ F .number .φ-zero
 
@@ -39,9 +43,11 @@ module _ (C : Code) (F : FieldOf C) (x : ℕ) (h : x < C .symbols) where
   multiplied a s =
       F .number .φ-mul (F .element x) (derivative (F .ring .ops) a s (F .element x)) ∙ ap₂ (C .times) (F .number-element x h) (number-derivative a s)
 
+  -- the derivative of order 0 is the power itself
   suc-zero : (a : ℕ) → derivative (numbers C) (suc a) zero x ≡ C .times x (derivative (numbers C) a zero x)
   suc-zero a = sym (number-derivative (suc a) zero) ∙ ap (F .number .φ) (derivative-suc-zero (F .ring) a (F .element x)) ∙ multiplied a zero
 
+  -- Pascal's rule
   suc-suc : (a s : ℕ) → derivative (numbers C) (suc a) (suc s) x ≡ C .plus (C .times x (derivative (numbers C) a (suc s) x)) (derivative (numbers C) a s x)
   suc-suc a s =
       sym (number-derivative (suc a) (suc s)) ∙ ap (F .number .φ) (derivative-suc-suc (F .ring) a s (F .element x))
@@ -53,6 +59,7 @@ abbrev pub lead : ℕ → ℕ
 lead zero = 1
 lead (suc s) = 0
 
+-- it is a symbol
 pub lead-symbol : (s : ℕ) → lead s < 16
 lead-symbol zero = omega arith
 lead-symbol (suc s) = omega arith
@@ -62,10 +69,12 @@ abbrev pub lower : ℕ → ℕ → ℕ → List ℕ
 lower n x zero = replicate width 0
 lower n x (suc s) = derivativesRow n x s
 
+-- the first number
 stepped-zero : (x first : ℕ) (before : List ℕ) → stepped x first before zero ≡ first
 unfolding stepped
 stepped-zero x first before = refl
 
+-- the next
 pub stepped-suc : (x first : ℕ) (before : List ℕ) (e : ℕ)
     → stepped x first before (suc e) ≡ sixteen .plus (sixteen .times x (stepped x first before e)) (getD before e 0)
 unfolding stepped
@@ -91,10 +100,12 @@ module _ (x : ℕ) (h : x < 16) where
       (plus-symbol sixteen sixteen-field (sixteen .times x (stepped x first before e)) (getD before e 0)
       (times-symbol sixteen sixteen-field x (stepped x first before e) h (stepped-symbol first before hf sb e)) (sb e))
 
+  -- zero adds nothing
   plus-zero : (a : ℕ) → sixteen .plus a 0 ≡ a
   unfolding sumOf
   plus-zero a = xor-zero-r a
 
+  -- before order 0 there are zeros
   none-before : (e : ℕ) → _≡_ {A = ℕ} (getD (replicate width 0) e 0) 0
   none-before e = ap (λ (l : List ℕ). getD l e 0) (filled-none (λ k. k)) ∙ filled-rest (λ k. k) 0 e (omega arith)
 
@@ -119,9 +130,11 @@ module _ (x : ℕ) (h : x < 16) where
       er ∙ ap₂ (λ (f : ℕ) (b : List ℕ). filled n (stepped x f b)) ef eb
       ∙ filled-equal n (stepped x (lead s) (lower n x s)) (λ e. derivative (numbers sixteen) e s x) hn (λ e l. stepped-derivative n s e l)
 
+  -- a row of derivatives is a row of symbols
   pub derivatives-symbols : (n s : ℕ) → Symbols sixteen (derivativesRow n x s)
   derivatives-symbols n s = filled-symbols (λ e. derivative (numbers sixteen) e s x) n (λ e _. derivative-symbol sixteen sixteen-field x h e s)
 
+  -- and so is the row before it
   pub lower-symbols : (n s : ℕ) → Symbols sixteen (lower n x s)
   lower-symbols n zero e = rw (none-before e) (omega arith)
   lower-symbols n (suc s) e = derivatives-symbols n s e

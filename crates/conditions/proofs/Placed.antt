@@ -1,7 +1,7 @@
 -- Rows that are put one after the other into a matrix.
 -- Assumes nothing.
 use mathlib.Core.List.{List, [], _∷_, _++_, map, flatMap}
-use mathlib.Core.Path.{_≡_, refl, sym, _∙_, ap, ap₂}
+use mathlib.Core.Path.{_≡_, sym, _∙_, ap, ap₂}
 use Prim.Native.Nat.{ℕ, zero, suc, _+_, _≤_, _<_}
 use native.Mathlib.Decide.{decLt}
 use native.Mathlib.Nat.{add-zero, add-suc, suc-add, not-suc-le-zero}
@@ -50,9 +50,11 @@ module _ {A : Type 0} (f : ℕ → List A) where
       ]
 
   module _ (o : List A) (at : ℕ) where
+    -- none is put yet
     pub joined-none : o ≡ sets o at (flatMap f (below 0))
     joined-none = ap (sets o at) (sym (join-nil f)) ∙ ap (λ (l : List ℕ). sets o at (flatMap f l)) (sym below-zero)
 
+    -- and none is counted
     pub none-counted : at ≡ at + length (flatMap f (below 0))
     none-counted =
         let e : length (flatMap f (below 0)) ≡ 0 = ap (λ (l : List ℕ). length (flatMap f l)) below-zero ∙ ap length (join-nil f) in
@@ -65,5 +67,6 @@ module _ {A : Type 0} (f : ℕ → List A) where
         en ∙ ap₂ (λ (l : List A) (n : ℕ). sets l n (f s)) e er ∙ sym (sets-append o at (flatMap f (below s)) (f s)) ∙ ap (sets o at) (sym (join-below f s))
         ∙ ap (λ (n : ℕ). sets o at (flatMap f (below n))) (sym (add-one s))
 
+    -- one list more is counted
     pub count-more : (s r : ℕ) → r ≡ at + length (flatMap f (below s)) → r + length (f s) ≡ at + length (flatMap f (below (s + 1)))
     count-more s r e = let c = joined-count s in omega arith

@@ -1,15 +1,14 @@
 -- The walk along the monomials: after k steps it stands at the monomial of place k in document 01's order.
 -- Assumes nothing.
-use mathlib.Core.Bool.{Bool, true, false, cond}
-use mathlib.Core.List.{List, [], _++_, flatMap}
+use mathlib.Core.Bool.{Bool, cond}
+use mathlib.Core.List.{List, flatMap}
 use mathlib.Core.Path.{_≡_, refl, sym, _∙_, ap, ap₂, subst}
 use Prim.Native.Nat.{ℕ, zero, suc, _+_, _-_, _*_, _/_, _≤_, _<_}
 use native.Mathlib.Decide.{decLt, ℕ-discrete}
-use native.Mathlib.Nat.{add-zero, mul-suc, mul-zero, le-div-iff-mul-le, div-lt-iff-lt-mul, div-le-self, mul-comm, zero-div, mul-div-le, lt-mul-div-succ}
+use native.Mathlib.Nat.{mul-suc, mul-zero, le-div-iff-mul-le, div-lt-iff-lt-mul, div-le-self, mul-comm, mul-div-le}
 use native.Mathlib.Numerals.{add-one}
 use native.Mathlib.Omega.{arith}
 use borrow.Author.Tests.{le-leb, lt-leb}
-use lib.Dec.{leb}
 use lib.ListN.{length, getD, length-append, length-map, List·getD-append}
 use lib.Seq.{getD-append-add}
 use Rattle.algebra.proofs.Linear.{row}
@@ -24,18 +23,22 @@ use Rattle.rows.proofs.Filled.{filled-at}
 use Rattle.conditions.specs.Conditions.{Place, nextPlace, walked, derivativesRow, productRow}
 
 module _ (v : ℕ) where
+  -- no step
   walked-zero : walked v 0 ≡ (0, 0, 0)
   unfolding walked
   walked-zero = refl
 
+  -- one step more
   walked-suc : (k : ℕ) → walked v (k + 1) ≡ nextPlace v (walked v k)
   unfolding walked
   walked-suc k = ap (walked v) (add-one k)
 
+  -- where v powers of x can be had the degree stays
   stays : (p : Place) → v ≤ p .0 → nextPlace v p ≡ (p .0 - v, p .1 + 1, p .2)
   unfolding nextPlace
   stays p h = ap (λ (b : Bool). cond b (p .0 - v, p .1 + 1, p .2) (p .2 + 1, 0, p .2 + 1)) (le-leb v (p .0) h)
 
+  -- where they cannot it turns to the next
   turns : (p : Place) → p .0 < v → nextPlace v p ≡ (p .2 + 1, 0, p .2 + 1)
   unfolding nextPlace
   turns p h = ap (λ (b : Bool). cond b (p .0 - v, p .1 + 1, p .2) (p .2 + 1, 0, p .2 + 1)) (lt-leb v (p .0) h)
@@ -71,16 +74,19 @@ module _ (v : ℕ) where
   earlier : ℕ → ℕ
   earlier d = length (flatMap (monomialsOf v) (below d))
 
+  -- none is of a degree below 0
   earlier-zero : earlier 0 ≡ 0
   unfolding earlier
   earlier-zero = ap (λ (l : List ℕ). length (flatMap (monomialsOf v) l)) below-zero ∙ ap length (join-nil (monomialsOf v))
 
+  -- degree d brings one for each power of y
   earlier-suc : (d : ℕ) → earlier (suc d) ≡ earlier d + (d / v + 1)
   unfolding earlier
   earlier-suc d =
       ap length (join-below (monomialsOf v) d) ∙ length-append (flatMap (monomialsOf v) (below d)) (monomialsOf v d)
       ∙ ap (λ (n : ℕ). length (flatMap (monomialsOf v) (below d)) + n) (length-map (below (d / v + 1)) _ ∙ length-below (d / v + 1))
 
+  -- more for a greater degree
   earlier-le : (d e : ℕ) → d ≤ e → earlier d ≤ earlier e
   earlier-le d zero h = let z : d ≡ 0 = omega arith in rw z (omega arith)
   earlier-le d (suc e) h =
@@ -90,6 +96,7 @@ module _ (v : ℕ) where
         | no n ↦ let r = earlier-le d e (omega arith) in omega arith
       ]
 
+  -- at least one for each degree
   degree-le : (d : ℕ) → d ≤ earlier d
   degree-le zero = omega arith
   degree-le (suc d) = let s = earlier-suc d in let r = degree-le d in omega arith
@@ -102,6 +109,7 @@ module _ (v : ℕ) where
       ∙ getD-append-add (flatMap (monomialsOf v) (below D)) (monomialsOf v D) b (0, 0)
       ∙ map-below-at (λ (b : ℕ). (D - v * b, b)) (D / v + 1) b (0, 0) l
 
+  -- each has its place
   within : (D d b : ℕ) → d ≤ D → b < d / v + 1 → earlier d + b < length (flatMap (monomialsOf v) (below (suc D)))
   unfolding earlier
   within D d b h l = let s = earlier-suc d in let m = earlier-le (suc d) (suc D) (omega arith) in omega arith
@@ -140,6 +148,7 @@ module _ (v : ℕ) (pos : 0 < v) where
       let f : d / v < suc b = (div-lt-iff-lt-mul pos) .1 (let g = mul-suc v b in let s = mul-comm (suc b) v in omega arith) in
       omega arith
 
+  -- a step leads to the next place
   stands-next : (k : ℕ) (p : Place) → Stands k p → Stands (k + 1) (nextPlace v p)
   stands-next k p s =
       elim (decLt (p .0) v) [
@@ -159,6 +168,7 @@ module _ (v : ℕ) (pos : 0 < v) where
             })
       ]
 
+  -- so after every number of steps
   stands : (k : ℕ) → Stands k (walked v k)
   stands zero =
       subst (Stands 0) (sym (walked-zero v))
@@ -177,10 +187,12 @@ module _ (v : ℕ) (pos : 0 < v) where
       (omega arith, omega arith, omega arith)
 
   module _ (D k : ℕ) (h : k < count v D) where
+    -- place k is one of the count
     counted : k < earlier v (suc D)
     unfolding earlier
     counted = rw (← add-one D, monomials-in-order v pos D .size) h
 
+    -- its degree is at most D
     degree-within : walked v k .2 ≤ D
     degree-within =
         elim (decLt D (walked v k .2)) [

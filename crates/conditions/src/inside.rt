@@ -5,9 +5,10 @@ ghost use lib.ListN.{length};
 ghost use lib.Seq.{sets};
 ghost use Rattle.definitions.specs.Code.{Symbols};
 ghost use Rattle.definitions.specs.Field.{sixteen};
+ghost use Rattle.definitions.specs.Limits.{greatestLimit};
 ghost use Rattle.field.specs.Table.{Products};
 ghost use Rattle.conditions.specs.Conditions.{stepped, productRow, orderRows, pointRows, columnRows, positionRows};
-ghost use Rattle.rows.specs.Row.{filled};
+ghost use Rattle.rows.specs.Row.{width, filled};
 use rows::ROWS;
 use rows::WIDTH;
 
@@ -15,11 +16,13 @@ const POSITIONS: usize = 15;
 
 const ALPHA: u8 = 2;
 
+const SYMBOLS: u8 = 16;
+
 // The derivatives of one order of the powers of x below n, at x, from those of the order before.
 fn derivatives(table: &[u8; 256], x: u8, first: u8, before: &[u8; WIDTH], n: usize) -> [u8; WIDTH]
     requires { ⌜ Products (now table) ⌝ }
     requires { ⌜ Symbols sixteen (now before) ⌝ }
-    requires { ⌜ (x < 16) × (first < 16) × (n ≤ 160) ⌝ }
+    requires { ⌜ (x < 16) × (first < 16) × (n ≤ width) ⌝ }
     ensures { λ r. ⌜ r ≡ filled n (stepped x first (now (before .entry))) ⌝ }
 {
     let mut row = [0u8; WIDTH];
@@ -44,7 +47,7 @@ fn condition(
     requires { ⌜ Products (now table) ⌝ }
     requires { ⌜ Symbols sixteen (now hx) ⌝ }
     requires { ⌜ Symbols sixteen (now hy) ⌝ }
-    requires { ⌜ (0 < v) × (count ≤ 160) ⌝ }
+    requires { ⌜ (0 < v) × (count ≤ width) ⌝ }
     ensures { λ r. ⌜ r ≡ productRow v count (now (hx .entry)) (now (hy .entry)) ⌝ }
 {
     let mut row = [0u8; WIDTH];
@@ -81,7 +84,7 @@ fn order_rows(
 )
     requires { ⌜ Products (now table) ⌝ }
     requires { ⌜ Symbols sixteen (now hx) ⌝ }
-    requires { ⌜ (b < 16) × (0 < v) × (n ≤ 160) × (count ≤ 160) × (at + m ≤ 150) ⌝ }
+    requires { ⌜ (b < 16) × (0 < v) × (n ≤ width) × (count ≤ width) × (at + m ≤ greatestLimit) ⌝ }
     ensures { λ _. ⌜ now (rows .exit) ≡ sets (now (rows .entry)) at (orderRows v n count (now (hx .entry)) b m) ⌝ }
 {
     let mut hy = [0u8; WIDTH];
@@ -109,8 +112,8 @@ fn point_rows(
     count: usize,
 ) -> usize
     requires { ⌜ Products (now table) ⌝ }
-    requires { ⌜ (a < 16) × (b < 16) × (0 < v) × (d < 160) × (count ≤ 160) ⌝ }
-    requires { ⌜ at + length (pointRows v d count a b m) ≤ 150 ⌝ }
+    requires { ⌜ (a < 16) × (b < 16) × (0 < v) × (d < width) × (count ≤ width) ⌝ }
+    requires { ⌜ at + length (pointRows v d count a b m) ≤ greatestLimit ⌝ }
     ensures { λ r. ⌜ r ≡ at + length (pointRows v d count a b m) ⌝ }
     ensures { λ _. ⌜ now (rows .exit) ≡ sets (now (rows .entry)) at (pointRows v d count a b m) ⌝ }
 {
@@ -140,14 +143,14 @@ fn column_rows(
     count: usize,
 ) -> usize
     requires { ⌜ Products (now table) ⌝ }
-    requires { ⌜ (a < 16) × (0 < v) × (d < 160) × (count ≤ 160) ⌝ }
-    requires { ⌜ at + length (columnRows v d count a (now column)) ≤ 150 ⌝ }
+    requires { ⌜ (a < 16) × (0 < v) × (d < width) × (count ≤ width) ⌝ }
+    requires { ⌜ at + length (columnRows v d count a (now column)) ≤ greatestLimit ⌝ }
     ensures { λ r. ⌜ r ≡ at + length (columnRows v d count a (now (column .entry))) ⌝ }
     ensures { λ _. ⌜ now (rows .exit) ≡ sets (now (rows .entry)) at (columnRows v d count a (now (column .entry))) ⌝ }
 {
     let mut next = at;
     let mut symbol = 0u8;
-    while symbol < 16 {
+    while symbol < SYMBOLS {
         let b = field::inside::wide(symbol);
         let m = field::inside::wide(column[b]);
         next = point_rows(rows, table, next, a, symbol, m, v, d, count);
@@ -166,8 +169,8 @@ pub fn matrix_rows(
     count: usize,
 ) -> usize
     requires { ⌜ Products (now table) ⌝ }
-    requires { ⌜ (0 < v) × (d < 160) × (count ≤ 160) ⌝ }
-    requires { ⌜ length (positionRows v d count (now matrix) 15) ≤ 150 ⌝ }
+    requires { ⌜ (0 < v) × (d < width) × (count ≤ width) ⌝ }
+    requires { ⌜ length (positionRows v d count (now matrix) 15) ≤ greatestLimit ⌝ }
     ensures { λ r. ⌜ r ≡ length (positionRows v d count (now (matrix .entry)) 15) ⌝ }
     ensures { λ _. ⌜ now (rows .exit) ≡ sets (now (rows .entry)) 0 (positionRows v d count (now (matrix .entry)) 15) ⌝ }
 {

@@ -24,6 +24,7 @@ module _ (A : Ring) where
   pub dot-rows : (n : ℕ) (r s q : ℕ → K) → ((k : ℕ) → k < n → r k ≡ s k) → dot (A .ops) n r q ≡ dot (A .ops) n s q
   dot-rows n r s q e = dot-equal (A .ops) n r s q q e (λ k h. refl)
 
+  -- one entry more
   added-step : (x y c r s q : K) → (x ⊕ c ⊗ y) ⊕ (r ⊕ c ⊗ s) ⊗ q ≡ (x ⊕ r ⊗ q) ⊕ c ⊗ (y ⊕ s ⊗ q)
   added-step x y c r s q = simp ring
 
@@ -35,6 +36,7 @@ module _ (A : Ring) where
       ap (λ (x : K). x ⊕ (r n ⊕ c ⊗ s n) ⊗ q n) (dot-added n r s q c)
       ∙ added-step (dot (A .ops) n r q) (dot (A .ops) n s q) c (r n) (s n) (q n)
 
+  -- one entry more
   multiple-step : (x c r q : K) → c ⊗ x ⊕ c ⊗ r ⊗ q ≡ c ⊗ (x ⊕ r ⊗ q)
   multiple-step x c r q = simp ring
 

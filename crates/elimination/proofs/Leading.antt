@@ -3,7 +3,7 @@
 use mathlib.Core.Bool.{Bool, true, false, cond, _&&_, true≢false, false≢true}
 use mathlib.Core.List.{List, [], _∷_}
 use mathlib.Core.Path.{_≡_, refl, sym, _∙_, ap}
-use Prim.Native.Nat.{ℕ, zero, suc, _≤_, _<_}
+use Prim.Native.Nat.{ℕ, zero, suc, _<_}
 use native.Mathlib.Decide.{decLt}
 use native.Mathlib.Nat.{le-of-suc-le-suc, not-suc-le-zero}
 use native.Mathlib.Omega.{arith}
@@ -13,6 +13,7 @@ use lib.ListN.{getD}
 use Rattle.definitions.proofs.Tools.{split}
 use Rattle.definitions.specs.Polynomial.{isZero, leading}
 
+-- of two tests that pass together each passes
 both : (a b : Bool) → (a && b) ≡ true → (a ≡ true) × (b ≡ true)
 both true b e = (refl, e)
 both false b e = absurd (false≢true e)
@@ -38,10 +39,12 @@ nil-zero : isZero [] ≡ true
 unfolding isZero
 nil-zero = refl
 
+-- the first coefficient leads where all after it are zero
 leading-last : (c : ℕ) (q : List ℕ) → isZero q ≡ true → leading (c ∷ q) ≡ 0
 unfolding leading
 leading-last c q e = ap (λ (b : Bool). cond b 0 (suc (leading q))) e
 
+-- else one of those after it does
 leading-later : (c : ℕ) (q : List ℕ) → isZero q ≡ false → leading (c ∷ q) ≡ suc (leading q)
 unfolding leading
 leading-later c q e = ap (λ (b : Bool). cond b 0 (suc (leading q))) e

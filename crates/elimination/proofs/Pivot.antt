@@ -35,17 +35,21 @@ module _ (A : Ring) (F : IsField A) (R W : ℕ) (m b : ℕ → ℕ → A .ops .K
   infixl 60 _⊕_
   infixl 70 _⊗_
   module _ (q : ℕ → K) where
+    -- a row times q
     product : (ℕ → K) → K
     product s = dot (A .ops) W s q
 
+    -- of the pivot row
     of-pivot : product (b j) ≡ u ⊗ product (m r)
     unfolding product
     of-pivot = dot-rows A W (b j) (λ k. u ⊗ m r k) q (p .pivot) ∙ dot-multiple A W (m r) q u
 
+    -- of the row that went to r
     of-moved : r ≢ j → product (b r) ≡ product (m j) ⊕ m j j ⊗ product (b j)
     unfolding product
     of-moved n = dot-rows A W (b r) (λ k. m j k ⊕ m j j ⊗ b j k) q (p .moved n) ∙ dot-added A W (m j) (b j) q (m j j)
 
+    -- of every other row
     of-others : (t : ℕ) → t < R → t ≢ j → t ≢ r → product (b t) ≡ product (m t) ⊕ m t j ⊗ product (b j)
     unfolding product
     of-others t h n l = dot-rows A W (b t) (λ k. m t k ⊕ m t j ⊗ b j k) q (p .others t h n l) ∙ dot-added A W (m t) (b j) q (m t j)
@@ -54,6 +58,7 @@ module _ (A : Ring) (F : IsField A) (R W : ℕ) (m b : ℕ → ℕ → A .ops .K
     adds-nothing : (x c z : K) → z ≡ o → x ⊕ c ⊗ z ≡ x
     adds-nothing x c z e = ap (λ (y : K). x ⊕ c ⊗ y) e ∙ ap (λ (y : K). x ⊕ y) (times-zero A c) ∙ plus-zero A x
 
+    -- what solves before the step solves after it
     pub solves-after : Sol (A .ops) R W m q → Sol (A .ops) R W b q
     unfolding product
     solves-after s a h =
@@ -68,6 +73,7 @@ module _ (A : Ring) (F : IsField A) (R W : ℕ) (m b : ℕ → ℕ → A .ops .K
               ]
         ]
 
+    -- what solves after it solves before
     pub solves-before : u ≢ o → Sol (A .ops) R W b q → Sol (A .ops) R W m q
     unfolding product
     solves-before nonzero s a h =
@@ -125,6 +131,7 @@ module _ (A : Ring) (F : IsField A) (R W : ℕ) (m b : ℕ → ℕ → A .ops .K
       ],
     )
 
+    -- there is one unit column more
     pub units-after : UnitColumns (A .ops) R (suc j) b
     units-after k h =
         elim (ℕ-discrete k j) [

@@ -3,16 +3,15 @@
 -- Assumes nothing.
 use mathlib.Core.List.{List}
 use mathlib.Core.Logic.{_≢_}
-use mathlib.Core.Path.{_≡_, refl, sym, _∙_, ap, ap₂}
+use mathlib.Core.Path.{_≡_, sym, _∙_, ap, ap₂}
 use Prim.Native.Nat.{ℕ, suc, _≤_, _<_}
 use native.Mathlib.Omega.{arith}
 use lib.ListN.{getD}
 use Rattle.algebra.proofs.Elements.{zero-symbol, one-symbol, plus-symbol, times-symbol}
 use Rattle.algebra.proofs.Linear.{dot, dot-equal, carry-dot}
-use Rattle.algebra.proofs.Elements.{number-injective}
+use Rattle.algebra.proofs.Numbers.{number-injective}
 use Rattle.algebra.proofs.RingLaws.{plus-self, plus-zero, zero-times, equal-of-sum}
 use Rattle.algebra.specs.FieldOf.{FieldOf}
-use Rattle.algebra.specs.Ring.{Ring}
 use Rattle.definitions.specs.Code.{Symbols}
 use Rattle.definitions.specs.Field.{Ops, Code, numbers}
 use Rattle.elimination.proofs.Pivot.{Sol, UnitColumns, Pivoted, solves-after, solves-before, units-after, column-solves, ends-before}
@@ -62,6 +61,7 @@ module _ (C : Code) (F : FieldOf C) where
   plus-same a h =
       symbol-zero (C .plus a a) (plus-symbol C F a a h h) (element-plus a a h h ∙ plus-self (F .ring) (F .element a))
 
+  -- symbols that sum to zero are equal
   pub same-of-plus : (a b : ℕ) → a < C .symbols → b < C .symbols → C .plus a b ≡ 0 → a ≡ b
   same-of-plus a b ha hb e =
       symbol-injective a b ha hb
@@ -92,16 +92,20 @@ module _ (C : Code) (F : FieldOf C) where
         carry-dot G N (F .number) w (grid m r) (vector q)
         ∙ dot-equal N w _ (entryOf m r) _ (λ k. getD q k 0) (λ k h. F .number-element (entryOf m r k) (sm r k)) (λ k h. F .number-element (getD q k 0) (sq k))
 
+    -- elements solve where numbers do
     elements-solve : (m : List (List ℕ)) → SymbolRows C m → (q : List ℕ) → Symbols C q → Solves C rows w m q → Sol G rows w (grid m) (vector q)
     elements-solve m sm q sq s r h = number-injective C F _ (G .o) (number-dot m sm q sq r ∙ s r h ∙ sym (F .number .φ-zero))
 
+    -- and numbers where elements do
     numbers-solve : (m : List (List ℕ)) → SymbolRows C m → (q : List ℕ) → Symbols C q → Sol G rows w (grid m) (vector q) → Solves C rows w m q
     numbers-solve m sm q sq s r h = sym (number-dot m sm q sq r) ∙ ap (F .number .φ) (s r h) ∙ F .number .φ-zero
 
+    -- unit columns of elements
     unit-elements : (j : ℕ) (m : List (List ℕ)) → Units rows j m → UnitColumns G rows j (grid m)
     unfolding grid
     unit-elements j m u k h = (ap (F .element) (u k h .0) ∙ element-one, λ a l n. ap (F .element) (u k h .1 a l n) ∙ element-zero)
 
+    -- and of numbers
     unit-numbers : (j : ℕ) (m : List (List ℕ)) → SymbolRows C m → UnitColumns G rows j (grid m) → Units rows j m
     unfolding grid
     unit-numbers j m sm u k h = (
@@ -113,6 +117,7 @@ module _ (C : Code) (F : FieldOf C) where
 
     module _ (m b : List (List ℕ)) (r j u : ℕ) (sm : SymbolRows C m) (sb : SymbolRows C b) (hr : r < rows) (hj : j < rows) (hu : u < C .symbols)
         (p : Pivoted N rows w (entryOf m) (entryOf b) r j u) where
+      -- a step on numbers is a step on their elements
       pivoted : Pivoted G rows w (grid m) (grid b) r j (F .element u)
       unfolding grid
       pivoted = record {
@@ -127,6 +132,7 @@ module _ (C : Code) (F : FieldOf C) where
               element-plus x (C .times c y) hx (times-symbol C F c y hc hy) ∙ ap (G .add (F .element x)) (element-times c y hc hy)
 
       module _ (one : C .times u (entryOf m r j) ≡ 1) where
+        -- u is the inverse of the pivot
         scales : G .mul (F .element u) (F .element (entryOf m r j)) ≡ G .i
         scales = sym (element-times u (entryOf m r j) hu (sm r j)) ∙ ap (F .element) one ∙ element-one
 
@@ -137,12 +143,14 @@ module _ (C : Code) (F : FieldOf C) where
             one-not-zero : G .i ≢ G .o
             one-not-zero f = let g : _≡_ {A = ℕ} 1 0 = sym (F .number .φ-one) ∙ ap (F .number .φ) f ∙ F .number .φ-zero in let z : ⊥ = omega arith in z
 
+        -- a step keeps the solutions
         pub step-solutions : SameSolutions C rows w m b
         step-solutions q sq = (
           λ s. numbers-solve b sb q sq (solves-after (F .ring) (F .field) rows w (grid m) (grid b) r j (F .element u) hr hj pivoted (vector q) (elements-solve m sm q sq s)),
           λ s. numbers-solve m sm q sq (solves-before (F .ring) (F .field) rows w (grid m) (grid b) r j (F .element u) hr hj pivoted (vector q) nonzero (elements-solve b sb q sq s)),
         )
 
+        -- and gains a unit column
         pub step-units : j < w → j ≤ r → Units rows j m → Units rows (suc j) b
         unfolding grid
         step-units hw low units =
@@ -152,6 +160,7 @@ module _ (C : Code) (F : FieldOf C) where
     -- ---- the column that depends on those before it
 
     module _ (m : List (List ℕ)) (j : ℕ) (sm : SymbolRows C m) (hj : j < w) (hr : j ≤ rows) (d : Reduced rows j m) where
+      -- the column that depends has no pivot
       zero-below : (a : ℕ) → j ≤ a → a < rows → grid m a j ≡ G .o
       unfolding grid
       zero-below a l h = ap (F .element) (d .1 a l h) ∙ element-zero

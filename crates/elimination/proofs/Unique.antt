@@ -1,6 +1,6 @@
 -- The theorem that one list of coefficients interpolates, in any code that carries a field.
 -- Assumes nothing.
-use mathlib.Core.Bool.{true, false}
+use mathlib.Core.Bool.{true}
 use mathlib.Core.List.{List, [], _∷_}
 use mathlib.Core.Path.{_≡_, refl, sym, _∙_, ap, ap₂}
 use Prim.Native.Nat.{ℕ, zero, suc, _≤_, _<_}
@@ -13,7 +13,6 @@ use Rattle.algebra.proofs.Elements.{zero-symbol}
 use Rattle.algebra.proofs.Solutions.{symbols-plus, through-plus}
 use Rattle.algebra.specs.FieldOf.{FieldOf}
 use Rattle.definitions.proofs.Tools.{split}
-use Rattle.definitions.specs.Code.{Symbols}
 use Rattle.definitions.specs.Field.{Code, numbers}
 use Rattle.definitions.specs.Polynomial.{Interpolates, isZero, leading}
 use Rattle.definitions.specs.Roots.{plus}
@@ -36,15 +35,18 @@ plus-at C (c ∷ p) (d ∷ q) zero e h = refl
 plus-at C (c ∷ p) (d ∷ q) (suc k) e h = plus-at C p q k (omega arith) (le-of-suc-le-suc h)
 
 module _ (C : Code) (F : FieldOf C) (n v D : ℕ) (m p q : List ℕ) (hp : Interpolates C n v D m p) (hq : Interpolates C n v D m q) where
+  -- they have the same length
   sizes : length p ≡ length q
   sizes = hp .size ∙ sym (hq .size)
 
+  -- and the same leading place
   leads : leading p ≡ leading q
   leads =
       let a = hp .least q (hq .size) (hq .symbols) (hq .through) (hq .nonzero) in
       let b = hq .least p (hp .size) (hp .symbols) (hp .through) (hp .nonzero) in
       omega arith
 
+  -- their sum
   both : List ℕ
   both = plus (numbers C) p q
 
@@ -66,6 +68,7 @@ module _ (C : Code) (F : FieldOf C) (n v D : ℕ) (m p q : List ℕ) (hp : Inter
         | no l ↦ List·getD-eq-default (plus (numbers C) p q) 0 {n = k} (rw (length-plus C p q sizes) (omega arith))
       ]
 
+  -- so it is zero: it would lead earlier
   both-zero : isZero both ≡ true
   unfolding both
   both-zero =

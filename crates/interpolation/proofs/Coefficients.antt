@@ -1,15 +1,15 @@
 -- The coefficients that the reduced rows show are the polynomial that interpolates.
 -- Assumes nothing.
-use mathlib.Core.Bool.{Bool, true, false, cond, true≢false}
-use mathlib.Core.List.{List, [], _∷_, _++_, map}
+use mathlib.Core.Bool.{Bool, true, cond, true≢false}
+use mathlib.Core.List.{List, _++_, map}
 use mathlib.Core.Logic.{_≢_}
 use mathlib.Core.Path.{_≡_, refl, sym, _∙_, ap, ap₂, subst}
-use Prim.Native.Nat.{ℕ, suc, _+_, _*_, _≤_, _<_}
+use Prim.Native.Nat.{ℕ, _+_, _*_, _≤_, _<_}
 use native.Mathlib.Decide.{decLt, ℕ-discrete}
 use native.Mathlib.Numerals.{add-one}
 use native.Mathlib.Omega.{arith}
 use borrow.Author.Tests.{lt-ltb, le-ltb, eq-eqb, ne-eqb}
-use lib.Dec.{eqb, ltb}
+use lib.Dec.{eqb}
 use lib.ListN.{length, drop, getD, set, length-map, List·getD-eq-default}
 use lib.Seq.{sets}
 use Rattle.algebra.proofs.Numbers.{isZero-of-zeros}
@@ -28,19 +28,23 @@ use Rattle.field.proofs.Instance.{sixteen-field}
 use Rattle.interpolation.proofs.Conditions.{length-conditions, condition-of, condition-symbols, system-sets, through-solves, solves-through}
 use Rattle.interpolation.proofs.Width.{width-fits}
 use Rattle.interpolation.specs.Found.{Found}
-use Rattle.interpolation.specs.Search.{System, coefficientOf}
+use Rattle.dependence.specs.Dependence.{System}
+use Rattle.interpolation.specs.Found.{coefficientOf}
 use Rattle.conditions.specs.Conditions.{positionRows}
 use Rattle.rows.specs.Row.{width}
 use Rattle.weights.specs.Matrix.{matrixOf, matrixCost}
 
 module _ (j : ℕ) (m : List (List ℕ)) (k : ℕ) where
+  -- before j it is the entry of column j
   pub coefficient-before : k < j → entryOf m k j ≡ coefficientOf j m k
   coefficient-before h = sym (ap (λ (b : Bool). cond b (entryOf m k j) (cond (eqb k j) 1 0)) (lt-ltb k j h))
 
+  -- at j it is 1
   pub coefficient-at : k ≡ j → 1 ≡ coefficientOf j m k
   coefficient-at e =
       sym (ap₂ (λ (a b : Bool). cond a (entryOf m k j) (cond b 1 0)) (le-ltb k j (omega arith)) (eq-eqb k j e))
 
+  -- after j it is 0
   pub coefficient-after : j ≤ k → k ≢ j → 0 ≡ coefficientOf j m k
   coefficient-after h n = sym (ap₂ (λ (a b : Bool). cond a (entryOf m k j) (cond b 1 0)) (le-ltb k j h) (ne-eqb k j n))
 
@@ -64,13 +68,16 @@ conditions-system v d w a o so h =
 module _ (v D : ℕ) (a o b : List (List ℕ)) (pos : 0 < v) (hv : v < 15) (cheap : matrixCost a ≤ 150) (is-bound : D ≡ bound v (matrixCost a))
     (so : System o) (sb : System b) (rows j : ℕ) (is-rows : rows ≡ length (positionRows v D (count v D) a 15)) (low : j ≤ rows)
     (same : SameSolutions sixteen rows width (sets o 0 (positionRows v D (count v D) a 15)) b) (reduced : Reduced rows j b) where
+  -- the coefficients
   q : List ℕ
   q = map (coefficientOf j b) (below (count v D))
 
+  -- they are N(D)
   size : length q ≡ count v D
   unfolding q
   size = length-map (below (count v D)) (coefficientOf j b) ∙ length-below (count v D)
 
+  -- which fit into a row
   fits : count v D ≤ width
   fits = subst (λ (d : ℕ). count v d ≤ 160) (sym is-bound) (width-fits v (matrixCost a) pos hv cheap)
 
@@ -81,19 +88,24 @@ module _ (v D : ℕ) (a o b : List (List ℕ)) (pos : 0 < v) (hv : v < 15) (chea
       let f : matrixCost a < count v D = subst (λ (d : ℕ). matrixCost a < count v d) (sym is-bound) (bound-is-least v pos (matrixCost a) .0) in
       omega arith
 
+  -- coefficient k
   at : (k : ℕ) → k < count v D → getD q k 0 ≡ coefficientOf j b k
   unfolding q
   at k h = map-below-at (coefficientOf j b) (count v D) k 0 h
 
+  -- past the last there are zeros
   past : (k : ℕ) → count v D ≤ k → getD q k 0 ≡ 0
   past k h = List·getD-eq-default q 0 {n = k} (let e = size in omega arith)
 
+  -- before j
   column : (k : ℕ) → k < j → getD q k 0 ≡ entryOf b k j
   column k h = at k (let m = more in omega arith) ∙ sym (coefficient-before j b k h)
 
+  -- at j
   one : getD q j 0 ≡ 1
   one = at j (let m = more in omega arith) ∙ sym (coefficient-at j b j refl)
 
+  -- after j
   ends : (k : ℕ) → j < k → getD q k 0 ≡ 0
   ends k h =
       elim (decLt k (count v D)) [
@@ -101,6 +113,7 @@ module _ (v D : ℕ) (a o b : List (List ℕ)) (pos : 0 < v) (hv : v < 15) (chea
         | no l ↦ past k (omega arith)
       ]
 
+  -- all are symbols
   symbols : Symbols sixteen q
   symbols k =
       elim (decLt k j) [
@@ -112,19 +125,24 @@ module _ (v D : ℕ) (a o b : List (List ℕ)) (pos : 0 < v) (hv : v < 15) (chea
             ]
       ]
 
+  -- the one at j is not zero
   nonzero-at : getD q j 0 ≢ 0
   nonzero-at z = let f = one in let y : ⊥ = omega arith in y
 
+  -- so it leads
   leads-at : leading q ≡ j
   leads-at = leading-is q j nonzero-at ends
 
+  -- j is a column of the rows
   inside : j < width
   inside = let m = more in let f = fits in omega arith
 
   module _ (m : List ℕ) (n : ℕ) (small : n ≤ 15) (full : length m ≡ 16 * n) (loaded : a ≡ matrixOf m n) where
+    -- there is room for the conditions
     room : length (positionRows v D (count v D) a 15) ≤ 150
     room = let e = length-conditions v D (count v D) a in omega arith
 
+    -- they pass
     passes : Through sixteen n v D m q
     passes =
         solves-through m n v D small full pos fits a loaded q symbols size o so room
@@ -145,6 +163,7 @@ module _ (v D : ℕ) (a o b : List (List ℕ)) (pos : 0 < v) (hv : v < 15) (chea
           | no l ↦ List·getD-eq-default p 0 {n = k} (let f = fits in omega arith)
         ])
 
+    -- they interpolate
     interpolates : Interpolates sixteen n v D m q
     interpolates = record {
       size = size;
@@ -173,13 +192,16 @@ module _ (v D w : ℕ) (a : List (List ℕ)) (pos : 0 < v) (hv : v < 15) (cheap 
   pub degree-small : D < 160
   degree-small = let b = bound-le v pos (matrixCost a) in omega arith
 
+  -- so is the count
   pub count-small : w ≤ 160
   count-small = let f = subst (λ (d : ℕ). count v d ≤ 160) (sym is-bound) (width-fits v (matrixCost a) pos hv cheap) in omega arith
 
+  -- and so are the conditions
   pub rows-small : length (positionRows v D w a 15) ≤ 150
   rows-small = let e = length-conditions v D w a in omega arith
 
   module _ {o start : List (List ℕ)} (so : System o) (is-start : start ≡ sets o 0 (positionRows v D w a 15)) where
+    -- the conditions are a system
     pub start-system : System start
     start-system = subst System (sym is-start) (conditions-system v D w a o so cheap)
 

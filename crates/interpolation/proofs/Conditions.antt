@@ -1,15 +1,15 @@
 -- The rows of a matrix' conditions: as many as it costs, and what solves them is what passes.
 -- Assumes nothing.
-use mathlib.Core.List.{List, [], _∷_, map, flatMap, List·Memᴰ, List·Memᴰ·head, List·Memᴰ·tail, Memᴰ·map, Memᴰ·of-map, List·Memᴰ·cases-cons, List·Memᴰ·not-nil}
+use mathlib.Core.List.{List, [], _∷_, flatMap, List·Memᴰ, List·Memᴰ·head, List·Memᴰ·tail, Memᴰ·map, Memᴰ·of-map, List·Memᴰ·cases-cons, List·Memᴰ·not-nil}
 use mathlib.Core.Logic.{⊎-elim}
-use mathlib.Core.Path.{_≡_, refl, sym, _∙_, ap, ap₂, subst}
+use mathlib.Core.Path.{_≡_, refl, sym, _∙_, ap, subst}
 use Prim.Native.Nat.{ℕ, zero, suc, _+_, _-_, _*_, _/_, _≤_, _<_}
 use native.Mathlib.Decide.{decLt, ℕ-discrete}
 use native.Mathlib.Nat.{suc-mul, mul-suc}
 use native.Mathlib.Omega.{arith}
 use lib.Bits.{xor-zero-r}
 use lib.Dec.{T, eqb, eqb→eq}
-use lib.ListN.{length, getD, drop, set, replicate, length-map, length-replicate, getD-replicate, List·getD-append, List·getD-eq-default}
+use lib.ListN.{length, getD, drop, set, replicate, length-replicate, getD-replicate, List·getD-append, List·getD-eq-default}
 use lib.Seq.{sets, sets-eq}
 use Rattle.algebra.proofs.Elements.{times-symbol}
 use Rattle.algebra.proofs.Numbers.{point-symbol}
@@ -19,23 +19,23 @@ use Rattle.algebra.proofs.Tests.{every, every-at}
 use Rattle.definitions.proofs.Joined.{join-nil, join-member, member-join}
 use Rattle.definitions.proofs.Monomials.{monomials-in-order}
 use Rattle.definitions.proofs.Ordered.{member-at}
-use Rattle.definitions.proofs.Tools.{below-zero, length-below, below-member, member-below, sum-zero, sum-suc, sum-ext}
+use Rattle.definitions.proofs.Tools.{below-zero, below-member, member-below, sum-zero, sum-suc, sum-ext}
 use Rattle.definitions.specs.Bound.{count}
 use Rattle.definitions.specs.Code.{Symbols, point}
 use Rattle.definitions.specs.Field.{numbers, sixteen, sumOf, double, shifted}
 use Rattle.definitions.specs.Polynomial.{Through, hasse, terms, monomials}
 use Rattle.definitions.specs.Tools.{below, sum}
 use Rattle.definitions.specs.Weights.{entry, entryCost}
-use Rattle.elimination.specs.Rows.{entryOf, SymbolRows, Solves}
+use Rattle.elimination.specs.Rows.{Solves}
 use Rattle.field.proofs.Instance.{sixteen-field}
-use Rattle.interpolation.proofs.Steps.{system-set}
-use Rattle.interpolation.specs.Search.{System}
+use Rattle.dependence.proofs.Steps.{system-set}
+use Rattle.dependence.specs.Dependence.{System}
 use Rattle.conditions.proofs.Counts.{orders, length-orders}
 use Rattle.conditions.proofs.Derivatives.{derivatives-symbols}
 use Rattle.rows.proofs.Filled.{filled-symbols}
 use Rattle.conditions.proofs.Placed.{joined-count}
 use Rattle.conditions.proofs.Walk.{product-entry}
-use Rattle.conditions.specs.Conditions.{walked, derivativesRow, productRow, orderRows, pointRows, columnRows, positionRows}
+use Rattle.conditions.specs.Conditions.{walked, derivativesRow, productRow, pointRows, columnRows, positionRows}
 use Rattle.rows.specs.Row.{width}
 use Rattle.weights.proofs.Cost.{matrix-entry}
 use Rattle.weights.specs.Matrix.{matrixOf, cell, columnCost, matrixCost}
@@ -73,10 +73,12 @@ point-cost m =
     omega arith
 
 module _ (v d w : ℕ) where
+  -- the conditions of a point
   length-point : (x y m : ℕ) → length (pointRows v d w x y m) ≡ entryCost m
   length-point x y m =
       length-joined (orders v d w x y m) m ∙ sum-ext m _ (λ s. m - s) (λ s h. length-orders v d w x y m s) ∙ point-cost m
 
+  -- of a position
   length-column : (x : ℕ) (column : List ℕ) → length (columnRows v d w x column) ≡ columnCost column
   length-column x column =
       length-joined (λ b. pointRows v d w x b (getD column b 0)) 16
@@ -108,6 +110,7 @@ pub record Condition (v d w : ℕ) (a : List (List ℕ)) (ρ : List ℕ) : Type 
   pub is-row : productRow v w (derivativesRow (d + 1) (point sixteen i) s) (derivativesRow (d / v + 1) b t) ≡ ρ
 
 module _ (v d w : ℕ) (a : List (List ℕ)) where
+  -- every row is one
   pub condition-of : (ρ : List ℕ) → List·Memᴰ ρ (positionRows v d w a 15) → Condition v d w a ρ
   condition-of ρ h =
       let x = member-join (λ i. columnRows v d w (point sixteen i) (getD a i [])) (below 15) ρ h in
@@ -125,6 +128,7 @@ module _ (v d w : ℕ) (a : List (List ℕ)) where
         is-row = u .2;
       }
 
+  -- and every one is a row
   pub member-of : (ρ : List ℕ) → Condition v d w a ρ → List·Memᴰ ρ (positionRows v d w a 15)
   member-of ρ c =
       join-member (λ i. columnRows v d w (point sixteen i) (getD a i [])) (below 15) (c .i) ρ (below-member 15 (c .i) (c .position))
@@ -161,6 +165,7 @@ zero-rows n c r k =
           | no l ↦ subst (λ (x : ℕ). x < 16) (sym (List·getD-eq-default (replicate c 0) 0 {n = k} (rw (length-replicate {A = ℕ} c 0) (omega arith)))) (omega arith)
         ]
 
+-- a system of zeros
 pub empty-system : (n c : ℕ) → n ≡ 150 → System (replicate n (replicate c 0))
 empty-system n c e = record { size = length-replicate n (replicate {A = ℕ} c 0) ∙ e; symbols = zero-rows n c }
 
@@ -178,17 +183,21 @@ placed-at o l r h k =
 
 -- ---- what solves passes, and what passes solves
 
+-- computed of sixteen symbols
 vanishes : T (every 16 (λ x. eqb (sixteen .times x 0) 0))
 unfolding every sumOf double shifted
 vanishes = tt
 
+-- a product with zero
 times-zero : (x : ℕ) → x < 16 → sixteen .times x 0 ≡ 0
 times-zero x h = eqb→eq _ _ (every-at 16 (λ x. eqb (sixteen .times x 0) 0) vanishes x h)
 
+-- a sum with zero
 plus-zero : (x : ℕ) → sixteen .plus x 0 ≡ x
 unfolding sumOf
 plus-zero x = xor-zero-r x
 
+-- one entry more
 dot-suc : (n : ℕ) (ρ q : ℕ → ℕ) → dot (numbers sixteen) (suc n) ρ q ≡ sixteen .plus (dot (numbers sixteen) n ρ q) (sixteen .times (ρ n) (q n))
 unfolding dot
 dot-suc n ρ q = refl
@@ -222,6 +231,7 @@ module _ (m : List ℕ) (n v D : ℕ) (small : n ≤ 15) (size : length m ≡ 16
   cell-is : (i b : ℕ) → i < 15 → b < 16 → cell a i b ≡ entry sixteen m i b
   cell-is i b hi hb = ap (λ (x : List (List ℕ)). cell x i b) loaded ∙ matrix-entry m n small size i b hi hb
 
+  -- a position with a multiplicity is one of the n
   used : (i b : ℕ) → b < 16 → 0 < entry sixteen m i b → i < n
   used i b hb h =
       elim (decLt i n) [
@@ -230,10 +240,12 @@ module _ (m : List ℕ) (n v D : ℕ) (small : n ≤ 15) (size : length m ≡ 16
       ]
 
   module _ (o : List (List ℕ)) (so : System o) (room : length (positionRows v D (count v D) a 15) ≤ 150) where
+    -- row r of the system is condition r
     stands : (r : ℕ) → r < length (positionRows v D (count v D) a 15)
         → getD (sets o 0 (positionRows v D (count v D) a 15)) r [] ≡ getD (positionRows v D (count v D) a 15) r []
     stands r h = placed-at o (positionRows v D (count v D) a 15) r (let e = so .size in omega arith) h
 
+    -- what passes solves
     pub through-solves : Through sixteen n v D m q
         → Solves sixteen (length (positionRows v D (count v D) a 15)) width (sets o 0 (positionRows v D (count v D) a 15)) q
     through-solves passes r h =
@@ -244,6 +256,7 @@ module _ (m : List ℕ) (n v D : ℕ) (small : n ≤ 15) (size : length m ≡ 16
         ap (λ (x : List ℕ). dot (numbers sixteen) width (λ k. getD x k 0) (λ k. getD q k 0)) (stands r h) ∙ row-is-hasse ρ c
         ∙ passes (c .i) (c .b) (used (c .i) (c .b) (c .symbol) (omega arith)) (c .symbol) (c .s) (c .t) below
 
+    -- what solves passes
     pub solves-through : Solves sixteen (length (positionRows v D (count v D) a 15)) width (sets o 0 (positionRows v D (count v D) a 15)) q
         → Through sixteen n v D m q
     solves-through solves i b hi hb s t h =

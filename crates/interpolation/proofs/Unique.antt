@@ -3,7 +3,7 @@
 use mathlib.Core.Bool.{Bool, true, false, cond}
 use mathlib.Core.List.{List, [], _∷_, _++_}
 use mathlib.Core.Path.{_≡_, refl, sym, _∙_, ap}
-use Prim.Native.Nat.{ℕ, zero, suc, _+_, _*_, _-_, _≤_, _<_}
+use Prim.Native.Nat.{ℕ, zero, suc, _+_, _*_, _-_, _<_}
 use native.Mathlib.Omega.{arith}
 use lib.ListN.{length, drop, getD}
 use Rattle.definitions.proofs.Bound.{count-zero, bound-le}
@@ -12,7 +12,7 @@ use Rattle.definitions.specs.Answers.{Answer, refused, interpolated, Interpolat
 use Rattle.definitions.specs.Bound.{bound}
 use Rattle.definitions.specs.Code.{Symbols}
 use Rattle.definitions.specs.Field.{sixteen}
-use Rattle.definitions.specs.Polynomial.{Interpolates, isZero, leading}
+use Rattle.definitions.specs.Polynomial.{Interpolates, leading}
 use Rattle.definitions.specs.Refusals.{Line, tried, interpolationTable}
 use Rattle.definitions.specs.Tools.{sum}
 use Rattle.definitions.specs.Weights.{entryCost, cost}
@@ -37,6 +37,7 @@ module _ (out : List ℕ) (a b : Answer) (after later : List ℕ) (X Y : Type 0)
   tried-unique (l ∷ table) x y = choose (l .given) (λ x y. (x .0 ∙ sym (y .0), x .1 ∙ sym (y .1))) (tried-unique table) x y
 
 module _ (n k G : ℕ) (m out : List ℕ) where
+  -- of the polynomial
   accepted-unique : (a b : Answer) (after later : List ℕ) → Interpolated sixteen n k m out a after → Interpolated sixteen n k m out b later
       → (a ≡ b) × (after ≡ later)
   accepted-unique a b after later x y =
@@ -45,15 +46,18 @@ module _ (n k G : ℕ) (m out : List ℕ) where
         x .3 ∙ ap (λ (q : List ℕ). q ++ drop (length q) out) e ∙ sym (y .3),
       )
 
+  -- of the numbers of the answer
   numbers-unique : (a b : Answer) (after later : List ℕ) → InterpolationAnswers sixteen n k G m out a after → InterpolationAnswers sixteen n k G m out b later
       → (a ≡ b) × (after ≡ later)
   numbers-unique a b after later =
       tried-unique out a b after later (Interpolated sixteen n k m out a after) (Interpolated sixteen n k m out b later) (accepted-unique a b after later)
       (interpolationTable sixteen n k G m (length out))
 
+-- the answer of its numbers
 interpolatedOf : Answer → Declared.Interpolated
 interpolatedOf = answerOf (λ a. Of (a .bound) (a .count)) Refused
 
+-- had back
 interpolated-back : (x : Declared.Interpolated) → interpolatedOf (toldInterpolated x) ≡ x
 unfolding interpolatedOf
 interpolated-back (Of bound count) = refl
@@ -70,6 +74,7 @@ interpolation-unique n k G m out x y after later p q =
 -- ---- all multiplicities zero
 
 module _ (m : List ℕ) (none : (j : ℕ) → getD m j 0 ≡ 0) where
+  -- entries of zero cost nothing
   no-cost : (n : ℕ) → sum n (λ (j : ℕ). entryCost (getD m j 0)) ≡ 0
   no-cost zero = sum-zero (λ (j : ℕ). entryCost (getD m j 0))
   no-cost (suc n) =
@@ -80,9 +85,11 @@ module _ (m : List ℕ) (none : (j : ℕ) → getD m j 0 ≡ 0) where
   pub zero-cost : cost m ≡ 0
   zero-cost = no-cost (length m)
 
+  -- so the bound is 0
   pub zero-bound : (v : ℕ) → 0 < v → bound v (cost m) ≡ 0
   zero-bound v pos = let b = bound-le v pos (cost m) in let e = zero-cost in omega arith
 
+  -- 1 interpolates
   one-interpolates : (n v : ℕ) → 0 < v → Interpolates sixteen n v 0 m (1 ∷ [])
   one-interpolates n v pos = record {
     size = sym (count-zero v pos);

@@ -1,7 +1,6 @@
 -- For a cost of at most 150 there are at most 160 monomials up to the bound.
 -- Assumes nothing.
 use mathlib.Core.Bool.{_||_}
-use mathlib.Core.Path.{_≡_, subst, sym}
 use Prim.Native.Nat.{ℕ, zero, suc, _≤_, _<_}
 use native.Mathlib.Omega.{arith}
 use borrow.Author.Tests.{le-ltb}
@@ -16,6 +15,7 @@ follows : T (every 15 (λ v. every 150 (λ D. ltb 150 (count v D) || leb (count 
 unfolding every sum
 follows = tt
 
+-- so at each degree
 next-count : (v D : ℕ) → v < 15 → D < 150 → count v D ≤ 150 → count v (suc D) ≤ 160
 next-count v D hv hd h =
     leb→le (count v (suc D)) 160
@@ -31,5 +31,6 @@ count-within v C (suc D) pos hv hc f =
     let a = count-above v pos D in
     next-count v D hv (omega arith) (omega arith)
 
+-- the count of the bound is at most 160
 pub width-fits : (v C : ℕ) → 0 < v → v < 15 → C ≤ 150 → count v (bound v C) ≤ 160
 width-fits v C pos hv hc = count-within v C (bound v C) pos hv hc (bound-is-least v pos C .1)

@@ -1,3 +1,2 @@
-pub mod Search
 pub mod Found
 pub mod Told

@@ -1,104 +1,19 @@
-// Elimination over the monomials in order, of what is within limits already.
-ghost use mathlib.Core.List.{[], _++_, map};
-ghost use mathlib.Core.Logic.{_≢_};
+// The polynomial of what is within limits already.
+ghost use mathlib.Core.List.{_++_, map};
 ghost use mathlib.Core.Path.{_≡_};
-ghost use Prim.Native.Nat.{_+_, _*_, _≤_, _<_};
-ghost use lib.ListN.{length, getD, drop};
+ghost use Prim.Native.Nat.{_≤_, _<_};
+ghost use lib.ListN.{length, drop};
 ghost use Rattle.definitions.specs.Bound.{bound};
-ghost use Rattle.definitions.specs.Field.{sixteen};
+ghost use Rattle.definitions.specs.Limits.{greatestLimit};
 ghost use Rattle.definitions.specs.Tools.{below};
-ghost use Rattle.elimination.specs.Rows.{entryOf, SameSolutions, Reduced};
-ghost use Rattle.field.specs.Table.{Products};
-ghost use Rattle.interpolation.specs.Found.{Found};
-ghost use Rattle.interpolation.specs.Search.{System, ClearedRow, Cleared, Step, coefficientOf};
-ghost use Rattle.rows.specs.Row.{width, multiplesTo};
+ghost use Rattle.interpolation.specs.Found.{coefficientOf, Found};
 ghost use Rattle.weights.specs.Matrix.{matrixCost};
-use field::Element;
 use rows::ROWS;
 use rows::WIDTH;
 
-// Takes from row t as much of row j as clears its column j.
-fn clear_row(system: &mut [[u8; WIDTH]; ROWS], times: &[[u8; WIDTH]; 16], t: usize, j: usize)
-    requires { ⌜ System (now system) ⌝ }
-    requires { ⌜ (t < 150) × (j < 150) ⌝ }
-    requires { ⌜ now times ≡ multiplesTo 16 (getD (now system) j []) ⌝ }
-    ensures { λ _. ⌜ ClearedRow j t (now (system .entry)) (now (system .exit)) ⌝ }
-{
-    if t == j {
-        return;
-    }
-    let c = field::inside::wide(system[t][j]);
-    if c == 0 {
-        return;
-    }
-    let row = rows::inside::summed(&system[t], &times[c]);
-    system[t] = row;
-}
-
-// Clears column j in every row but j.
-fn clear(system: &mut [[u8; WIDTH]; ROWS], times: &[[u8; WIDTH]; 16], j: usize, rows: usize)
-    requires { ⌜ System (now system) ⌝ }
-    requires { ⌜ (rows ≤ 150) × (j < 150) ⌝ }
-    requires { ⌜ now times ≡ multiplesTo 16 (getD (now system) j []) ⌝ }
-    ensures { λ _. ⌜ Cleared j rows (now (system .entry)) (now (system .exit)) ⌝ }
-{
-    let mut t = 0;
-    while t < rows {
-        clear_row(system, times, t, j);
-        t += 1;
-    }
-}
-
-// Row r, scaled to 1 in column j, changes places with row j, and column j is cleared in the others.
-fn pivot(system: &mut [[u8; WIDTH]; ROWS], table: &[u8; 256], r: usize, j: usize, rows: usize)
-    requires { ⌜ System (now system) ⌝ }
-    requires { ⌜ Products (now table) ⌝ }
-    requires { ⌜ (j ≤ r) × (r < rows) × (rows ≤ 150) ⌝ }
-    requires { ⌜ entryOf (now system) r j ≢ 0 ⌝ }
-    ensures { λ _. ⌜ Step rows j (now (system .entry)) (now (system .exit)) ⌝ }
-{
-    let Element::Of(u) = field::inverse(system[r][j]) else {
-        return;
-    };
-    let first = rows::inside::scaled(table, &system[r], u);
-    let row = system[j];
-    system[r] = row;
-    system[j] = first;
-    let times = rows::inside::multiples(&first);
-    clear(system, &times, j, rows);
-}
-
-// Reduces the rows until a column depends on those before it, and answers that column.
-fn first_dependent(system: &mut [[u8; WIDTH]; ROWS], table: &[u8; 256], rows: usize) -> usize
-    requires { ⌜ System (now system) ⌝ }
-    requires { ⌜ Products (now table) ⌝ }
-    requires { ⌜ rows ≤ 150 ⌝ }
-    ensures { λ j. ⌜ j ≤ rows ⌝ }
-    ensures { λ _. ⌜ System (now (system .exit)) ⌝ }
-    ensures { λ _. ⌜ SameSolutions sixteen rows width (now (system .entry)) (now (system .exit)) ⌝ }
-    ensures { λ j. ⌜ Reduced rows j (now (system .exit)) ⌝ }
-{
-    let mut j = 0;
-    let dependent = 'search: loop {
-        let mut r = j;
-        'down: loop {
-            if r == rows {
-                break 'search j;
-            }
-            if system[r][j] != 0 {
-                break 'down;
-            }
-            r += 1;
-        }
-        pivot(system, table, r, j, rows);
-        j += 1;
-    };
-    dependent
-}
-
 // The coefficient k that the reduced rows show: column j, then 1, then zeros.
 fn coefficient(system: &[[u8; WIDTH]; ROWS], j: usize, k: usize) -> u8
-    requires { ⌜ j ≤ 150 ⌝ }
+    requires { ⌜ j ≤ greatestLimit ⌝ }
     ensures { λ r. ⌜ r ≡ coefficientOf j (now (system .entry)) k ⌝ }
 {
     if k < j {
@@ -112,7 +27,7 @@ fn coefficient(system: &[[u8; WIDTH]; ROWS], j: usize, k: usize) -> u8
 
 // All coefficients that the reduced rows show, to the front of out.
 fn read_off(system: &[[u8; WIDTH]; ROWS], j: usize, count: usize, out: &mut [u8])
-    requires { ⌜ (j ≤ 150) × (count ≤ length (now out)) ⌝ }
+    requires { ⌜ (j ≤ greatestLimit) × (count ≤ length (now out)) ⌝ }
     ensures { λ _. ⌜ now (out .exit) ≡ map (coefficientOf j (now (system .entry))) (below count) ++ drop count (now (out .entry)) ⌝ }
 {
     let mut k = 0;
@@ -130,14 +45,14 @@ pub fn polynomial(
     count: usize,
     out: &mut [u8],
 ) -> usize
-    requires { ⌜ (0 < v) × (v < 15) × (matrixCost (now matrix) ≤ 150) ⌝ }
+    requires { ⌜ (0 < v) × (v < 15) × (matrixCost (now matrix) ≤ greatestLimit) ⌝ }
     requires { ⌜ (d ≡ bound v (matrixCost (now matrix))) × (count ≡ Rattle.definitions.specs.Bound.count v d) × (count ≤ length (now out)) ⌝ }
     ensures { λ r. ⌜ Found (now (matrix .entry)) v d (now (out .entry)) r (now (out .exit)) ⌝ }
 {
     let table = field::inside::products();
     let mut system = [[0u8; WIDTH]; ROWS];
     let rows = conditions::inside::matrix_rows(&mut system, &table, matrix, v, d, count);
-    let leading = first_dependent(&mut system, &table, rows);
+    let leading = dependence::inside::first_dependent(&mut system, &table, rows);
     read_off(&system, leading, count, out);
     leading
 }

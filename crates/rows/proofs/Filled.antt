@@ -3,16 +3,16 @@
 use mathlib.Core.Bool.{Bool, cond}
 use mathlib.Core.List.{List, [], _∷_, _++_, map}
 use mathlib.Core.Path.{_≡_, sym, _∙_, ap, subst}
-use Prim.Native.Nat.{ℕ, zero, suc, _+_, _*_, _-_, _/_, _%_, _≤_, _<_}
+use Prim.Native.Nat.{ℕ, _+_, _*_, _-_, _/_, _%_, _≤_, _<_}
 use native.Mathlib.Decide.{decLt}
 use native.Mathlib.Numerals.{add-one}
 use native.Mathlib.Omega.{arith}
 use borrow.Author.Tests.{lt-ltb, le-ltb, eq-eqb, ne-eqb}
 use lib.Bits.{bitXor}
 use lib.Dec.{T, eqb, eqb→eq}
-use lib.ListN.{length, drop, getD, set, replicate, length-append, length-map, length-drop, length-replicate, List·getD-append, List·getD-eq-default, getD-replicate}
+use lib.ListN.{length, drop, getD, set, replicate, length-append, length-map, length-drop, List·getD-append, List·getD-eq-default, getD-replicate}
 use lib.Seq.{getD-append-add, getD-drop, ext-getD}
-use Rattle.algebra.proofs.Elements.{zero-symbol, plus-symbol, times-symbol}
+use Rattle.algebra.proofs.Elements.{plus-symbol, times-symbol}
 use Rattle.algebra.proofs.Tests.{every, everyPair, every-at, everyPair-at}
 use Rattle.definitions.proofs.Loops.{put-more}
 use Rattle.definitions.proofs.Tools.{below-zero, length-below, map-below, map-below-at}
@@ -23,6 +23,7 @@ use Rattle.field.proofs.Instance.{sixteen-field}
 use Rattle.rows.specs.Row.{width, filled, summedRow, multipleRow, multiplesTo}
 
 module _ (f : ℕ → ℕ) where
+  -- n entries are filled
   front : (n : ℕ) → length (map f (below n)) ≡ n
   front n = length-map (below n) f ∙ length-below n
 
@@ -54,6 +55,7 @@ module _ (f : ℕ → ℕ) where
       let e = front n in
       List·getD-append (map f (below n)) (drop n (replicate width 0)) 0 k (omega arith) ∙ map-below-at f n k 0 h
 
+  -- a row of zeros
   zeros : (k : ℕ) → _≡_ {A = ℕ} (getD (replicate width 0) k 0) 0
   zeros k =
       elim (decLt k width) [
@@ -96,10 +98,12 @@ one-more {A} f z rest e =
 
 -- ---- sums and multiples
 
+-- a sum of rows of symbols is one
 pub summed-symbols : (a b : List ℕ) → Symbols sixteen a → Symbols sixteen b → Symbols sixteen (summedRow a b)
 summed-symbols a b sa sb =
     filled-symbols (λ k. sixteen .plus (getD a k 0) (getD b k 0)) width (λ k _. plus-symbol sixteen sixteen-field (getD a k 0) (getD b k 0) (sa k) (sb k))
 
+-- and so is a multiple
 pub multiple-symbols : (c : ℕ) (p : List ℕ) → c < 16 → Symbols sixteen p → Symbols sixteen (multipleRow c p)
 multiple-symbols c p h sp =
     filled-symbols (λ k. sixteen .times c (getD p k 0)) width (λ k _. times-symbol sixteen sixteen-field c (getD p k 0) h (sp k))
@@ -112,14 +116,17 @@ multipliesBy c x =
     cond (eqb (c % 2) 1) (eqb (sixteen .plus (sixteen .times (c - 1) x) x) (sixteen .times c x))
     (eqb (sixteen .times 2 (sixteen .times (c / 2) x)) (sixteen .times c x))
 
+-- computed of sixteen symbols
 multiplies : T (everyPair 16 multipliesBy)
 unfolding multipliesBy every sumOf double shifted
 multiplies = tt
 
+-- computed of sixteen symbols
 doubled : T (every 16 (λ x. eqb (double 4 19 x) (sixteen .times 2 x)))
 unfolding every sumOf double shifted
 doubled = tt
 
+-- computed of sixteen symbols
 vanishes : T (every 16 (λ x. eqb (sixteen .times 0 x) 0))
 unfolding every sumOf double shifted
 vanishes = tt
@@ -140,10 +147,12 @@ unfolding double sumOf
 twice-high x h l =
     sym (ap (λ (b : Bool). cond b (x * 2) (bitXor (x * 2) 19)) (le-ltb (x * 2) 16 (omega arith))) ∙ double-is-product x l
 
+-- an odd multiple of a symbol
 odd-multiple : (c x : ℕ) → c < 16 → x < 16 → c % 2 ≡ 1 → sixteen .plus (sixteen .times (c - 1) x) x ≡ sixteen .times c x
 unfolding multipliesBy
 odd-multiple c x hc hx e = eqb→eq _ _ (rw (eq-eqb (c % 2) 1 e) at (everyPair-at 16 multipliesBy multiplies c x hc hx))
 
+-- an even one
 even-multiple : (c x : ℕ) → c < 16 → x < 16 → (c % 2 ≡ 1 → ⊥) → sixteen .times 2 (sixteen .times (c / 2) x) ≡ sixteen .times c x
 unfolding multipliesBy
 even-multiple c x hc hx n = eqb→eq _ _ (rw (ne-eqb (c % 2) 1 n) at (everyPair-at 16 multipliesBy multiplies c x hc hx))
@@ -178,6 +187,7 @@ module _ (p : List ℕ) (sp : Symbols sixteen p) where
       times-nothing x h = eqb→eq _ _ (every-at 16 (λ x. eqb (sixteen .times 0 x) 0) vanishes x h)
 
   module _ (n : ℕ) where
+    -- there are n
     length-multiples : length (map (λ (c : ℕ). multipleRow c p) (below n)) ≡ n
     length-multiples = length-map (below n) (λ (c : ℕ). multipleRow c p) ∙ length-below n
 
@@ -213,6 +223,7 @@ module _ (p : List ℕ) (sp : Symbols sixteen p) where
   half : (below : List (List ℕ)) (c : ℕ) → 0 < c → below ≡ multiplesTo c p → getD below (c / 2) [] ≡ multipleRow (c / 2) p
   half below c pos e = ap (λ (k : List (List ℕ)). getD k (c / 2) []) e ∙ multiple-at c (c / 2) (omega arith)
 
+  -- its half is a row of symbols
   pub half-symbols : (below : List (List ℕ)) (c : ℕ) → 0 < c → c < 16 → below ≡ multiplesTo c p → Symbols sixteen (getD below (c / 2) [])
   half-symbols below c pos h e = subst (Symbols sixteen) (sym (half below c pos e)) (multiple-symbols (c / 2) p (omega arith) sp)
 

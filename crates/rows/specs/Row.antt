@@ -1,6 +1,6 @@
 -- Rows of symbols: sums and multiples of them.
 -- Assumes nothing.
-use mathlib.Core.List.{List, [], _++_, map}
+use mathlib.Core.List.{List, _++_, map}
 use Prim.Native.Nat.{ℕ}
 use lib.ListN.{drop, getD, replicate}
 use Rattle.definitions.specs.Field.{sixteen}

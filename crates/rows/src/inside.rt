@@ -5,6 +5,7 @@ ghost use Rattle.definitions.specs.Code.{Symbols};
 ghost use Rattle.definitions.specs.Field.{sixteen};
 ghost use Rattle.field.specs.Table.{Products};
 ghost use Rattle.rows.specs.Row.{summedRow, multipleRow, multiplesTo};
+use crate::SYMBOLS;
 use crate::WIDTH;
 
 pub fn summed(a: &[u8; WIDTH], b: &[u8; WIDTH]) -> [u8; WIDTH]
@@ -60,7 +61,7 @@ fn doubled(row: &[u8; WIDTH]) -> [u8; WIDTH]
 }
 
 // The multiple c of a row, from those below it: one row more, or twice the half.
-fn next_multiple(below: &[[u8; WIDTH]; 16], row: &[u8; WIDTH], c: usize) -> [u8; WIDTH]
+fn next_multiple(below: &[[u8; WIDTH]; SYMBOLS], row: &[u8; WIDTH], c: usize) -> [u8; WIDTH]
     requires { ⌜ Symbols sixteen (now row) ⌝ }
     requires { ⌜ (0 < c) × (c < 16) ⌝ }
     requires { ⌜ now below ≡ multiplesTo c (now row) ⌝ }
@@ -73,13 +74,13 @@ fn next_multiple(below: &[[u8; WIDTH]; 16], row: &[u8; WIDTH], c: usize) -> [u8;
 }
 
 // Row c is c times the row.
-pub fn multiples(row: &[u8; WIDTH]) -> [[u8; WIDTH]; 16]
+pub fn multiples(row: &[u8; WIDTH]) -> [[u8; WIDTH]; SYMBOLS]
     requires { ⌜ Symbols sixteen (now row) ⌝ }
     ensures { λ r. ⌜ r ≡ multiplesTo 16 (now (row .entry)) ⌝ }
 {
-    let mut times = [[0u8; WIDTH]; 16];
+    let mut times = [[0u8; WIDTH]; SYMBOLS];
     let mut c = 1;
-    while c < 16 {
+    while c < SYMBOLS {
         let next = next_multiple(&times, row, c);
         times[c] = next;
         c += 1;

@@ -6,3 +6,5 @@ pub const WIDTH: usize = 160;
 
 // The rows of a system: one for each condition, as many as the cost.
 pub const ROWS: usize = 150;
+
+pub const SYMBOLS: usize = 16;

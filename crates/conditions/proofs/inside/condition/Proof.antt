@@ -1,6 +1,6 @@
 use mathlib.Core.Logic.{⊎-elim}
 use mathlib.Core.Path.{_≡_, _∙_, ap₂}
-use Prim.Native.Nat.{ℕ, _+_, _-_, _≤_, _<_}
+use Prim.Native.Nat.{ℕ, _-_, _≤_}
 use lib.ListN.{getD}
 use Rattle.definitions.specs.Field.{sixteen}
 use Rattle.conditions.proofs.Walk.{walked-le, walk-begins, walk-stays, walk-turns}

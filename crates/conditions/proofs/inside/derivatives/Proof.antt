@@ -1,5 +1,5 @@
 use mathlib.Core.Path.{_≡_}
-use Prim.Native.Nat.{ℕ, _+_, _-_, _≤_, _<_}
+use Prim.Native.Nat.{_-_, _≤_}
 use Rattle.definitions.specs.Field.{sumOf}
 use Rattle.conditions.proofs.Derivatives.{stepped-none, stepped-more, stepped-symbol}
 use Rattle.rows.proofs.Filled.{filled-none, filled-more}

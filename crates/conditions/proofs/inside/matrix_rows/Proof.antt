@@ -1,4 +1,4 @@
-use mathlib.Core.List.{List, [], flatMap}
+use mathlib.Core.List.{[], flatMap}
 use mathlib.Core.Path.{_≡_, sym, _∙_, ap, subst}
 use Prim.Native.Nat.{ℕ, _+_, _-_, _≤_, _<_}
 use native.Mathlib.Numerals.{add-one}

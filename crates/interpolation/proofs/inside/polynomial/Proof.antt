@@ -1,4 +1,4 @@
-use mathlib.Core.Path.{_≡_, refl}
+use mathlib.Core.Path.{refl}
 use Rattle.interpolation.proofs.Coefficients.{degree-small, count-small, rows-small, start-system, polynomial-found}
 use Rattle.interpolation.proofs.Conditions.{empty-system}
 use native.Mathlib.Omega.{arith}

@@ -1,10 +1,10 @@
 use mathlib.Core.List.{_++_, map}
 use mathlib.Core.Path.{_≡_, refl, _∙_}
-use Prim.Native.Nat.{ℕ, _+_, _-_, _≤_, _<_}
+use Prim.Native.Nat.{_-_, _≤_}
 use lib.ListN.{length, drop, length-set}
 use Rattle.definitions.specs.Tools.{below}
 use Rattle.interpolation.proofs.Coefficients.{written-none, written-more}
-use Rattle.interpolation.specs.Search.{coefficientOf}
+use Rattle.interpolation.specs.Found.{coefficientOf}
 use native.Mathlib.Omega.{arith}
 use borrow.Author.Needs.{needs}
 use Rattle.interpolation.proofs.inside.read_off.Statement.{statement}

@@ -1,5 +1,5 @@
 use mathlib.Core.Path.{_≡_}
-use Prim.Native.Nat.{ℕ, _+_, _-_, _≤_, _<_}
+use Prim.Native.Nat.{_-_, _≤_}
 use Rattle.rows.proofs.Filled.{multiples-first, multiples-more}
 use Rattle.rows.specs.Row.{multiplesTo}
 use native.Mathlib.Omega.{arith}

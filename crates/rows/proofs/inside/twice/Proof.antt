@@ -1,5 +1,4 @@
 use Rattle.rows.proofs.Filled.{twice-low, twice-high}
-use native.Mathlib.Omega.{arith}
 use borrow.Author.Needs.{needs}
 use Rattle.rows.proofs.inside.twice.Statement.{statement}
 use Rattle.rows.proofs.inside.twice.Tie as tie
