@@ -9,7 +9,7 @@ use native.Mathlib.Omega.{arith}
 use lib.ListN.{getD}
 use Rattle.algebra.proofs.Elements.{zero-symbol, one-symbol, plus-symbol, times-symbol}
 use Rattle.algebra.proofs.Linear.{dot, dot-equal, carry-dot}
-use Rattle.algebra.proofs.Numbers.{number-injective}
+use Rattle.algebra.proofs.Elements.{number-injective}
 use Rattle.algebra.proofs.RingLaws.{plus-self, plus-zero, zero-times, equal-of-sum}
 use Rattle.algebra.specs.FieldOf.{FieldOf}
 use Rattle.definitions.specs.Code.{Symbols}
