@@ -87,8 +87,7 @@ pub fn search(
     requires { ⌜ Products (now table) ⌝ }
     requires { ⌜ Symbols sixteen p ⌝ }
     requires { ⌜ (0 < h) × (h ≤ 32) × ((degree + 1) * h ≤ 512) × (left ≤ k) × (k ≤ 15) ⌝ }
-    requires { ⌜ DegreeWithin (left - 1) degree h p ⌝ }
-    requires { ⌜ at + length (rowsAfter (take (k - left) row) (search sixteen left (polynomial h (degree + 1) p))) ≤ length (now out) ⌝ }
+    requires { ⌜ DegreeWithin (left - 1) degree h p × (at + length (rowsAfter (take (k - left) row) (search sixteen left (polynomial h (degree + 1) p))) ≤ length (now out)) ⌝ }
     ensures { λ r. ⌜ r ≡ at + length (rowsAfter (take (k - left) row) (search sixteen left (polynomial h (degree + 1) p))) ⌝ }
     ensures { λ _. ⌜ now (out .exit) ≡ laidOver (now (out .entry)) at (rowsAfter (take (k - left) row) (search sixteen left (polynomial h (degree + 1) p))) ⌝ }
 {
@@ -105,17 +104,8 @@ pub fn search(
         if array::first_value(table, &p, h, g) == 0 {
             let mut next = row;
             next[k - left] = g;
-            end = search(
-                table,
-                array::handed(table, &p, h, degree + 1, g),
-                degree,
-                h,
-                next,
-                k,
-                left - 1,
-                out,
-                end,
-            );
+            let rest = array::handed(table, &p, h, degree + 1, g);
+            end = search(table, rest, degree, h, next, k, left - 1, out, end);
         }
         g += 1;
     }
