@@ -25,8 +25,9 @@ use Rattle.search.proofs.Search.{strip-symbols}
 use Rattle.search.proofs.Size.{array-size, column-height}
 use Rattle.search.specs.Columns.{loaded}
 use Rattle.search.specs.Tree.{zeros, strip, search}
-use Rattle.roots.specs.Array.{polynomial, Freed, DegreeWithin, rowsAfter, laidOver}
-use Rattle.roots.proofs.Substitution.{zeros-symbols}
+use Rattle.substitution.specs.Array.{polynomial, Freed}
+use Rattle.roots.specs.Rows.{DegreeWithin, rowsAfter, laidOver}
+use Rattle.substitution.proofs.Substitution.{zeros-symbols}
 
 -- rows after no prefix
 rows-flat : (rows : List (List ℕ)) → rowsAfter [] rows ≡ flatten rows

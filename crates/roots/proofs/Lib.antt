@@ -1,5 +1,4 @@
-pub mod Columns
-pub mod Substitution
+pub mod Zero
 pub mod Loading
 pub mod Rows
 pub mod Found

@@ -21,7 +21,8 @@ use Rattle.search.proofs.Levels.{search-handed, under-handed}
 use Rattle.search.proofs.Search.{branch, search-zero, search-suc}
 use Rattle.search.specs.Columns.{first, columns}
 use Rattle.search.specs.Tree.{constantsZero, begins, next, search}
-use Rattle.roots.specs.Array.{polynomial, Handed, DegreeWithin, rowsAfter, laidOver}
+use Rattle.substitution.specs.Array.{polynomial, Handed}
+use Rattle.roots.specs.Rows.{DegreeWithin, rowsAfter, laidOver}
 
 -- ---- a list laid over another
 
@@ -133,6 +134,10 @@ module _ (row : List ℕ) (k left : ℕ) (M : List (List ℕ)) (z : left ≡ 0) 
 pub before-nothing : (prefix : List ℕ) (n : ℕ) (M : List (List ℕ)) (d : List ℕ) (at : ℕ)
     → (at ≡ at + length (rowsBefore prefix n M 0)) × (d ≡ laidOver d at (rowsBefore prefix n M 0))
 before-nothing prefix n M d at = (rw (before-none prefix n M) (sym (add-zero at)), rw (before-none prefix n M) (laid-nothing d at))
+
+-- what is tried is a symbol
+pub symbol : (g n : ℕ) → g < n → n ≤ 16 → g < 16
+symbol g n h k = omega arith
 
 -- a level that is not the last
 pub positive : (n : ℕ) → (n ≡ 0 → ⊥) → 0 < n

@@ -14,8 +14,8 @@ ghost use Rattle.definitions.specs.Roots.{rootsOf};
 ghost use Rattle.field.specs.Table.{Products};
 ghost use Rattle.search.specs.Columns.{loaded};
 ghost use Rattle.search.specs.Tree.{zeros, search};
-ghost use Rattle.roots.specs.Array.{polynomial, DegreeWithin, rowsAfter, laidOver};
-use crate::array;
+ghost use Rattle.substitution.specs.Array.{polynomial};
+ghost use Rattle.roots.specs.Rows.{DegreeWithin, rowsAfter, laidOver};
 
 pub fn all_zero(list: &[u8]) -> bool
     ensures { λ r. ⌜ r ≡ isZero (now (list .entry)) ⌝ }
@@ -92,7 +92,7 @@ pub fn search(
     ensures { λ _. ⌜ now (out .exit) ≡ laidOver (now (out .entry)) at (rowsAfter (take (k - left) row) (search sixteen left (polynomial h (degree + 1) p))) ⌝ }
 {
     if left == 0 {
-        if array::constants_zero(&p, h, degree + 1) {
+        if substitution::inside::constants_zero(&p, h, degree + 1) {
             write_row(out, at, row, k);
             return at + k;
         }
@@ -101,10 +101,10 @@ pub fn search(
     let mut end = at;
     let mut g = 0u8;
     while g < 16 {
-        if array::first_value(table, &p, h, g) == 0 {
+        if substitution::inside::first_value(table, &p, h, g) == 0 {
             let mut next = row;
             next[k - left] = g;
-            let rest = array::handed(table, &p, h, degree + 1, g);
+            let rest = substitution::inside::handed(table, &p, h, degree + 1, g);
             end = search(table, rest, degree, h, next, k, left - 1, out, end);
         }
         g += 1;
@@ -124,7 +124,7 @@ pub fn roots_into(degree: usize, k: usize, coefficients: &[u8], out: &mut [u8]) 
     let table = field::inside::products();
     let h = degree / (k - 1) + 1;
     let loaded = load(coefficients, degree, k - 1);
-    let p = array::freed(&loaded, h, degree + 1);
+    let p = substitution::inside::freed(&loaded, h, degree + 1);
     let row = [0u8; 15];
     search(&table, p, degree, h, row, k, k, out, 0) / k
 }

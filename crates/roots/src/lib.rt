@@ -4,7 +4,6 @@ ghost use Rattle.code.specs.Told.{toldCounted};
 ghost use Rattle.definitions.specs.Answers.{rootsAnswer, rootsOut};
 ghost use Rattle.definitions.specs.Field.{sixteen};
 
-pub mod array;
 pub mod inside;
 
 use code::Counted;

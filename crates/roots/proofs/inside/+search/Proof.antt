@@ -6,16 +6,17 @@ use native.Mathlib.Omega.{arith}
 use borrow.Author.Needs.{needs}
 use lib.ListN.{length, take, set}
 use Rattle.definitions.specs.Field.{sixteen}
-use Rattle.roots.specs.Array.{polynomial, laidOver}
-use Rattle.roots.proofs.Rows.{rowsBefore, before-nothing, rows-all, leaf-root-length, leaf-written, leaf-nothing, positive, fewer, fewer-fit, same-room, row-holds, columns-fit, begins-yes, begins-no, tried-none, tried-some, handed-within, handed-room}
+use Rattle.substitution.specs.Array.{polynomial}
+use Rattle.roots.specs.Rows.{laidOver}
+use Rattle.roots.proofs.Rows.{rowsBefore, before-nothing, rows-all, leaf-root-length, leaf-written, leaf-nothing, symbol, positive, fewer, fewer-fit, same-room, row-holds, columns-fit, begins-yes, begins-no, tried-none, tried-some, handed-within, handed-room}
 use borrow.Fn.Kinds.{In}
 use borrow.Fn.PlainCycle.{Measures, is, falls, and}
 use Rattle.roots.proofs.inside.search.Reads as search′
 use Rattle.roots.proofs.inside.search.Kinds as search-kinds
 use Rattle.roots.proofs.inside.+search.Lts-search as search-lts
-use Rattle.roots.proofs.array.constants_zero.Reads as constants-zero-reads
-use Rattle.roots.proofs.array.first_value.Reads as first-value-reads
-use Rattle.roots.proofs.array.handed.Reads as handed-reads
+use Rattle.substitution.proofs.inside.constants_zero.Reads as constants-zero-reads
+use Rattle.substitution.proofs.inside.first_value.Reads as first-value-reads
+use Rattle.substitution.proofs.inside.handed.Reads as handed-reads
 use Rattle.roots.proofs.inside.write_row.Reads as write-row-reads
 use Rattle.roots.proofs.inside.+search.{statement}
 use Rattle.roots.proofs.inside.+search.Tie.{close}
@@ -291,7 +292,7 @@ search-search-requires t c κs =
     let s = c .before .before .before .before .before .before .before .before .before .before in
     let q = s .pre .1 .1 .1 .0 in
     let fits = row-holds (s .args .row) (s .args .k) (search needs) (q .4) in
-    let hg = c .before .before .before .before .before .before .loop-test .taken in
+    let hg = symbol (l .loop .g) _ (c .before .before .before .before .before .before .loop-test .taken) (omega arith) in
     let pos = positive (s .args .left) (c .before .before .before .before .before .before .before .before .if1 .left) in
     let f = c .before .before .before .before .first-value in
     let b = begins-yes (s .args .h) (s .args .degree) (l .loop .g) (s .args .t2) (f .result) (f .ensures) (c .before .before .before .if3 .taken) in
@@ -346,7 +347,7 @@ search-loop-again t c =
     let q = s .pre .1 .1 .1 .0 in
     let f = c .before .first-value in
     let fits = row-holds (s .args .row) (s .args .k) (search needs) (q .4) in
-    let hg = c .before .before .before .loop-test .taken in
+    let hg = symbol (l .loop .g) _ (c .before .before .before .loop-test .taken) (omega arith) in
     let pos = positive (s .args .left) (c .before .before .before .before .before .if1 .left) in
     ⊎-elim
     (λ w.

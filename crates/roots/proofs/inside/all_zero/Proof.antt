@@ -2,7 +2,7 @@ use mathlib.Core.Path.{_≡_, refl, sym, _∙_, ap, subst}
 use Prim.Native.Nat.{ℕ, _+_, _-_, _*_, _≤_, _<_}
 use lib.ListN.{length, drop}
 use Rattle.definitions.specs.Polynomial.{isZero}
-use Rattle.roots.proofs.Columns.{zero-stops, zero-goes-on, zero-ends}
+use Rattle.roots.proofs.Zero.{zero-stops, zero-goes-on, zero-ends}
 use native.Mathlib.Omega.{arith}
 use Rattle.roots.proofs.inside.all_zero.Statement.{statement}
 use Rattle.roots.proofs.inside.all_zero.Tie as tie

@@ -27,7 +27,7 @@ use Rattle.search.proofs.Levels.{take-symbols, strip-at, substitute-cell}
 use Rattle.search.proofs.Roots.{zeros-at, columns-symbols}
 use Rattle.search.specs.Columns.{coefficient, shift, columns}
 use Rattle.search.specs.Tree.{zeros, strip}
-use Rattle.roots.specs.Array.{polynomial, Laid, Substituted, Freed, isOther}
+use Rattle.substitution.specs.Array.{polynomial, Laid, Substituted, Freed, isOther}
 
 -- ---- a column laid
 

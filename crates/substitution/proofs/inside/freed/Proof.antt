@@ -8,12 +8,12 @@ use Rattle.definitions.specs.Field.{sixteen}
 use Rattle.definitions.specs.Tools.{smallest}
 use Rattle.definitions.proofs.Tools.{smallest-le}
 use Rattle.search.specs.Tree.{zeros}
-use Rattle.roots.specs.Array.{isOther}
-use Rattle.roots.proofs.Substitution.{freed-moved, copied-symbols}
+use Rattle.substitution.specs.Array.{isOther}
+use Rattle.substitution.proofs.Substitution.{freed-moved, copied-symbols}
 use native.Mathlib.Omega.{arith}
 use borrow.Author.Needs.{needs}
-use Rattle.roots.proofs.array.freed.Statement.{statement}
-use Rattle.roots.proofs.array.freed.Tie as tie
+use Rattle.substitution.proofs.inside.freed.Statement.{statement}
+use Rattle.substitution.proofs.inside.freed.Tie as tie
 
 mul-n : tie.Need-mul-n
 mul-n c = search needs

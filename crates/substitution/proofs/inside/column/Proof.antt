@@ -4,10 +4,10 @@ use lib.ListN.{length, getD, take, drop}
 use mathlib.Core.List.{_++_}
 use Rattle.search.specs.Tree.{zeros}
 use Rattle.search.proofs.Roots.{length-zeros}
-use Rattle.roots.proofs.Columns.{copied-more}
+use Rattle.substitution.proofs.Columns.{copied-more}
 use native.Mathlib.Omega.{arith}
-use Rattle.roots.proofs.array.column.Statement.{statement}
-use Rattle.roots.proofs.array.column.Tie as tie
+use Rattle.substitution.proofs.inside.column.Statement.{statement}
+use Rattle.substitution.proofs.inside.column.Tie as tie
 
 abbrev Inv-loop : tie.InvT-loop
 Inv-loop p from h col₀ b₀ col b = (b ≤ h) × (col ≡ take b (drop from p) ++ drop b (zeros 32))

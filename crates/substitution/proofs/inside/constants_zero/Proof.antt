@@ -2,11 +2,11 @@ use mathlib.Core.Path.{_≡_, refl, sym, _∙_, ap, subst}
 use Prim.Native.Nat.{ℕ, _+_, _-_, _*_, _≤_, _<_}
 use Rattle.search.proofs.Arrays.{place-within}
 use Rattle.search.specs.Tree.{constantsZero}
-use Rattle.roots.specs.Array.{polynomial}
-use Rattle.roots.proofs.Columns.{constantsFrom, constants-begin, constants-stop, constants-go-on, constants-end}
+use Rattle.substitution.specs.Array.{polynomial}
+use Rattle.substitution.proofs.Columns.{constantsFrom, constants-begin, constants-stop, constants-go-on, constants-end}
 use native.Mathlib.Omega.{arith}
-use Rattle.roots.proofs.array.constants_zero.Statement.{statement}
-use Rattle.roots.proofs.array.constants_zero.Tie as tie
+use Rattle.substitution.proofs.inside.constants_zero.Statement.{statement}
+use Rattle.substitution.proofs.inside.constants_zero.Tie as tie
 
 abbrev Inv-loop : tie.InvT-loop
 Inv-loop p h w a₀ a = (a ≤ w) × (constantsZero (polynomial h w p) ≡ constantsFrom h w p a)

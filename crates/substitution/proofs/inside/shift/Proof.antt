@@ -5,10 +5,10 @@ use lib.ListN.{length, getD, take, drop}
 use Rattle.definitions.specs.Code.{Symbols}
 use Rattle.definitions.specs.Field.{numbers, sixteen}
 use Rattle.search.specs.Columns.{shift}
-use Rattle.roots.proofs.Columns.{no-pass, pass-more}
+use Rattle.substitution.proofs.Columns.{no-pass, pass-more}
 use native.Mathlib.Omega.{arith}
-use Rattle.roots.proofs.array.shift.Statement.{statement}
-use Rattle.roots.proofs.array.shift.Tie as tie
+use Rattle.substitution.proofs.inside.shift.Statement.{statement}
+use Rattle.substitution.proofs.inside.shift.Tie as tie
 
 abbrev Inv-loop : tie.InvT-loop
 Inv-loop table col₀ h g b₀ col b = (b ≤ h) × (length col ≡ length col₀) × Symbols sixteen col × (take h col ≡ take b (take h col₀) ++ shift (numbers sixteen) g (drop b (take h col₀)))

@@ -5,11 +5,11 @@ use lib.ListN.{length, getD, take, length-set}
 use Rattle.definitions.specs.Code.{Symbols}
 use Rattle.definitions.specs.Field.{sixteen}
 use Rattle.search.proofs.Roots.{set-symbols}
-use Rattle.roots.specs.Array.{passed}
-use Rattle.roots.proofs.Columns.{passed-more, passed-end, pass-symbol}
+use Rattle.substitution.specs.Array.{passed}
+use Rattle.substitution.proofs.Columns.{passed-more, passed-end, pass-symbol}
 use native.Mathlib.Omega.{arith}
-use Rattle.roots.proofs.array.pass.Statement.{statement}
-use Rattle.roots.proofs.array.pass.Tie as tie
+use Rattle.substitution.proofs.inside.pass.Statement.{statement}
+use Rattle.substitution.proofs.inside.pass.Tie as tie
 
 abbrev Inv-loop : tie.InvT-loop
 Inv-loop table col₀ from h g b₀ col b = (length col ≡ length col₀) × Symbols sixteen col × (passed g from (take h col₀) ≡ passed g b (take h col))

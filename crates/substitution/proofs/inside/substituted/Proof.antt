@@ -7,15 +7,15 @@ use Rattle.definitions.specs.Code.{Symbols}
 use Rattle.definitions.specs.Field.{numbers, sixteen}
 use Rattle.search.specs.Columns.{shift}
 use Rattle.search.specs.Tree.{zeros}
-use Rattle.roots.proofs.Substitution.{Partly, partly-none, partly-more, partly-all, copied-symbols, zeros-symbols, column-within}
-use Rattle.roots.proofs.Columns.{copied-front}
-use Rattle.roots.proofs.array.substituted.Statement.{statement}
-use Rattle.roots.proofs.array.substituted.Tie as tie
-use Rattle.roots.proofs.array.substituted.Reads as reads
-use Rattle.roots.proofs.array.substituted.Lts as lts
-use Rattle.roots.proofs.array.column.Reads as column-reads
-use Rattle.roots.proofs.array.lay.Reads as lay-reads
-use Rattle.roots.proofs.array.shift.Reads as shift-reads
+use Rattle.substitution.proofs.Substitution.{Partly, partly-none, partly-more, partly-all, copied-symbols, zeros-symbols, column-within}
+use Rattle.substitution.proofs.Columns.{copied-front}
+use Rattle.substitution.proofs.inside.substituted.Statement.{statement}
+use Rattle.substitution.proofs.inside.substituted.Tie as tie
+use Rattle.substitution.proofs.inside.substituted.Reads as reads
+use Rattle.substitution.proofs.inside.substituted.Lts as lts
+use Rattle.substitution.proofs.inside.column.Reads as column-reads
+use Rattle.substitution.proofs.inside.lay.Reads as lay-reads
+use Rattle.substitution.proofs.inside.shift.Reads as shift-reads
 
 abbrev Inv-loop : tie.InvT-loop
 Inv-loop table p h w g q₀ a₀ q a = (a ≤ w) × (length q ≡ 512) × Symbols sixteen q × Partly h w g p a q

@@ -4,10 +4,10 @@ use lib.ListN.{length, getD, take, drop}
 use mathlib.Core.List.{_++_}
 use Rattle.search.specs.Tree.{zeros}
 use Rattle.search.proofs.Roots.{length-zeros}
-use Rattle.roots.proofs.Columns.{copied-more}
+use Rattle.substitution.proofs.Columns.{copied-more}
 use native.Mathlib.Omega.{arith}
-use Rattle.roots.proofs.array.moved.Statement.{statement}
-use Rattle.roots.proofs.array.moved.Tie as tie
+use Rattle.substitution.proofs.inside.moved.Statement.{statement}
+use Rattle.substitution.proofs.inside.moved.Tie as tie
 
 abbrev Inv-loop : tie.InvT-loop
 Inv-loop p from n q₀ i₀ q i = (i ≤ n - from) × (q ≡ take i (drop from p) ++ drop i (zeros 512))

@@ -6,11 +6,11 @@ use Rattle.definitions.specs.Code.{Symbols}
 use Rattle.definitions.specs.Field.{sixteen}
 use Rattle.search.proofs.Arrays.{place-within}
 use Rattle.search.proofs.Roots.{set-symbols}
-use Rattle.roots.specs.Array.{Laid}
-use Rattle.roots.proofs.Substitution.{laid-none, laid-more, laid-end}
+use Rattle.substitution.specs.Array.{Laid}
+use Rattle.substitution.proofs.Substitution.{laid-none, laid-more, laid-end}
 use native.Mathlib.Omega.{arith}
-use Rattle.roots.proofs.array.lay.Statement.{statement}
-use Rattle.roots.proofs.array.lay.Tie as tie
+use Rattle.substitution.proofs.inside.lay.Statement.{statement}
+use Rattle.substitution.proofs.inside.lay.Tie as tie
 
 abbrev Inv-loop : tie.InvT-loop
 Inv-loop p₀ col a h w b₀ p b = (b ≤ h) × (length p ≡ length p₀) × Symbols sixteen p × Laid h w a b col p₀ p
@@ -71,8 +71,8 @@ loop-again c =
     let l = c .before .before .before in
     let s = l .before in (
       omega arith,
-      length-set (l .loop .p) ((s .args .a + l .loop .b) * s .args .h + l .loop .b) (getD (s .args .col .now) (l .loop .b) 0) ∙ l .loop .inv .1,
-      set-symbols sixteen (l .loop .p) ((s .args .a + l .loop .b) * s .args .h + l .loop .b) (getD (s .args .col .now) (l .loop .b) 0) (s .pre .1 .0 (l .loop .b)) (l .loop .inv .2),
+      length-set (l .loop .p) _ _ ∙ l .loop .inv .1,
+      set-symbols sixteen (l .loop .p) _ _ (s .pre .1 .0 (l .loop .b)) (l .loop .inv .2),
       laid-more (s .args .h) (s .args .w) (s .args .a) (s .args .col .now) (s .args .p .now) (l .loop .b) (l .loop .p) (l .loop .inv .3) (omega arith) (omega arith) (omega arith),
     )
 

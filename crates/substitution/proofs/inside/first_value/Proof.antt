@@ -2,10 +2,10 @@ use mathlib.Core.Path.{_≡_, refl, sym, _∙_, ap, subst}
 use Prim.Native.Nat.{ℕ, _+_, _-_, _*_, _≤_, _<_}
 use lib.ListN.{length, getD, take, drop}
 use Rattle.definitions.specs.Field.{numbers, value, sixteen}
-use Rattle.roots.proofs.Columns.{no-value, first-value-more, first-value-symbol}
+use Rattle.substitution.proofs.Columns.{no-value, first-value-more, first-value-symbol}
 use native.Mathlib.Omega.{arith}
-use Rattle.roots.proofs.array.first_value.Statement.{statement}
-use Rattle.roots.proofs.array.first_value.Tie as tie
+use Rattle.substitution.proofs.inside.first_value.Statement.{statement}
+use Rattle.substitution.proofs.inside.first_value.Tie as tie
 
 abbrev Inv-loop : tie.InvT-loop
 Inv-loop table p h g y₀ b₀ y b = (b ≤ h) × (y ≡ value (numbers sixteen) g (drop b (take h p)))

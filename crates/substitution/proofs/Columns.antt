@@ -18,13 +18,12 @@ use Rattle.definitions.proofs.Codeword.{value-nil}
 use Rattle.definitions.proofs.Loops.{put-more}
 use Rattle.definitions.specs.Code.{Symbols}
 use Rattle.definitions.specs.Field.{numbers, value, sixteen, sumOf}
-use Rattle.definitions.specs.Polynomial.{isZero}
 use Rattle.definitions.specs.Roots.{plus, scaled}
 use Rattle.field.proofs.Instance.{sixteen-field}
 use Rattle.search.proofs.Levels.{take-symbols}
 use Rattle.search.specs.Columns.{shift, columns}
 use Rattle.search.specs.Tree.{constantsZero}
-use Rattle.roots.specs.Array.{passed}
+use Rattle.substitution.specs.Array.{passed}
 
 -- ---- the value of the first column
 
@@ -153,26 +152,6 @@ pass-more c b h p t r pos l k et er =
     ∙ one-pass c (take h p) (b - 1) (omega arith)
 
 -- ---- the tests
-
-zero-step : (x : ℕ) (l : List ℕ) → isZero (x ∷ l) ≡ (eqb x 0 && isZero l)
-unfolding isZero
-zero-step x l = refl
-
-isZero-nil : isZero [] ≡ true
-unfolding isZero
-isZero-nil = refl
-
-pub zero-stops : (l : List ℕ) (i : ℕ) → i < length l → isZero l ≡ isZero (drop i l) → (getD l i 0 ≡ 0 → ⊥) → false ≡ isZero l
-zero-stops l i h e n =
-    sym (e ∙ ap isZero (drop-cons l i 0 h) ∙ zero-step (getD l i 0) (drop (suc i) l) ∙ ap (λ (b : Bool). b && isZero (drop (suc i) l)) (ne-eqb (getD l i 0) 0 n))
-
-pub zero-goes-on : (l : List ℕ) (i : ℕ) → i < length l → isZero l ≡ isZero (drop i l) → getD l i 0 ≡ 0 → isZero l ≡ isZero (drop (i + 1) l)
-zero-goes-on l i h e z =
-    e ∙ ap isZero (drop-cons l i 0 h) ∙ zero-step (getD l i 0) (drop (suc i) l)
-    ∙ ap (λ (b : Bool). b && isZero (drop (suc i) l)) (eq-eqb (getD l i 0) 0 z) ∙ ap (λ (j : ℕ). isZero (drop j l)) (sym (add-one i))
-
-pub zero-ends : (l : List ℕ) (i : ℕ) → length l ≤ i → isZero l ≡ isZero (drop i l) → true ≡ isZero l
-zero-ends l i h e = sym (e ∙ ap isZero (drop-of-length-le l h) ∙ isZero-nil)
 
 -- the constants of the columns from the a-th on
 abbrev pub constantsFrom : ℕ → ℕ → List ℕ → ℕ → Bool

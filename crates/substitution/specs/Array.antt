@@ -1,16 +1,16 @@
--- What the functions over an array promise: a column's shift in place, substitution column by column, and the rows below a prefix.
+-- What the functions over an array promise: a column's shift in place, substitution column by column, and stripping.
 -- Assumes nothing.
 use mathlib.Core.Bool.{Bool, not}
-use mathlib.Core.List.{List, _++_, flatMap}
+use mathlib.Core.List.{List, _++_}
 use mathlib.Core.Path.{_≡_}
 use Prim.Native.Nat.{ℕ, suc, _+_, _*_, _<_}
 use lib.Dec.{eqb}
-use lib.ListN.{length, getD, take, drop}
+use lib.ListN.{getD, take, drop}
 use Rattle.definitions.specs.Code.{Symbols}
 use Rattle.definitions.specs.Field.{numbers, sixteen}
 use Rattle.definitions.specs.Roots.{plus, scaled}
 use Rattle.search.specs.Columns.{coefficient, substitute, columns}
-use Rattle.search.specs.Tree.{Same, Under, strip}
+use Rattle.search.specs.Tree.{Same, strip}
 
 -- one pass of the shift by c, from entry b on: to each entry c times the next is added
 unfoldable pub passed : ℕ → ℕ → List ℕ → List ℕ
@@ -40,15 +40,3 @@ Handed h w c l r = (x : List ℕ) × Symbols sixteen x × Substituted h w c l x 
 -- an entry other than zero
 abbrev pub isOther : List ℕ → ℕ → Bool
 isOther l i = not (eqb (getD l i 0) 0)
-
--- the array's weighted degree, of weights 1 and v, is at most D
-abbrev pub DegreeWithin : ℕ → ℕ → ℕ → List ℕ → Type 0
-DegreeWithin v D h l = Under sixteen v D (polynomial h (D + 1) l)
-
--- rows after a prefix, one after the other
-abbrev pub rowsAfter : List ℕ → List (List ℕ) → List ℕ
-rowsAfter prefix rows = flatMap (λ (f : List ℕ). prefix ++ f) rows
-
--- d with the list l laid over it from place `at` on
-abbrev pub laidOver : List ℕ → ℕ → List ℕ → List ℕ
-laidOver d at l = take at d ++ l ++ drop (at + length l) d

@@ -2,11 +2,11 @@ use mathlib.Core.Path.{_≡_, refl, sym, _∙_, ap, subst}
 use Prim.Native.Nat.{ℕ, _+_, _-_, _*_, _≤_, _<_}
 use mathlib.Core.Bool.{false}
 use native.Mathlib.Nat.{not-suc-le-zero}
-use Rattle.roots.specs.Array.{isOther}
-use Rattle.roots.proofs.Substitution.{other-found, zero-passed, none-other}
+use Rattle.substitution.specs.Array.{isOther}
+use Rattle.substitution.proofs.Substitution.{other-found, zero-passed, none-other}
 use native.Mathlib.Omega.{arith}
-use Rattle.roots.proofs.array.first_other.Statement.{statement}
-use Rattle.roots.proofs.array.first_other.Tie as tie
+use Rattle.substitution.proofs.inside.first_other.Statement.{statement}
+use Rattle.substitution.proofs.inside.first_other.Tie as tie
 
 abbrev Inv-loop : tie.InvT-loop
 Inv-loop p n i₀ i = (i ≤ n) × ((j : ℕ) → j < i → isOther p j ≡ false)

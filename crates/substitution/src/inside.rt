@@ -10,7 +10,7 @@ ghost use Rattle.definitions.specs.Tools.{smallest};
 ghost use Rattle.field.specs.Table.{Products};
 ghost use Rattle.search.specs.Columns.{shift};
 ghost use Rattle.search.specs.Tree.{zeros, constantsZero};
-ghost use Rattle.roots.specs.Array.{passed, polynomial, Laid, Substituted, Freed, Handed, isOther};
+ghost use Rattle.substitution.specs.Array.{passed, polynomial, Laid, Substituted, Freed, Handed, isOther};
 
 // The value of the first column at g.
 pub fn first_value(table: &[u8; 256], p: &[u8; 512], h: usize, g: u8) -> u8

@@ -1,0 +1,20 @@
+-- What the search promises: the rows below a prefix, laid over the lent memory.
+-- Assumes nothing.
+use mathlib.Core.List.{List, _++_, flatMap}
+use Prim.Native.Nat.{ℕ, _+_}
+use lib.ListN.{length, take, drop}
+use Rattle.definitions.specs.Field.{sixteen}
+use Rattle.search.specs.Tree.{Under}
+use Rattle.substitution.specs.Array.{polynomial}
+
+-- the array's weighted degree, of weights 1 and v, is at most D
+abbrev pub DegreeWithin : ℕ → ℕ → ℕ → List ℕ → Type 0
+DegreeWithin v D h l = Under sixteen v D (polynomial h (D + 1) l)
+
+-- rows after a prefix, one after the other
+abbrev pub rowsAfter : List ℕ → List (List ℕ) → List ℕ
+rowsAfter prefix rows = flatMap (λ (f : List ℕ). prefix ++ f) rows
+
+-- d with the list l laid over it from place `at` on
+abbrev pub laidOver : List ℕ → ℕ → List ℕ → List ℕ
+laidOver d at l = take at d ++ l ++ drop (at + length l) d
