@@ -9,7 +9,7 @@ use native.Mathlib.Nat.{add-zero, add-assoc, mul-le-mul-left}
 use native.Mathlib.Numerals.{add-one}
 use native.Mathlib.Omega.{arith}
 use borrow.Author.Tests.{eq-eqb, ne-eqb}
-use lib.ListN.{length, getD, take, drop, set, length-append, take-append-drop}
+use lib.ListN.{length, take, drop, set, length-append, take-append-drop}
 use lib.Seq.{take-at, drop-drop, drop-append-add, length-take-le, take-suc-set, paste}
 use Rattle.definitions.proofs.Joined.{join-nil, join-cons, join-append, join-below}
 use Rattle.definitions.proofs.Tools.{below-zero}

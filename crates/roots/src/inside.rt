@@ -1,8 +1,7 @@
 // y-roots of what is within limits already.
-ghost use mathlib.Core.Bool.{Bool, false};
-ghost use mathlib.Core.List.{_++_, map, flatMap};
+ghost use mathlib.Core.Bool.{false};
 ghost use mathlib.Core.Path.{_≡_};
-ghost use Prim.Native.Nat.{ℕ, suc, _+_, _-_, _*_, _/_, _≤_, _<_};
+ghost use Prim.Native.Nat.{_+_, _-_, _*_, _/_, _≤_, _<_};
 ghost use lib.ListN.{length, take, drop};
 ghost use lib.Seq.{paste};
 ghost use Rattle.definitions.specs.Answers.{rowsOnto};

@@ -3,7 +3,7 @@
 use mathlib.Core.List.{List, [], _∷_, map, List·Memᴰ, List·Memᴰ·head, List·Memᴰ·tail}
 use mathlib.Core.Logic.{_≢_}
 use mathlib.Core.Path.{_≡_, refl, sym, _∙_, ap, ap₂, subst}
-use Prim.Native.Nat.{ℕ, zero, suc, _+_, _*_, _-_, _/_, _≤_, _<_}
+use Prim.Native.Nat.{ℕ, zero, suc, _+_, _*_, _/_, _≤_, _<_}
 use native.Mathlib.Decide.{decLt}
 use native.Mathlib.Nat.{le-of-suc-le-suc, not-suc-le-zero, suc-mul, le-trans, mul-le-mul-right, mul-add-div-right, div-eq-of-lt}
 use native.Mathlib.Omega.{arith}
@@ -12,14 +12,14 @@ use lib.Seq.{getD-take, getD-drop, drop-drop, getD-set-same, getD-set-other, tak
 use Rattle.definitions.proofs.Monomials.{Earlier, earlier-irreflexive}
 use Rattle.definitions.proofs.Ordered.{Ordered}
 use Rattle.definitions.specs.Field.{Ops, power}
-use Rattle.definitions.specs.Polynomial.{Term, terms}
+use Rattle.definitions.specs.Polynomial.{terms}
 use Rattle.algebra.specs.Ring.{Ring, Hom}
 use Rattle.algebra.proofs.Carry.{carried}
 use Rattle.algebra.proofs.Composition.{valueAt}
 use Rattle.algebra.proofs.Evaluation.{evaluate}
 use Rattle.algebra.proofs.Polynomials.{power-zero, power-suc, value-cons}
 use Rattle.algebra.proofs.RingLaws.{ring, plus-zero, plus-assoc}
-use Rattle.search.specs.Columns.{coefficient, first, columns, loaded}
+use Rattle.search.specs.Columns.{coefficient, columns, loaded}
 use Rattle.search.proofs.Values.{valueOf, valueOf-nil, valueOf-cons, value-zeros}
 
 -- a part of a list is as long as it may be

@@ -1,10 +1,10 @@
 -- How many prefixes the search comes to: at each level at most the degree of the stripped M(0, y). For a symbol c of multiplicity m in M(0, y),
 -- what is handed on has M(0, y) of degree at most m, and the multiplicities of all symbols together are at most the degree.
 -- Assumes nothing.
-use mathlib.Core.Bool.{Bool, true, false, cond, false≢true, true≢false}
-use mathlib.Core.List.{List, [], _∷_, _++_, map, flatMap}
+use mathlib.Core.Bool.{Bool, true, false, cond, true≢false}
+use mathlib.Core.List.{List, [], _∷_, map, flatMap}
 use mathlib.Core.Logic.{_≢_}
-use mathlib.Core.Path.{_≡_, refl, sym, _∙_, ap, ap₂}
+use mathlib.Core.Path.{_≡_, refl, sym, _∙_, ap}
 use Prim.Native.Nat.{ℕ, zero, suc, _+_, _*_, _≤_, _<_}
 use native.Mathlib.Decide.{decLt}
 use native.Mathlib.Nat.{le-of-suc-le-suc, not-suc-le-zero, zero-add, mul-le-mul-left, mul-add, suc-mul, le-trans}
@@ -26,7 +26,7 @@ use Rattle.search.specs.Columns.{coefficient, first, shift, substitute}
 use Rattle.search.specs.Tree.{strip, constantsZero, begins, next, search, prefixes, allPrefixes}
 use Rattle.search.proofs.Columns.{Triangular, triangular-substitute, first-column}
 use Rattle.search.proofs.Elements.{zeros-of-isZero, not-isZero, SymbolColumns, element-zero, number-at, zero-elements, number-shift, shift-element, substitute-coefficient}
-use Rattle.search.proofs.Search.{strip-nil, strip-yes, strip-no, first-symbols, branch, search-zero, search-suc, next-symbols}
+use Rattle.search.proofs.Search.{strip-yes, strip-no, first-symbols, branch, search-zero, search-suc, next-symbols}
 use Rattle.search.proofs.Values.{shift-coefficient}
 
 -- a multiple of every term

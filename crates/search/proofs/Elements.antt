@@ -1,17 +1,16 @@
 -- From the elements of a field to the symbols of a code that carries it: columns of symbols, their shifts and M(x, x y + c) are those of the
 -- elements that they stand for.
 -- Assumes nothing.
-use mathlib.Core.Bool.{Bool, true, false, _&&_, false≢true, true≢false}
+use mathlib.Core.Bool.{Bool, true, false, _&&_, false≢true}
 use mathlib.Core.List.{List, [], _∷_, map}
 use mathlib.Core.Path.{_≡_, refl, sym, _∙_, ap, ap₂, subst}
-use Prim.Native.Nat.{ℕ, zero, suc, _+_, _-_, _≤_, _<_}
-use native.Mathlib.Omega.{arith}
+use Prim.Native.Nat.{ℕ, zero, suc, _+_, _<_}
 use borrow.Author.Tests.{eqb-true}
 use lib.Dec.{eqb}
-use lib.ListN.{length, getD}
+use lib.ListN.{getD}
 use Rattle.definitions.proofs.Tools.{split}
 use Rattle.definitions.specs.Code.{Symbols}
-use Rattle.definitions.specs.Field.{Ops, Code, numbers, value}
+use Rattle.definitions.specs.Field.{Ops, Code, numbers}
 use Rattle.definitions.specs.Polynomial.{isZero}
 use Rattle.algebra.specs.FieldOf.{FieldOf}
 use Rattle.algebra.proofs.Closed.{zero-symbol}
@@ -19,7 +18,7 @@ use Rattle.algebra.proofs.Numbers.{elements, numbers-elements, isZero-of-zeros}
 use Rattle.algebra.proofs.RootCounting.{Zero}
 use Rattle.search.specs.Columns.{coefficient, first, shift, substitute}
 use Rattle.search.proofs.Columns.{carry-shift, carry-substitute, substitute-at}
-use Rattle.search.proofs.Values.{shift-same, value-same}
+use Rattle.search.proofs.Values.{shift-same}
 
 -- a test that says two things
 pub both : (a b : Bool) → (a && b) ≡ true → (a ≡ true) × (b ≡ true)

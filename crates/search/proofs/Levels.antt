@@ -1,10 +1,10 @@
 -- What code over an array needs: the search sees only coefficients, so that an array may stand for the columns; and one level down the weight of y
 -- falls by one, so that D + 1 columns are enough at every level. At the last level the degree may pass D, and only the constants count.
 -- Assumes nothing.
-use mathlib.Core.Bool.{Bool, true, false, cond, _&&_, false≢true, true≢false}
-use mathlib.Core.List.{List, [], _∷_, map, flatMap}
+use mathlib.Core.Bool.{Bool, true, false, cond, true≢false}
+use mathlib.Core.List.{List, [], _∷_, map}
 use mathlib.Core.Logic.{_⊎_, inl, inr, ⊎-elim}
-use mathlib.Core.Path.{_≡_, refl, sym, _∙_, ap, ap₂, subst}
+use mathlib.Core.Path.{_≡_, refl, sym, _∙_, ap, ap₂}
 use Prim.Native.Nat.{ℕ, zero, suc, _+_, _*_, _-_, _≤_, _<_, suc-le-suc}
 use native.Mathlib.Decide.{decLt}
 use native.Mathlib.Nat.{le-trans, le-of-suc-le-suc, not-suc-le-zero, zero-lt-suc, zero-add, suc-add, mul-le-mul-left, suc-mul}
@@ -17,7 +17,6 @@ use Rattle.definitions.proofs.Tools.{split}
 use Rattle.definitions.specs.Code.{Symbols}
 use Rattle.definitions.specs.Field.{Ops, Code, numbers, value}
 use Rattle.definitions.specs.Polynomial.{isZero}
-use Rattle.definitions.specs.Tools.{below}
 use Rattle.algebra.specs.FieldOf.{FieldOf}
 use Rattle.algebra.proofs.Closed.{zero-symbol}
 use Rattle.algebra.proofs.Numbers.{elements, number-value, isZero-of-zeros}
@@ -25,9 +24,9 @@ use Rattle.search.specs.Columns.{coefficient, first, shift, substitute, 
 use Rattle.search.specs.Tree.{Same, Under, strip, constantsZero, begins, next, search}
 use Rattle.search.proofs.Arrays.{take-short, columns-within, columns-beyond, columns-above}
 use Rattle.search.proofs.Columns.{first-column, substitute-above, length-shift}
-use Rattle.search.proofs.Elements.{both, zeros-of-isZero, SymbolColumns, element-at, substitute-coefficient, substitute-symbols, shift-sees}
+use Rattle.search.proofs.Elements.{both, zeros-of-isZero, SymbolColumns, element-at, substitute-coefficient, shift-sees}
 use Rattle.search.proofs.Roots.{columns-symbols}
-use Rattle.search.proofs.Search.{equal-tests, join-equal, strip-nil, strip-yes, strip-no, strip-symbols, first-symbols, branch, search-zero, search-suc, next-symbols}
+use Rattle.search.proofs.Search.{equal-tests, join-equal, strip-nil, strip-yes, strip-no, first-symbols, branch, search-zero, search-suc, next-symbols}
 use Rattle.search.proofs.Values.{value-same}
 
 -- ---- the test of the last level

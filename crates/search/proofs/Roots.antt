@@ -1,15 +1,15 @@
 -- The theorems: the search finds exactly the y-roots of document 01, and at each level it comes to at most as many prefixes as the whole part of
 -- D/v; so there are never more roots.
 -- Assumes nothing.
-use mathlib.Core.Bool.{Bool, true, false, false≢true, true≢false}
+use mathlib.Core.Bool.{true, false, true≢false}
 use mathlib.Core.List.{List, [], _∷_, map, List·Memᴰ}
 use mathlib.Core.Path.{_≡_, refl, sym, _∙_, ap, ap₂, subst}
 use Prim.Native.Nat.{ℕ, zero, suc, _+_, _*_, _-_, _/_, _≤_, _<_}
 use native.Mathlib.Decide.{decLt}
-use native.Mathlib.Nat.{le-of-suc-le-suc, not-suc-le-zero, le-div-iff-mul-le, le-trans}
+use native.Mathlib.Nat.{le-div-iff-mul-le, le-trans}
 use native.Mathlib.Omega.{arith}
 use lib.ListN.{length, getD, take, drop, set, length-replicate, length-map}
-use Rattle.definitions.proofs.Monomials.{MonomialOrder, monomials-in-order, weighted}
+use Rattle.definitions.proofs.Monomials.{MonomialOrder, monomials-in-order}
 use Rattle.definitions.proofs.Tools.{split}
 use Rattle.definitions.specs.Bound.{count}
 use Rattle.definitions.specs.Code.{Symbols, messages}
@@ -27,10 +27,10 @@ use Rattle.algebra.proofs.Series.{Series, constants, linear}
 use Rattle.algebra.proofs.Taylor.{taylor}
 use Rattle.search.specs.Columns.{coefficient, first, columns, loaded}
 use Rattle.search.specs.Tree.{zeros, strip, search, prefixes, allPrefixes, grid}
-use Rattle.search.proofs.Arrays.{take-short, columns-within, columns-beyond, columns-above, length-loaded, loaded-keeps, loaded-zero, value-columns-zero, value-loaded, place-once}
+use Rattle.search.proofs.Arrays.{take-short, columns-within, columns-beyond, columns-above, loaded-keeps, loaded-zero, value-columns-zero, value-loaded, place-once}
 use Rattle.search.proofs.Count.{rows-at-most-prefixes, prefixes-at-most, all-prefixes-at-most}
 use Rattle.search.proofs.Elements.{zeros-of-isZero, SymbolColumns, columnElements, element-zero, element-at, number-at}
-use Rattle.search.proofs.Search.{IsRoot, Decides, strip-nil, strip-yes, strip-no, strip-symbols, strip-root, root-strip, search-selects}
+use Rattle.search.proofs.Search.{Decides, strip-nil, strip-yes, strip-no, strip-symbols, strip-root, root-strip, search-selects}
 use Rattle.search.proofs.Values.{valueOf, along, series-coefficient}
 
 -- zeros are zero wherever they are read

@@ -1,7 +1,7 @@
 -- The search is a selection: what it finds are the messages that any test for roots keeps, in their order. So pruning loses no root, stripping
 -- loses none, no root of degree k is kept, and a double root stands once.
 -- Assumes nothing.
-use mathlib.Core.Bool.{Bool, true, false, cond, _&&_, false≢true, true≢false}
+use mathlib.Core.Bool.{Bool, true, false, cond, true≢false}
 use mathlib.Core.List.{List, [], _∷_, _++_, map, flatMap}
 use mathlib.Core.Path.{_≡_, refl, sym, _∙_, ap, ap₂, subst}
 use Prim.Native.Nat.{ℕ, zero, suc, _<_}
@@ -13,7 +13,7 @@ use Rattle.definitions.proofs.Joined.{join-nil, join-below}
 use Rattle.definitions.proofs.Messages.{AllMessages, messages-zero, messages-suc, messages-in-order, beginning}
 use Rattle.definitions.proofs.Tools.{split, below-zero, select-nil, select-yes, select-no, select-none, select-append, select-map}
 use Rattle.definitions.specs.Code.{Symbols, messages}
-use Rattle.definitions.specs.Field.{Ops, Code, numbers, value}
+use Rattle.definitions.specs.Field.{Code, numbers, value}
 use Rattle.definitions.specs.Polynomial.{isZero}
 use Rattle.definitions.specs.Tools.{below, select}
 use Rattle.algebra.specs.FieldOf.{FieldOf}

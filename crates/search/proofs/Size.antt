@@ -3,7 +3,7 @@
 use mathlib.Core.Path.{_≡_}
 use Prim.Native.Nat.{ℕ, zero, suc, _+_, _-_, _*_, _/_, _≤_, _<_}
 use native.Mathlib.Decide.{decLt}
-use native.Mathlib.Nat.{mul-div-le, mul-add, suc-mul, mul-suc, mul-le-mul-left, mul-le-mul-right, le-div-iff-mul-le, div-mul-le-self, le-trans}
+use native.Mathlib.Nat.{mul-div-le, mul-add, suc-mul, mul-suc, mul-le-mul-left, mul-le-mul-right}
 use native.Mathlib.Numerals.{add-one}
 use native.Mathlib.Omega.{arith}
 use Rattle.definitions.proofs.Tools.{sum-zero, sum-suc}

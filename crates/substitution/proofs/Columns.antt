@@ -1,17 +1,17 @@
 -- The steps of the loops over one column, over plain numbers and lists.
 -- Assumes nothing.
-use mathlib.Core.Bool.{Bool, true, false, not, _&&_}
-use mathlib.Core.List.{List, [], _∷_, _++_, append-assoc, append-nil}
+use mathlib.Core.Bool.{Bool, true, false, _&&_}
+use mathlib.Core.List.{List, [], _∷_, _++_, append-nil}
 use mathlib.Core.Path.{_≡_, refl, sym, _∙_, ap, ap₂}
-use Prim.Native.Nat.{ℕ, zero, suc, _+_, _-_, _*_, _≤_, _<_}
-use native.Mathlib.Nat.{le-of-suc-le-suc, not-suc-le-zero, suc-mul, zero-add}
+use Prim.Native.Nat.{ℕ, suc, _+_, _-_, _*_, _≤_, _<_}
+use native.Mathlib.Nat.{suc-mul}
 use native.Mathlib.Numerals.{add-one}
 use native.Mathlib.Omega.{arith}
 use borrow.Author.Tests.{eq-eqb, ne-eqb}
 use lib.Bits.{bitXor}
 use lib.Dec.{eqb}
-use lib.ListN.{length, getD, take, drop, set, length-drop, length-set, take-append-drop, drop-of-length-le}
-use lib.Seq.{take-all, getD-take, getD-drop, drop-drop, drop-cons, drop-length, take-suc, take-at, drop-at, take-set-lt, take-suc-set, drop-set-lt, append-snoc, length-take-le}
+use lib.ListN.{length, getD, take, drop, set, length-drop, take-append-drop, drop-of-length-le}
+use lib.Seq.{take-all, getD-take, getD-drop, drop-drop, drop-cons, take-suc, take-at, drop-at, take-set-lt, take-suc-set, drop-set-lt, append-snoc, length-take-le}
 use Rattle.algebra.proofs.Closed.{plus-symbol, times-symbol}
 use Rattle.code.proofs.Laws.{value-more, value-so-far}
 use Rattle.definitions.proofs.Codeword.{value-nil}

@@ -1,16 +1,16 @@
 -- The steps of substitution and stripping over an array, over plain numbers and lists.
 -- Assumes nothing.
-use mathlib.Core.Bool.{Bool, true, false, not}
+use mathlib.Core.Bool.{true, false, not}
 use mathlib.Core.List.{List, [], _++_}
 use mathlib.Core.Logic.{_⊎_, inl, inr}
-use mathlib.Core.Path.{_≡_, refl, sym, _∙_, ap, ap₂, subst}
-use Prim.Native.Nat.{ℕ, zero, suc, _+_, _-_, _*_, _/_, _%_, _≤_, _<_}
+use mathlib.Core.Path.{_≡_, refl, sym, _∙_, ap, subst}
+use Prim.Native.Nat.{ℕ, zero, suc, _+_, _-_, _*_, _/_, _≤_, _<_}
 use native.Mathlib.Decide.{decLt, ℕ-discrete}
-use native.Mathlib.Nat.{not-suc-le-zero, zero-add, suc-add, suc-mul, mul-le-mul-right, div-mul-le-self, lt-mul-div-succ, le-trans, div-lt-iff-lt-mul}
+use native.Mathlib.Nat.{not-suc-le-zero, zero-add, suc-add, suc-mul, mul-le-mul-right, div-mul-le-self, div-lt-iff-lt-mul}
 use native.Mathlib.Omega.{arith}
 use borrow.Author.Tests.{eqb-true, eqb-false, eq-eqb, ne-eqb, not-true, not-false}
 use lib.Dec.{eqb}
-use lib.ListN.{length, getD, take, drop, set, length-append, length-drop, List·getD-append, List·getD-eq-default}
+use lib.ListN.{length, getD, take, drop, set, length-drop, List·getD-append}
 use lib.Seq.{getD-take, getD-drop, getD-set-same, getD-set-other, getD-append-add, length-take-le}
 use Rattle.algebra.proofs.Closed.{zero-symbol}
 use Rattle.algebra.proofs.Numbers.{isZero-of-zeros}
@@ -20,13 +20,13 @@ use Rattle.definitions.specs.Field.{numbers, sixteen}
 use Rattle.definitions.specs.Polynomial.{isZero}
 use Rattle.definitions.specs.Tools.{smallest}
 use Rattle.field.proofs.Instance.{sixteen-field}
-use Rattle.search.proofs.Arrays.{place-once, place-within, columns-within, columns-beyond, columns-above, columns-at, take-short}
+use Rattle.search.proofs.Arrays.{place-once, place-within, columns-within, columns-beyond, columns-above, columns-at}
 use Rattle.search.proofs.Columns.{substitute-above}
 use Rattle.search.proofs.Elements.{not-isZero}
 use Rattle.search.proofs.Levels.{take-symbols, strip-at, substitute-cell}
 use Rattle.search.proofs.Roots.{zeros-at, columns-symbols}
-use Rattle.search.specs.Columns.{coefficient, shift, columns}
-use Rattle.search.specs.Tree.{zeros, strip}
+use Rattle.search.specs.Columns.{shift, columns}
+use Rattle.search.specs.Tree.{zeros}
 use Rattle.substitution.specs.Array.{polynomial, Laid, Substituted, Freed, isOther}
 
 -- ---- a column laid

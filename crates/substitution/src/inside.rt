@@ -1,8 +1,7 @@
 // A polynomial in x and y as an array, the coefficient of x^a y^b at a * h + b: one level of the search.
-ghost use mathlib.Core.Bool.{Bool};
 ghost use mathlib.Core.List.{_++_};
 ghost use mathlib.Core.Path.{_≡_};
-ghost use Prim.Native.Nat.{ℕ, _+_, _-_, _*_, _≤_, _<_};
+ghost use Prim.Native.Nat.{_+_, _-_, _*_, _≤_, _<_};
 ghost use lib.ListN.{length, take, drop};
 ghost use Rattle.definitions.specs.Code.{Symbols};
 ghost use Rattle.definitions.specs.Field.{numbers, value, sixteen};

@@ -1,11 +1,10 @@
 use mathlib.Core.Logic.{⊎-elim}
-use mathlib.Core.List.{List, [], _++_}
-use mathlib.Core.Path.{_≡_, refl, sym, _∙_, ap, subst}
-use Prim.Native.Nat.{ℕ, _+_, _-_, _*_, _≤_, _<_}
+use mathlib.Core.List.{List, []}
+use mathlib.Core.Path.{_≡_, refl, sym, _∙_, ap}
+use Prim.Native.Nat.{ℕ, _+_, _-_, _≤_, _<_}
 use native.Mathlib.Omega.{arith}
 use borrow.Author.Needs.{needs}
-use lib.ListN.{length, take, set}
-use Rattle.definitions.specs.Field.{sixteen}
+use lib.ListN.{length, take}
 use Rattle.substitution.specs.Array.{polynomial}
 use Rattle.roots.specs.Rows.{laidOver}
 use Rattle.roots.proofs.Rows.{rowsBefore, before-nothing, rows-all, leaf-root-length, leaf-written, leaf-nothing, symbol, positive, fewer, fewer-fit, same-room, row-holds, columns-fit, begins-yes, begins-no, tried-none, tried-some, handed-within, handed-room}

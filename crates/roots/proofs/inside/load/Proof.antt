@@ -1,13 +1,11 @@
 use native.Mathlib.Nat.{mul-le-mul-right}
-use mathlib.Core.Path.{_≡_, refl, sym, _∙_, ap}
-use Prim.Native.Nat.{ℕ, _+_, _-_, _*_, _/_, _≤_, _<_}
+use mathlib.Core.Path.{_≡_, refl}
+use Prim.Native.Nat.{_+_, _-_, _*_, _/_, _≤_}
 use native.Mathlib.Omega.{arith}
-use borrow.Author.Needs.{needs}
-use lib.ListN.{length, take, drop}
+use lib.ListN.{length, take}
 use Rattle.definitions.specs.Field.{numbers, sixteen}
 use Rattle.search.specs.Columns.{loaded}
 use Rattle.search.specs.Tree.{zeros}
-use Rattle.search.proofs.Roots.{length-zeros}
 use Rattle.roots.proofs.Loading.{lower, none-lower, load-none, load-more, load-all, degree-within, degree-grows}
 use Rattle.roots.proofs.inside.load.Statement.{statement}
 use Rattle.roots.proofs.inside.load.Tie as tie

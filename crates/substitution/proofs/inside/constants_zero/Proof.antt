@@ -1,5 +1,5 @@
-use mathlib.Core.Path.{_≡_, refl, sym, _∙_, ap, subst}
-use Prim.Native.Nat.{ℕ, _+_, _-_, _*_, _≤_, _<_}
+use mathlib.Core.Path.{_≡_}
+use Prim.Native.Nat.{_-_, _≤_}
 use Rattle.search.proofs.Arrays.{place-within}
 use Rattle.search.specs.Tree.{constantsZero}
 use Rattle.substitution.specs.Array.{polynomial}

@@ -1,6 +1,6 @@
-use mathlib.Core.Path.{_≡_, refl, sym, _∙_, ap, subst}
-use Prim.Native.Nat.{ℕ, _+_, _-_, _*_, _≤_, _<_}
-use lib.ListN.{length, getD, take, drop}
+use mathlib.Core.Path.{_≡_}
+use Prim.Native.Nat.{_≤_}
+use lib.ListN.{take, drop}
 use Rattle.definitions.specs.Field.{numbers, value, sixteen}
 use Rattle.substitution.proofs.Columns.{no-value, first-value-more, first-value-symbol}
 use native.Mathlib.Omega.{arith}

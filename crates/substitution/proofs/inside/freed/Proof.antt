@@ -1,7 +1,7 @@
-use mathlib.Core.Path.{_≡_, refl, sym, _∙_, ap, subst}
+use mathlib.Core.Path.{_≡_, sym, subst}
 use mathlib.Core.List.{_++_}
-use Prim.Native.Nat.{ℕ, _+_, _-_, _*_, _/_, _≤_, _<_}
-use lib.ListN.{length, getD, take, drop}
+use Prim.Native.Nat.{ℕ, _-_, _*_, _/_}
+use lib.ListN.{take, drop}
 use Rattle.definitions.specs.Code.{Symbols}
 use native.Mathlib.Nat.{div-mul-le-self}
 use Rattle.definitions.specs.Field.{sixteen}
