@@ -58,23 +58,29 @@ module _ (D k : ℕ) (q : List ℕ) (two : 2 ≤ k) (small : count (k - 1) D ≤
   pub array-fits : (D + 1) * (D / (k - 1) + 1) ≤ 512
   array-fits = let a = array-size (k - 1) (omega arith) D in omega arith
 
+  -- and its columns are low
   pub columns-low : D / (k - 1) + 1 ≤ 32
   columns-low = let a = column-height (k - 1) D (omega arith) array-fits in omega arith
 
+  -- the loaded array
   abbrev start : List ℕ
   start = loaded (numbers sixteen) (D / (k - 1) + 1) q (monomials (k - 1) D) (zeros 512)
 
   module _ (l : List ℕ) (el : l ≡ loaded (numbers sixteen) (D / (k - 1) + 1) q (monomials (k - 1) D) (zeros 512)) where
+    -- of 512 entries
     pub loaded-length : length l ≡ 512
     loaded-length = ap length el ∙ length-loaded (numbers sixteen) (D / (k - 1) + 1) q (monomials (k - 1) D) (zeros 512) ∙ length-zeros 512
 
+    -- which are symbols
     start-symbols : Symbols sixteen start
     start-symbols = loaded-symbols sixteen (D / (k - 1) + 1) q (monomials (k - 1) D) (zeros 512) s (zeros-symbols 512)
 
+    -- also under another name
     pub loaded-are-symbols : Symbols sixteen l
     loaded-are-symbols = subst (Symbols sixteen) (sym el) start-symbols
 
     module _ (p : List ℕ) (sp : Symbols sixteen p) (fp : Freed (D / (k - 1) + 1) (D + 1) l p) where
+      -- what the search begins with is the loaded array, freed
       freed-start : Freed (D / (k - 1) + 1) (D + 1) start p
       freed-start = subst (λ (x : List ℕ). Freed (D / (k - 1) + 1) (D + 1) x p) el fp
 
@@ -94,13 +100,16 @@ module _ (D k : ℕ) (q : List ℕ) (two : 2 ≤ k) (small : count (k - 1) D ≤
           (columns-symbols sixteen (zero-symbol sixteen sixteen-field) (D / (k - 1) + 1) (D + 1) start start-symbols)) freed-start
           ∙ search-is-roots sixteen sixteen-field k D two q s 512 array-fits
 
+      -- each root is a message of k symbols
       row-size : (f : List ℕ) → List·Memᴰ f (rootsOf sixteen D k q) → length f ≡ k
       row-size f m = messages-in-order sixteen (zero-symbol sixteen sixteen-field) k .sized f (select-from (isRoot sixteen (k - 1) D q) (messages sixteen k) f m)
 
       module _ (row : List ℕ) where
+        -- the rows that the search writes
         rows-found : rowsAfter (take (k - k) row) (search sixteen k (polynomial (D / (k - 1) + 1) (D + 1) p)) ≡ rowsAfter [] (rootsOf sixteen D k q)
         rows-found = let e : k - k ≡ 0 = omega arith in ap₂ (λ (n : ℕ) (r : List (List ℕ)). rowsAfter (take n row) r) e found
 
+        -- k entries for each root
         rows-number : length (rowsAfter (take (k - k) row) (search sixteen k (polynomial (D / (k - 1) + 1) (D + 1) p))) ≡ k * length (rootsOf sixteen D k q)
         rows-number = ap length rows-found ∙ rows-length k (rootsOf sixteen D k q) row-size
 

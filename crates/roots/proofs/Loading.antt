@@ -28,10 +28,12 @@ module _ (h : ℕ) where
   loaded-append (c ∷ q) [] q′ L′ l e = absurd (suc-ne-zero (length q) e)
   loaded-append (c ∷ q) (m ∷ L) q′ L′ l e = loaded-append q L q′ L′ (set l (m .0 * h + m .1) c) (suc-inj e)
 
+  -- one coefficient
   loaded-one : (c : ℕ) (m : ℕ × ℕ) (l : List ℕ) → loaded (numbers sixteen) h (c ∷ []) (m ∷ []) l ≡ set l (m .0 * h + m .1) c
   unfolding loaded
   loaded-one c m l = refl
 
+  -- none
   loaded-none : (L : List (ℕ × ℕ)) (l : List ℕ) → loaded (numbers sixteen) h [] L l ≡ l
   unfolding loaded
   loaded-none L l = refl
@@ -40,9 +42,11 @@ module _ (h : ℕ) where
   abbrev pub some : ℕ → ℕ → ℕ → List (ℕ × ℕ)
   some v d b = map (λ (b : ℕ). (d - v * b, b)) (below b)
 
+  -- before the first coefficient of a degree
   pub degree-none : (v d j : ℕ) (q l : List ℕ) → l ≡ loaded (numbers sixteen) h (take 0 (drop j q)) (some v d 0) l
   degree-none v d j q l = sym (loaded-none (some v d 0) l)
 
+  -- one coefficient more
   pub degree-more : (v d j b : ℕ) (q l now : List ℕ) → j + b < length q → now ≡ loaded (numbers sixteen) h (take b (drop j q)) (some v d b) l
       → set now ((d - v * b) * h + b) (getD q (j + b) 0) ≡ loaded (numbers sixteen) h (take (b + 1) (drop j q)) (some v d (b + 1)) l
   degree-more v d j b q l now k e =
@@ -59,6 +63,7 @@ module _ (h : ℕ) where
 pub degree-place : (v d b : ℕ) → 0 < v → b ≤ d / v → v * b ≤ d
 degree-place v d b pos l = let k : b * v ≤ d = (le-div-iff-mul-le pos) .0 l in omega arith
 
+-- a greater degree, as great a power of y
 pub degree-grows : (v d D : ℕ) → 0 < v → d ≤ D → d / v ≤ D / v
 degree-grows v d D pos l = let e = div-mul-le-self d v in (le-div-iff-mul-le pos) .1 (omega arith)
 
@@ -67,12 +72,15 @@ module _ (v : ℕ) where
   abbrev pub lower : ℕ → List (ℕ × ℕ)
   lower d = flatMap (monomialsOf v) (below d)
 
+  -- how many there are of weighted degree d
   length-of : (d : ℕ) → length (monomialsOf v d) ≡ d / v + 1
   length-of d = length-map (below (d / v + 1)) (λ (b : ℕ). (d - v * b, b)) ∙ length-below (d / v + 1)
 
+  -- and of those below d + 1
   lower-more : (d : ℕ) → length (lower (suc d)) ≡ length (lower d) + (d / v + 1)
   lower-more d = ap length (join-below (monomialsOf v) d) ∙ length-append (lower d) (monomialsOf v d) ∙ ap (λ (n : ℕ). length (lower d) + n) (length-of d)
 
+  -- a greater degree, more of them
   lower-grows : (d E : ℕ) → d ≤ E → length (lower d) ≤ length (lower E)
   lower-grows d zero l = let e : d ≡ 0 = omega arith in rw e (omega arith)
   lower-grows d (suc E) l =
@@ -81,10 +89,12 @@ module _ (v : ℕ) where
         | no n ↦ let e : d ≡ suc E = omega arith in rw e (omega arith)
       ]
 
+  -- there are none below 0
   pub none-lower : 0 ≡ length (lower 0)
   none-lower = sym (ap (λ (l : List ℕ). length (flatMap (monomialsOf v) l)) below-zero ∙ ap length (join-nil (monomialsOf v)))
 
   module _ (pos : 0 < v) (D : ℕ) (q : List ℕ) (full : length q ≡ count v D) where
+    -- all coefficients are of weighted degree at most D
     size : length (lower (suc D)) ≡ length q
     size = ap (λ (n : ℕ). length (lower n)) (sym (add-one D)) ∙ monomials-in-order v pos D .size ∙ sym full
 
@@ -93,6 +103,7 @@ module _ (v : ℕ) where
     degree-within d l = let a = lower-grows (suc d) (suc D) (omega arith) in let b = lower-more d in let c = size in omega arith
 
     module _ (h : ℕ) (zs : List ℕ) where
+      -- before the first degree
       pub load-none : zs ≡ loaded (numbers sixteen) h (take 0 q) (lower 0) zs
       load-none = sym (loaded-none h (lower 0) zs)
 
@@ -109,6 +120,7 @@ module _ (v : ℕ) where
                 (sym (join-below (monomialsOf v) d) ∙ ap lower (sym (add-one d))),
           )
 
+      -- after the last degree
       pub load-all : (d j : ℕ) (p : List ℕ) → d ≡ D + 1 → j ≡ length (lower d) → p ≡ loaded (numbers sixteen) h (take j q) (lower d) zs
           → p ≡ loaded (numbers sixteen) h q (monomials v D) zs
       load-all d j p ed ej ep =

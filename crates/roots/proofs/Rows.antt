@@ -26,9 +26,11 @@ use Rattle.roots.specs.Rows.{DegreeWithin, rowsAfter, laidOver}
 
 -- ---- a list laid over another
 
+-- nothing laid
 laid-nothing : (d : List ℕ) (at : ℕ) → d ≡ laidOver d at []
 laid-nothing d at = sym (rw (add-zero, append-nil, take-append-drop))
 
+-- one list laid behind another
 laid-after : (d : List ℕ) (at : ℕ) (l m : List ℕ) → at + length l ≤ length d → laidOver (laidOver d at l) (at + length l) m ≡ laidOver d at (l ++ m)
 laid-after d at l m h =
     let n : length (take at d ++ l) ≡ at + length l = simp (length-append, length-take-le at d (omega arith)) in
@@ -44,6 +46,7 @@ laid-after d at l m h =
 
 -- ---- rows after a prefix
 
+-- no rows
 rows-none : (prefix : List ℕ) → rowsAfter prefix [] ≡ []
 rows-none prefix = join-nil (λ (f : List ℕ). prefix ++ f)
 
@@ -55,6 +58,7 @@ rows-symbol prefix c (f ∷ rows) =
     ∙ ap₂ _++_ (sym (append-assoc prefix (c ∷ []) f)) (rows-symbol prefix c rows)
     ∙ sym (join-cons (λ (f : List ℕ). (prefix ++ (c ∷ [])) ++ f) f rows)
 
+-- rows joined
 rows-joined : (prefix : List ℕ) (f : ℕ → List (List ℕ)) (n : ℕ) → rowsAfter prefix (flatMap f (below n)) ≡ flatMap (λ (c : ℕ). rowsAfter prefix (f c)) (below n)
 rows-joined prefix f zero =
     rw below-zero (ap (rowsAfter prefix) (join-nil f) ∙ rows-none prefix ∙ sym (join-nil (λ (c : ℕ). rowsAfter prefix (f c))))
@@ -62,16 +66,19 @@ rows-joined prefix f (suc n) =
     ap (rowsAfter prefix) (join-below f n) ∙ join-append (λ (f : List ℕ). prefix ++ f) (flatMap f (below n)) (f n)
     ∙ ap (λ (l : List ℕ). l ++ rowsAfter prefix (f n)) (rows-joined prefix f n) ∙ sym (join-below (λ (c : ℕ). rowsAfter prefix (f c)) n)
 
--- the rows of one symbol, and of those before g
+-- the rows of one symbol
 abbrev pub rowsOf : List ℕ → ℕ → List (List ℕ) → ℕ → List ℕ
 rowsOf prefix n M c = rowsAfter prefix (branch sixteen n M c)
 
+-- and of those before g
 abbrev pub rowsBefore : List ℕ → ℕ → List (List ℕ) → ℕ → List ℕ
 rowsBefore prefix n M g = flatMap (rowsOf prefix n M) (below g)
 
+-- before the first symbol there are none
 before-none : (prefix : List ℕ) (n : ℕ) (M : List (List ℕ)) → rowsBefore prefix n M 0 ≡ []
 before-none prefix n M = rw below-zero (join-nil (rowsOf prefix n M))
 
+-- one symbol more
 before-more : (prefix : List ℕ) (n : ℕ) (M : List (List ℕ)) (g : ℕ) → rowsBefore prefix n M (g + 1) ≡ rowsBefore prefix n M g ++ rowsOf prefix n M g
 before-more prefix n M g = ap (rowsBefore prefix n M) (add-one g) ∙ join-below (rowsOf prefix n M) g
 
@@ -82,6 +89,7 @@ rows-all prefix left M h =
     ap (λ (n : ℕ). rowsAfter prefix (search sixteen n M)) e ∙ ap (rowsAfter prefix) (search-suc sixteen (left - 1) M)
     ∙ rows-joined prefix (branch sixteen (left - 1) M) 16
 
+-- more symbols, more rows
 before-grows : (prefix : List ℕ) (n : ℕ) (M : List (List ℕ)) (g m : ℕ) → length (rowsBefore prefix n M g) ≤ length (rowsBefore prefix n M (m + g))
 before-grows prefix n M g zero = let e : zero + g ≡ g = omega arith in rw e (omega arith)
 before-grows prefix n M g (suc m) =
@@ -103,6 +111,7 @@ before-room prefix n M g h =
 -- ---- the last level
 
 module _ (row : List ℕ) (k left : ℕ) (M : List (List ℕ)) (z : left ≡ 0) where
+  -- with no level left, as the last test says
   leaf-rows : (b : Bool) → constantsZero M ≡ b → rowsAfter (take (k - left) row) (search sixteen left M) ≡ rowsAfter (take k row) (cond b ([] ∷ []) [])
   leaf-rows b e =
       let f : k - left ≡ k = omega arith in
@@ -110,14 +119,16 @@ module _ (row : List ℕ) (k left : ℕ) (M : List (List ℕ)) (z : left ≡ 0) 
       ∙ ap (rowsAfter (take k row)) (search-zero sixteen M ∙ ap (λ (b : Bool). cond {A = List (List ℕ)} b ([] ∷ []) []) e)
 
   -- a root
-  pub leaf-root : true ≡ constantsZero M → rowsAfter (take (k - left) row) (search sixteen left M) ≡ take k row
+  leaf-root : true ≡ constantsZero M → rowsAfter (take (k - left) row) (search sixteen left M) ≡ take k row
   leaf-root e =
       leaf-rows true (sym e) ∙ join-cons (λ (f : List ℕ). take k row ++ f) [] [] ∙ ap (λ (l : List ℕ). (take k row ++ []) ++ l) (rows-none (take k row))
       ∙ append-nil (take k row ++ []) ∙ append-nil (take k row)
 
+  -- its row has k entries
   pub leaf-root-length : true ≡ constantsZero M → k ≤ length row → length (rowsAfter (take (k - left) row) (search sixteen left M)) ≡ k
   leaf-root-length e h = ap length (leaf-root e) ∙ length-take-le k row h
 
+  -- its row is what is written
   pub leaf-written : true ≡ constantsZero M → k ≤ length row → (d r : List ℕ) (at : ℕ) → r ≡ paste d at row k
       → r ≡ laidOver d at (rowsAfter (take (k - left) row) (search sixteen left M))
   leaf-written e h d r at w = w ∙ rw (leaf-root-length e h, leaf-root e)
@@ -126,6 +137,7 @@ module _ (row : List ℕ) (k left : ℕ) (M : List (List ℕ)) (z : left ≡ 0) 
   leaf-none : false ≡ constantsZero M → rowsAfter (take (k - left) row) (search sixteen left M) ≡ []
   leaf-none e = leaf-rows false (sym e) ∙ rows-none (take k row)
 
+  -- so nothing is written
   pub leaf-nothing : false ≡ constantsZero M → (d : List ℕ) (at : ℕ)
       → (at ≡ at + length (rowsAfter (take (k - left) row) (search sixteen left M))) × (d ≡ laidOver d at (rowsAfter (take (k - left) row) (search sixteen left M)))
   leaf-nothing e d at = (rw (leaf-none e) (sym (add-zero at)), rw (leaf-none e) (laid-nothing d at))
@@ -151,12 +163,15 @@ positive n f =
 pub fewer : (n t : ℕ) → n ≡ t → 0 < n → n - 1 < t
 fewer n t e h = omega arith
 
+-- and stay within the row
 pub fewer-fit : (n k : ℕ) → n ≤ k → n - 1 ≤ k
 fewer-fit n k h = omega arith
 
+-- the lent memory keeps its length
 pub same-room : (a n m : ℕ) → m ≡ n → a ≤ n → a ≤ m
 same-room a n m e h = omega arith
 
+-- a row has fifteen entries
 pub row-holds : (row : List ℕ) (k : ℕ) → length row ≡ 15 → k ≤ 15 → k ≤ length row
 row-holds row k e h = omega arith
 
@@ -166,21 +181,26 @@ columns-fit h w pos l = let m : w * 1 ≤ w * h = mul-le-mul-left w pos in omega
 
 -- ---- one symbol tried
 
+-- the first column
 front-column : (h D : ℕ) (p : List ℕ) → first (numbers sixteen) (polynomial h (suc D) p) ≡ take h p
 unfolding first columns
 front-column h D p = refl
 
+-- of an array of D + 1 columns
 first-of : (h D : ℕ) (p : List ℕ) → first (numbers sixteen) (polynomial h (D + 1) p) ≡ take h p
 first-of h D p = ap (λ (n : ℕ). first (numbers sixteen) (polynomial h n p)) (add-one D) ∙ front-column h D p
 
 module _ (h D g : ℕ) (p : List ℕ) (y : ℕ) (e : y ≡ value (numbers sixteen) g (take h p)) where
+  -- M(0, g)
   first-value : value (numbers sixteen) g (first (numbers sixteen) (polynomial h (D + 1) p)) ≡ y
   first-value = ap (value (numbers sixteen) g) (first-of h D p) ∙ sym e
 
+  -- where it is zero g is gone on with
   pub begins-yes : y ≡ 0 → begins sixteen g (polynomial h (D + 1) p) ≡ true
   unfolding begins
   begins-yes z = eq-eqb (value (numbers sixteen) g (first (numbers sixteen) (polynomial h (D + 1) p))) 0 (first-value ∙ z)
 
+  -- where it is not g is left
   pub begins-no : (y ≡ 0 → ⊥) → begins sixteen g (polynomial h (D + 1) p) ≡ false
   unfolding begins
   begins-no n = ne-eqb (value (numbers sixteen) g (first (numbers sixteen) (polynomial h (D + 1) p))) 0 (λ z. n (sym first-value ∙ z))
@@ -189,9 +209,11 @@ module _ (k left D h : ℕ) (row p : List ℕ) (d : List ℕ) (at : ℕ) (out : 
     (room : at + length (rowsAfter (take (k - left) row) (search sixteen left (polynomial h (D + 1) p))) ≤ length d)
     (he : end ≡ at + length (rowsBefore (take (k - left) row) (left - 1) (polynomial h (D + 1) p) g))
     (ho : out ≡ laidOver d at (rowsBefore (take (k - left) row) (left - 1) (polynomial h (D + 1) p) g)) where
+  -- the polynomial
   abbrev M : List (List ℕ)
   M = polynomial h (D + 1) p
 
+  -- the symbols fixed so far
   abbrev prefix : List ℕ
   prefix = take (k - left) row
 
@@ -208,6 +230,7 @@ module _ (k left D h : ℕ) (row p : List ℕ) (d : List ℕ) (at : ℕ) (out : 
 
   module _ (h0 : 0 < h) (sp : Symbols sixteen p) (u : DegreeWithin (left - 1) D h p) (b : begins sixteen g (polynomial h (D + 1) p) ≡ true)
       (r : List ℕ) (sr : Symbols sixteen r) (q : Handed h (D + 1) g p r) where
+    -- the rows of the recursive call
     abbrev rows : List ℕ
     rows = rowsAfter (take (k - (left - 1)) (set row (k - left) g)) (search sixteen (left - 1) (polynomial h (D + 1) r))
 
@@ -215,6 +238,7 @@ module _ (k left D h : ℕ) (row p : List ℕ) (d : List ℕ) (at : ℕ) (out : 
     pub handed-within : DegreeWithin (left - 1 - 1) D h r
     handed-within = under-handed sixteen sixteen-field h D h0 g hg p (q .0) r sp (q .1) sr (q .2) (q .3) (left - 1) u
 
+    -- its prefix is one symbol longer
     longer : take (k - (left - 1)) (set row (k - left) g) ≡ prefix ++ (g ∷ [])
     longer =
         let e : k - (left - 1) ≡ suc (k - left) = omega arith in
@@ -227,6 +251,7 @@ module _ (k left D h : ℕ) (row p : List ℕ) (d : List ℕ) (at : ℕ) (out : 
         ∙ rows-symbol prefix g (search sixteen (left - 1) (next sixteen g M))
         ∙ ap₂ rowsAfter (sym longer) (sym (search-handed sixteen sixteen-field h D h0 g hg p (q .0) r sp (q .1) sr (q .2) (q .3) (left - 1) u))
 
+    -- all symbols have room
     all-room : at + length (rowsBefore prefix (left - 1) M 16) ≤ length d
     all-room = subst (λ (l : List ℕ). at + length l ≤ length d) (rows-all prefix left M pos) room
 

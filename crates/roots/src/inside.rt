@@ -72,7 +72,7 @@ fn write_row(out: &mut [u8], at: usize, row: [u8; 15], k: usize)
 }
 
 // Every way to go on from the prefix of k - left symbols in `row`: writes the rows from `at` on, and answers the place after them.
-pub fn search(
+fn search(
     table: &[u8; 256],
     p: [u8; 512],
     degree: usize,

@@ -28,6 +28,7 @@ take-short zero l = omega arith
 take-short (suc h) [] = omega arith
 take-short (suc h) (x ∷ l) = let r = take-short h l in omega arith
 
+-- and holds every entry before its end
 take-long : {B : Type 0} (h : ℕ) (l : List B) (b : ℕ) → b < h → b < length l → b < length (take h l)
 take-long zero l b p q = absurd (not-suc-le-zero p)
 take-long (suc h) [] b p q = absurd (not-suc-le-zero q)
@@ -67,6 +68,7 @@ module _ (A : Ops) where
   columns-within h (suc w) l (suc s) t p q =
       columns-within h w (drop h l) s t (le-of-suc-le-suc p) q ∙ getD-drop h l (s * h + t) o ∙ ap (λ (n : ℕ). getD l n o) (place s h t)
     where
+      -- the place in the whole
       place : (s h t : ℕ) → h + (s * h + t) ≡ suc s * h + t
       place s h t = rw (suc-mul s h) (omega arith)
 
@@ -78,6 +80,7 @@ module _ (A : Ops) where
   columns-at h (suc w) l (suc u) p =
       columns-at h w (drop h l) u (le-of-suc-le-suc p) ∙ ap (take h) (drop-drop (u * h) h l ∙ ap (λ (n : ℕ). drop n l) (place u h))
     where
+      -- the place in the whole
       place : (u h : ℕ) → h + u * h ≡ suc u * h
       place u h = rw (suc-mul u h) (omega arith)
 
@@ -97,6 +100,7 @@ module _ (A : Ops) where
 
   -- ---- loading
 
+  -- loading keeps the length
   pub length-loaded : (h : ℕ) (q : List K) (L : List (ℕ × ℕ)) (l : List K) → length (loaded A h q L l) ≡ length l
   unfolding loaded
   length-loaded h [] L l = refl
@@ -137,9 +141,11 @@ module _ (A R : Ring) (e : Hom (A .ops) (R .ops)) where
 
   infixl 60 _⊕_
   infixl 70 _⊗_
+  -- at the constant
   first-set : (y v : K) (c d : A .ops .K) → d ≡ A .ops .o → φ c ⊕ y ⊗ v ≡ φ d ⊕ y ⊗ v ⊕ φ c ⊗ i
   first-set y v c d z = rw (z, φ-zero) (simp ring)
 
+  -- one coefficient later
   later-set : (y v w a b : K) → w ≡ v ⊕ a ⊗ b → (d : K) → d ⊕ y ⊗ w ≡ d ⊕ y ⊗ v ⊕ a ⊗ (y ⊗ b)
   later-set y v w a b z d = rw z (simp ring)
 
@@ -155,12 +161,15 @@ module _ (A R : Ring) (e : Hom (A .ops) (R .ops)) where
       ∙ later-set y (evaluate A R e y p) (evaluate A R e y (set p b c)) (φ c) (power (R .ops) y b) (value-set y p b c (le-of-suc-le-suc h) z) (φ d)
       ∙ ap₂ (λ (u w : K). u ⊕ φ c ⊗ w) (sym (value-cons (R .ops) y (φ d) (map φ p))) (sym (power-suc (R .ops) y b))
 
+  -- in the first column
   first-column-step : (x p c b v : K) → p ⊕ c ⊗ b ⊕ x ⊗ v ≡ p ⊕ x ⊗ v ⊕ c ⊗ i ⊗ b
   first-column-step x p c b v = simp ring
 
+  -- one column later
   later-column-step : (x p v c a b : K) → p ⊕ x ⊗ (v ⊕ c ⊗ a ⊗ b) ≡ p ⊕ x ⊗ v ⊕ c ⊗ (x ⊗ a) ⊗ b
   later-column-step x p v c a b = simp ring
 
+  -- M(x, y) with one coefficient put where a zero was
   value-columns-set : (x y : K) (h w : ℕ) (l : List (A .ops .K)) (a b : ℕ) (c : A .ops .K) → a < w → b < h → a * h + b < length l
       → getD l (a * h + b) (A .ops .o) ≡ A .ops .o
       → valueOf A R e x y (columns (A .ops) h w (set l (a * h + b) c))
@@ -199,6 +208,7 @@ module _ (A R : Ring) (e : Hom (A .ops) (R .ops)) where
       ∙ ap₂ (λ (u v : K). u ⊕ x ⊗ v) (value-zeros A R e y (take h l) front)
       (value-columns-zero x y h w (drop h l) (λ j. getD-drop h l j (A .ops .o) ∙ z (h + j))) ∙ simp ring
     where
+      -- the first column is zero
       front : (t : ℕ) → getD (take h l) t (A .ops .o) ≡ A .ops .o
       front t =
           elim (decLt t h) [

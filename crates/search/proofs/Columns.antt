@@ -24,26 +24,31 @@ module _ (A : Ops) where
   Triangular n [] = Unit
   Triangular n (p ∷ M) = (length p ≤ suc n) × Triangular (suc n) M
 
+  -- so counted from one more
   triangular-later : (n : ℕ) (M : List (List K)) → Triangular n M → Triangular (suc n) M
   triangular-later n [] t = tt
   triangular-later n (p ∷ M) t = let h = t .0 in (omega arith, triangular-later (suc n) M (t .1))
 
+  -- sums keep it
   triangular-plus : (n : ℕ) (M N : List (List K)) → Triangular n M → Triangular n N → Triangular n (plusColumns A M N)
   unfolding plusColumns
   triangular-plus n [] N t u = u
   triangular-plus n (p ∷ M) [] t u = t
   triangular-plus n (p ∷ M) (q ∷ N) t u = (length-plus A p q (suc n) (t .0) (u .0), triangular-plus (suc n) M N (t .1) (u .1))
 
+  -- a factor y counts one more
   triangular-y : (n : ℕ) (M : List (List K)) → Triangular n M → Triangular (suc n) (timesY A M)
   unfolding timesY
   triangular-y n [] t = tt
   triangular-y n (p ∷ M) t = let h = t .0 in (omega arith, triangular-y (suc n) M (t .1))
 
+  -- p(x y) has it
   triangular-diagonal : (p : List K) → Triangular zero (diagonal A p)
   unfolding diagonal
   triangular-diagonal [] = tt
   triangular-diagonal (c ∷ p) = (omega arith, triangular-y zero (diagonal A p) (triangular-diagonal p))
 
+  -- so has M(x, x y)
   triangular-spread : (M : List (List K)) → Triangular zero (spread A M)
   unfolding spread
   triangular-spread [] = tt
@@ -56,6 +61,7 @@ module _ (A : Ops) where
   unfolding substitute
   triangular-substitute c M = triangular-spread (shiftColumns A c M)
 
+  -- what lies above is zero
   triangular-zero : (n : ℕ) (M : List (List K)) → Triangular n M → (a b : ℕ) → n + a < b → coefficient A M a b ≡ o
   triangular-zero n [] t a b h = refl
   triangular-zero n (p ∷ M) t zero b h = let l = t .0 in List·getD-eq-default p o (omega arith)
@@ -65,24 +71,28 @@ module _ (A : Ops) where
   pub substitute-above : (c : K) (M : List (List K)) (s t : ℕ) → s < t → coefficient A (substitute A c M) s t ≡ o
   substitute-above c M s t h = triangular-zero zero (substitute A c M) (triangular-substitute c M) s t (omega arith)
 
+  -- y M has the coefficients of M, one up
   y-coefficient : (M : List (List K)) (a b : ℕ) → coefficient A (timesY A M) a (suc b) ≡ coefficient A M a b
   unfolding timesY
   y-coefficient [] a b = refl
   y-coefficient (p ∷ M) zero b = refl
   y-coefficient (p ∷ M) (suc a) b = y-coefficient M a b
 
+  -- and no constants
   y-constant : (M : List (List K)) (a : ℕ) → coefficient A (timesY A M) a zero ≡ o
   unfolding timesY
   y-constant [] a = refl
   y-constant (p ∷ M) zero = refl
   y-constant (p ∷ M) (suc a) = y-constant M a
 
+  -- p(x y) has the coefficients of p on the diagonal
   on-diagonal : (p : List K) (m : ℕ) → coefficient A (diagonal A p) m m ≡ getD p m o
   unfolding diagonal
   on-diagonal [] m = refl
   on-diagonal (c ∷ p) zero = refl
   on-diagonal (c ∷ p) (suc m) = y-coefficient (diagonal A p) m m ∙ on-diagonal p m
 
+  -- and none below it
   off-diagonal : (p : List K) (u t : ℕ) → coefficient A (diagonal A p) (suc u + t) t ≡ o
   unfolding diagonal
   off-diagonal [] u t = refl
@@ -91,12 +101,13 @@ module _ (A : Ops) where
       let e : suc u + suc t ≡ suc (suc u + t) = omega arith in
       rw e (y-coefficient (diagonal A p) (suc u + t) t ∙ off-diagonal p u t)
 
+  -- x M(x, x y) has none on the diagonal
   under-diagonal : (M : List (List K)) (m : ℕ) → coefficient A ([] ∷ spread A M) m m ≡ o
   under-diagonal M zero = refl
   under-diagonal M (suc m) = triangular-zero zero (spread A M) (triangular-spread M) m (suc m) (omega arith)
 
   -- columns are shifted one by one
-  pub shiftColumns-at : (c : K) (M : List (List K)) (u : ℕ) → getD (shiftColumns A c M) u [] ≡ shift A c (getD M u [])
+  shiftColumns-at : (c : K) (M : List (List K)) (u : ℕ) → getD (shiftColumns A c M) u [] ≡ shift A c (getD M u [])
   unfolding shiftColumns shift
   shiftColumns-at c [] u = refl
   shiftColumns-at c (p ∷ M) zero = refl
@@ -120,6 +131,7 @@ module _ (A : Ring) where
   open Ops (A .ops) using (K, o, add as _⊕_)
 
   infixl 60 _⊕_
+  -- the coefficients of a sum
   plus-coefficient : (M N : List (List K)) (a b : ℕ)
       → coefficient (A .ops) (plusColumns (A .ops) M N) a b ≡ coefficient (A .ops) M a b ⊕ coefficient (A .ops) N a b
   unfolding plusColumns
@@ -128,6 +140,7 @@ module _ (A : Ring) where
   plus-coefficient (p ∷ M) (q ∷ N) zero b = coefficient-plus A p q b
   plus-coefficient (p ∷ M) (q ∷ N) (suc a) b = plus-coefficient M N a b
 
+  -- M(x, x y) moves that of x^u y^t to x^(u + t)
   spread-at : (M : List (List K)) (u t : ℕ) → coefficient (A .ops) (spread (A .ops) M) (u + t) t ≡ coefficient (A .ops) M u t
   unfolding spread
   spread-at [] u t = refl
@@ -160,27 +173,32 @@ module _ (A R : Ops) (h : Hom A R) where
       carry-plus A R h (scaled A c (shift A c p)) (d ∷ shift A c p)
       ∙ ap₂ (plus R) (carry-scaled A R h c (shift A c p) ∙ ap (scaled R (φ c)) (carry-shift c p)) (ap (λ (l : List K). φ d ∷ l) (carry-shift c p))
 
+  -- of all columns
   carry-shiftColumns : (c : A .K) (M : List (List (A .K))) → map (map φ) (shiftColumns A c M) ≡ shiftColumns R (φ c) (map (map φ) M)
   unfolding shiftColumns
   carry-shiftColumns c [] = refl
   carry-shiftColumns c (p ∷ M) = ap₂ (λ (r : List K) (L : List (List K)). r ∷ L) (carry-shift c p) (carry-shiftColumns c M)
 
+  -- sums
   carry-plusColumns : (M N : List (List (A .K))) → map (map φ) (plusColumns A M N) ≡ plusColumns R (map (map φ) M) (map (map φ) N)
   unfolding plusColumns
   carry-plusColumns [] N = refl
   carry-plusColumns (p ∷ M) [] = refl
   carry-plusColumns (p ∷ M) (q ∷ N) = ap₂ (λ (r : List K) (L : List (List K)). r ∷ L) (carry-plus A R h p q) (carry-plusColumns M N)
 
+  -- y M
   carry-timesY : (M : List (List (A .K))) → map (map φ) (timesY A M) ≡ timesY R (map (map φ) M)
   unfolding timesY
   carry-timesY [] = refl
   carry-timesY (p ∷ M) = ap₂ (λ (x : K) (L : List (List K)). (x ∷ map φ p) ∷ L) φ-zero (carry-timesY M)
 
+  -- p(x y)
   carry-diagonal : (p : List (A .K)) → map (map φ) (diagonal A p) ≡ diagonal R (map φ p)
   unfolding diagonal
   carry-diagonal [] = refl
   carry-diagonal (c ∷ p) = ap (λ (L : List (List K)). (φ c ∷ []) ∷ L) (carry-timesY (diagonal A p) ∙ ap (timesY R) (carry-diagonal p))
 
+  -- M(x, x y)
   carry-spread : (M : List (List (A .K))) → map (map φ) (spread A M) ≡ spread R (map (map φ) M)
   unfolding spread
   carry-spread [] = refl
@@ -192,9 +210,3 @@ module _ (A R : Ops) (h : Hom A R) where
   pub carry-substitute : (c : A .K) (M : List (List (A .K))) → map (map φ) (substitute A c M) ≡ substitute R (φ c) (map (map φ) M)
   unfolding substitute
   carry-substitute c M = carry-spread (shiftColumns A c M) ∙ ap (spread R) (carry-shiftColumns c M)
-
-  -- and M(0, y)
-  pub carry-first : (M : List (List (A .K))) → map φ (first A M) ≡ first R (map (map φ) M)
-  unfolding first
-  carry-first [] = refl
-  carry-first (p ∷ M) = refl

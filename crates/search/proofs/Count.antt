@@ -47,12 +47,14 @@ unfoldable pub zerosBefore : List ℕ → ℕ
 zerosBefore [] = 0
 zerosBefore (c ∷ p) = cond (eqb c 0) (suc (zerosBefore p)) 0
 
+-- they are zero
 zeros-before : (p : List ℕ) (k : ℕ) → k < zerosBefore p → getD p k 0 ≡ 0
 unfolding zerosBefore
 zeros-before [] k h = refl
 zeros-before (c ∷ p) zero h = split (eqb c 0) (λ y. eqb-true c 0 y) (λ n. absurd (not-suc-le-zero (rw n at h)))
 zeros-before (c ∷ p) (suc k) h = split (eqb c 0) (λ y. zeros-before p k (le-of-suc-le-suc (rw y at h))) (λ n. absurd (not-suc-le-zero (rw n at h)))
 
+-- and the entry after them is not
 other-after : (p : List ℕ) → isZero p ≡ false → getD p (zerosBefore p) 0 ≡ 0 → ⊥
 unfolding zerosBefore isZero
 other-after [] e = λ _. true≢false e
@@ -72,14 +74,17 @@ strip-first A n (suc j) (p ∷ M) t e =
 
 -- no more rows than prefixes of their length
 module _ (C : Code) where
+  -- of one symbol
   branch-length : (b : Bool) (c : ℕ) (L : List (List ℕ)) (n : ℕ) → length L ≤ n → length (cond b (map (λ (f : List ℕ). c ∷ f) L) []) ≤ cond b n 0
   branch-length true c L n h = rw (length-map L (λ (f : List ℕ). c ∷ f)) h
   branch-length false c L n h = omega arith
 
+  -- with no level left there is at most one
   one-row : (b : Bool) → length (cond {A = List (List ℕ)} b ([] ∷ []) []) ≤ 1
   one-row true = omega arith
   one-row false = omega arith
 
+  -- of all
   pub rows-at-most-prefixes : (k : ℕ) (M : List (List ℕ)) → length (search C k M) ≤ prefixes C k M
   unfolding prefixes
   rows-at-most-prefixes zero M = rw (search-zero C M) (one-row (constantsZero M))
@@ -117,6 +122,7 @@ module _ (C : Code) (F : FieldOf C) where
               ∙ ap (F .element) (zeros-before (shift (numbers C) c p) k l) ∙ element-zero C F))) ∙ z))
         ]
       where
+        -- different symbols are different elements
         apart : (i j : ℕ) → i < j → j < C .symbols → F .element i ≢ F .element j
         apart i j h k e =
             let f : i ≡ j = sym (F .number-element i (omega arith)) ∙ ap (F .number .φ) e ∙ F .number-element j k in
@@ -151,10 +157,12 @@ module _ (C : Code) (F : FieldOf C) where
         (not-isZero (getD (substitute (numbers C) c M) m []) m (λ w. other-after (shift (numbers C) c p) (shift-nonzero p (first-symbols C M s) z c hc) (sym e ∙ w))) in
         (rw (zero-add m) at (r .0), r .1)
 
+    -- a symbol that is gone on with has multiplicity 1 or more
     begins-positive : (c : ℕ) → c < C .symbols → begins C c M ≡ true → 1 ≤ multiplicityOf c (first (numbers C) M)
     unfolding begins
     begins-positive c hc b = multiplicity-positive (first (numbers C) M) (first-symbols C M s) z c hc (eqb-true (value (numbers C) c (first (numbers C) M)) 0 b)
 
+    -- what is not gone on with counts nothing
     cond-le : (b : Bool) (g n : ℕ) → (b ≡ true → g ≤ n) → cond b g 0 ≤ n
     cond-le true g n h = h refl
     cond-le false g n h = omega arith
@@ -193,6 +201,7 @@ module _ (C : Code) (F : FieldOf C) where
       omega arith) in
       omega arith
 
+  -- a prefix and those below it
   one-level-more : (k m n : ℕ) → 1 ≤ m → n ≤ k * m → suc n ≤ suc k * m
   one-level-more k m n h l = rw (suc-mul k m) (omega arith)
 

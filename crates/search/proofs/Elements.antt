@@ -41,12 +41,15 @@ abbrev pub SymbolColumns : Code → List (List ℕ) → Type 0
 SymbolColumns C M = (a : ℕ) → Symbols C (getD M a [])
 
 module _ (C : Code) (F : FieldOf C) where
+  -- the operations on numbers
   abbrev N : Ops
   N = numbers C
 
+  -- the operations on elements
   abbrev G : Ops
   G = F .ring .ops
 
+  -- the number of an element
   abbrev φ : G .K → ℕ
   φ = F .number .φ
 
@@ -54,6 +57,7 @@ module _ (C : Code) (F : FieldOf C) where
   abbrev pub columnElements : List (List ℕ) → List (List (F .ring .ops .K))
   columnElements M = map (elements C F) M
 
+  -- the element of 0
   pub element-zero : F .element 0 ≡ F .ring .ops .o
   element-zero = ap (F .element) (sym (F .number .φ-zero)) ∙ F .element-number (G .o)
 
@@ -73,30 +77,37 @@ module _ (C : Code) (F : FieldOf C) where
   pub zero-element : (a : ℕ) → a < C .symbols → F .element a ≡ F .ring .ops .o → a ≡ 0
   zero-element a h e = sym (F .number-element a h) ∙ ap φ e ∙ F .number .φ-zero
 
+  -- a list of zeros is one of zero elements
   pub elements-zero : (p : List ℕ) → isZero p ≡ true → Zero (F .ring .ops) (elements C F p)
   elements-zero p z t = element-at p t ∙ ap (F .element) (zeros-of-isZero p z t) ∙ element-zero
 
+  -- and the other way round
   pub zero-elements : (p : List ℕ) → Symbols C p → Zero (F .ring .ops) (elements C F p) → isZero p ≡ true
   zero-elements p s z = isZero-of-zeros p (λ t. zero-element (getD p t 0) (s t) (sym (element-at p t) ∙ z t))
 
+  -- from elements to numbers and back
   elements-numbers : (l : List (G .K)) → elements C F (map φ l) ≡ l
   elements-numbers [] = refl
   elements-numbers (x ∷ l) = ap₂ (λ (y : G .K) (k : List (G .K)). y ∷ k) (F .element-number x) (elements-numbers l)
 
+  -- of columns
   columnElements-numbers : (M : List (List (G .K))) → columnElements (map (map φ) M) ≡ M
   columnElements-numbers [] = refl
   columnElements-numbers (p ∷ M) = ap₂ (λ (q : List (G .K)) (L : List (List (G .K))). q ∷ L) (elements-numbers p) (columnElements-numbers M)
 
+  -- from symbols to elements and back
   numbers-columnElements : (M : List (List ℕ)) → SymbolColumns C M → map (map φ) (columnElements M) ≡ M
   numbers-columnElements [] s = refl
   numbers-columnElements (p ∷ M) s =
       ap₂ (λ (q : List ℕ) (L : List (List ℕ)). q ∷ L) (numbers-elements C F p (s zero)) (numbers-columnElements M (λ a. s (suc a)))
 
+  -- the numbers of elements are symbols
   number-symbols : (l : List (G .K)) → Symbols C (map φ l)
   number-symbols [] j = zero-symbol C F
   number-symbols (x ∷ l) zero = F .number-symbol x
   number-symbols (x ∷ l) (suc j) = number-symbols l j
 
+  -- of columns
   number-columns : (M : List (List (G .K))) → SymbolColumns C (map (map φ) M)
   number-columns [] a = λ j. zero-symbol C F
   number-columns (p ∷ M) zero = number-symbols p
@@ -128,6 +139,7 @@ module _ (C : Code) (F : FieldOf C) where
       ∙ F .element-number (getD (shift G (F .element c) (elements C F p)) n (G .o)))
 
   module _ (c : ℕ) (hc : c < C .symbols) (M : List (List ℕ)) (s : SymbolColumns C M) where
+    -- M(x, x y + c) of the numbers
     number-substitute : substitute N c M ≡ map (map φ) (substitute G (F .element c) (columnElements M))
     number-substitute =
         sym (carry-substitute G N (F .number) (F .element c) (columnElements M) ∙ ap₂ (substitute N) (F .number-element c hc) (numbers-columnElements M s))
@@ -150,6 +162,7 @@ module _ (C : Code) (F : FieldOf C) where
         ∙ sym (number-at (shift G (F .element c) (elements C F (getD M u []))) t)
         ∙ ap (λ (l : List ℕ). getD l t 0) (number-shift c hc (getD M u []) (s u))
       where
+        -- the number of a coefficient
         coefficient-number : (L : List (List (G .K))) (a b : ℕ) → coefficient N (map (map φ) L) a b ≡ φ (coefficient G L a b)
         coefficient-number [] a b = sym (F .number .φ-zero)
         coefficient-number (p ∷ L) zero b = number-at p b

@@ -31,19 +31,21 @@ use Rattle.search.proofs.Values.{value-same}
 
 -- ---- the test of the last level
 
+-- what it says of each column
 constants-at : (M : List (List ℕ)) → constantsZero M ≡ true → (s : ℕ) → getD (getD M s []) 0 0 ≡ 0
 unfolding constantsZero
 constants-at [] e s = refl
 constants-at (p ∷ M) e zero = eqb-true (getD p 0 0) 0 (both (eqb (getD p 0 0) 0) (constantsZero M) e .0)
 constants-at (p ∷ M) e (suc s) = constants-at M (both (eqb (getD p 0 0) 0) (constantsZero M) e .1) s
 
-pub at-constants : (M : List (List ℕ)) → ((s : ℕ) → getD (getD M s []) 0 0 ≡ 0) → constantsZero M ≡ true
+-- and the other way round
+at-constants : (M : List (List ℕ)) → ((s : ℕ) → getD (getD M s []) 0 0 ≡ 0) → constantsZero M ≡ true
 unfolding constantsZero
 at-constants [] h = refl
 at-constants (p ∷ M) h = rw (eq-eqb (getD p 0 0) 0 (h zero)) (at-constants M (λ s. h (suc s)))
 
 -- it sees only the constants of the columns
-pub constants-same : (M L : List (List ℕ)) → ((s : ℕ) → getD (getD M s []) 0 0 ≡ getD (getD L s []) 0 0) → constantsZero M ≡ constantsZero L
+constants-same : (M L : List (List ℕ)) → ((s : ℕ) → getD (getD M s []) 0 0 ≡ getD (getD L s []) 0 0) → constantsZero M ≡ constantsZero L
 constants-same M L h =
     equal-tests (constantsZero M) (constantsZero L) (λ e. at-constants L (λ s. sym (h s) ∙ constants-at M e s))
     (λ e. at-constants M (λ s. h s ∙ constants-at L e s))
@@ -58,6 +60,7 @@ constants-strip (p ∷ M) =
     (λ e. at-constants M (λ s. constants-at (p ∷ M) e (suc s))))
     (λ n. ap constantsZero (strip-no p M n))
   where
+    -- a column more
     more : (p : List ℕ) (M : List (List ℕ)) → getD p 0 0 ≡ 0 → ((s : ℕ) → getD (getD M s []) 0 0 ≡ 0) → (s : ℕ) → getD (getD (p ∷ M) s []) 0 0 ≡ 0
     more p M z f zero = z
     more p M z f (suc s) = f s
@@ -83,10 +86,12 @@ module _ (C : Code) where
   zero-same : (p q : List ℕ) → ((n : ℕ) → getD p n 0 ≡ getD q n 0) → isZero p ≡ true → isZero q ≡ true
   zero-same p q h e = isZero-of-zeros q (λ n. sym (h n) ∙ zeros-of-isZero p e n)
 
+  -- the empty list is zero
   nil-zero : isZero [] ≡ true
   unfolding isZero
   nil-zero = refl
 
+  -- columns with the same coefficients are stripped alike
   pub strip-same : (M L : List (List ℕ)) → Same C M L → Same C (strip M) (strip L)
   strip-same [] [] h s t = refl
   strip-same [] (q ∷ L) h s t =
@@ -110,9 +115,11 @@ module _ (C : Code) where
       split (isZero p) (λ y. rw (strip-yes p M y) (under-strip v D M (λ s t l. u (suc s) t (omega arith)))) (λ n. rw (strip-no p M n) u)
 
 module _ (C : Code) (F : FieldOf C) where
+  -- the operations on numbers
   abbrev N : Ops
   N = numbers C
 
+  -- a value sees only coefficients
   value-sees : (c : ℕ) → c < C .symbols → (p q : List ℕ) → Symbols C p → Symbols C q → ((n : ℕ) → getD p n 0 ≡ getD q n 0)
       → value N c p ≡ value N c q
   value-sees c hc p q sp sq e =
@@ -121,9 +128,11 @@ module _ (C : Code) (F : FieldOf C) where
       (λ n. element-at C F p n ∙ ap (F .element) (e n) ∙ sym (element-at C F q n)))
       ∙ number-value C F (F .element c) q sq ∙ ap (λ (x : ℕ). value N x q) (F .number-element c hc)
 
+  -- the coefficients of M(0, y)
   first-at : (M : List (List ℕ)) (t : ℕ) → getD (first N M) t 0 ≡ coefficient N M zero t
   first-at M t = ap (λ (p : List ℕ). getD p t 0) (sym (first-column N M))
 
+  -- so does the test of a symbol
   begins-same : (c : ℕ) → c < C .symbols → (M L : List (List ℕ)) → SymbolColumns C M → SymbolColumns C L → Same C M L → begins C c M ≡ begins C c L
   unfolding begins
   begins-same c hc M L sM sL h =
@@ -137,6 +146,7 @@ module _ (C : Code) (F : FieldOf C) where
       let e : s ≡ s - t + t = omega arith in
       ap (λ (w : ℕ). coefficient N (substitute N c M) w t) e ∙ substitute-coefficient C F c hc M sM (s - t) t
 
+  -- and substitution
   substitute-same : (c : ℕ) → c < C .symbols → (M L : List (List ℕ)) → SymbolColumns C M → SymbolColumns C L → Same C M L
       → Same C (substitute N c M) (substitute N c L)
   substitute-same c hc M L sM sL h s t =
@@ -163,6 +173,7 @@ module _ (C : Code) (F : FieldOf C) where
 
   -- ---- the degree
 
+  -- a part of symbols
   pub take-symbols : (t : ℕ) (p : List ℕ) → Symbols C p → Symbols C (take t p)
   take-symbols zero p s j = zero-symbol C F
   take-symbols (suc t) [] s j = zero-symbol C F
@@ -175,6 +186,7 @@ module _ (C : Code) (F : FieldOf C) where
       shift-sees C F c hc p (take t p) s (take-symbols t p s) cut t
       ∙ List·getD-eq-default (shift N c (take t p)) 0 (le-trans (length-shift N c (take t p)) (take-short t p))
     where
+      -- what is cut off is zero
       cut : (n : ℕ) → getD p n 0 ≡ getD (take t p) n 0
       cut n =
           elim (decLt n t) [
@@ -182,6 +194,7 @@ module _ (C : Code) (F : FieldOf C) where
             | no m ↦ let l : t ≤ n = omega arith in h n l ∙ sym (List·getD-eq-default (take t p) 0 (le-trans (take-short t p) l))
           ]
 
+  -- substitution keeps the degree in y
   low-substitute : (c : ℕ) → c < C .symbols → (h : ℕ) (M : List (List ℕ)) → SymbolColumns C M → Low C h M → Low C h (substitute N c M)
   low-substitute c hc h M sM w s t l =
       elim (decLt s t) [
@@ -189,6 +202,7 @@ module _ (C : Code) (F : FieldOf C) where
         | no n ↦ substitute-cell c hc M sM s t (omega arith) ∙ shift-degree c hc (getD M (s - t) []) (sM (s - t)) t (λ n m. w (s - t) n (le-trans l m))
       ]
 
+  -- what y weighs less, x y + c weighs more
   weights : (s t n v : ℕ) → t ≤ s → t ≤ n → s + v * t ≤ s - t + suc v * n
   weights s t n v p q = let e = mul-le-mul-left v q in rw (suc-mul v n) (omega arith)
 
@@ -215,18 +229,23 @@ module _ (C : Code) (F : FieldOf C) where
   module _ (h D : ℕ) (pos : 1 ≤ h) (c : ℕ) (hc : c < C .symbols) (l x r : List ℕ) (sl : Symbols C l) (sx : Symbols C x) (sr : Symbols C r)
       (holds : (s t : ℕ) → s < D + 1 → t < h → getD x (s * h + t) 0 ≡ coefficient (numbers C) (substitute (numbers C) c (columns (numbers C) h (D + 1) l)) s t)
       (freed : Same C (columns (numbers C) h (D + 1) r) (strip (columns (numbers C) h (D + 1) x))) where
+    -- the polynomial
     abbrev M : List (List ℕ)
     M = columns N h (D + 1) l
 
+    -- what is substituted
     abbrev X : List (List ℕ)
     X = columns N h (D + 1) x
 
+    -- and freed
     abbrev R : List (List ℕ)
     R = columns N h (D + 1) r
 
+    -- its entries are symbols
     sM : SymbolColumns C M
     sM = columns-symbols C (zero-symbol C F) h (D + 1) l sl
 
+    -- so are those of what is handed on
     sR : SymbolColumns C R
     sR = columns-symbols C (zero-symbol C F) h (D + 1) r sr
 

@@ -53,6 +53,7 @@ zero-first A (p ∷ M) z a b =
     split (isZero p) (λ y. all p M a b y (zero-first A M (rw (strip-yes p M y) at z)))
     (λ n. absurd (true≢false (sym (rw (strip-no p M n) at z) ∙ n)))
   where
+    -- a column of zeros more
     all : (p : List ℕ) (M : List (List ℕ)) (a b : ℕ) → isZero p ≡ true → ((a b : ℕ) → coefficient (numbers A) M a b ≡ 0)
         → coefficient (numbers A) (p ∷ M) a b ≡ 0
     all p M zero b y f = zeros-of-isZero p y b
@@ -75,6 +76,7 @@ module _ (C : Code) where
   set-symbols (x ∷ l) (suc i) c h s zero = s zero
   set-symbols (x ∷ l) (suc i) c h s (suc j) = set-symbols l i c h (λ k. s (suc k)) j
 
+  -- or a list of them
   pub loaded-symbols : (h : ℕ) (q : List ℕ) (L : List (ℕ × ℕ)) (l : List ℕ) → Symbols C q → Symbols C l → Symbols C (loaded (numbers C) h q L l)
   unfolding loaded
   loaded-symbols h [] L l s z = z
@@ -94,27 +96,33 @@ module _ (C : Code) where
       ]
 
 module _ (C : Code) (F : FieldOf C) where
+  -- the operations on elements
   abbrev G : Ops
   G = F .ring .ops
 
+  -- the operations on numbers
   abbrev N : Ops
   N = numbers C
 
+  -- the elements of a part
   take-elements : (h : ℕ) (l : List ℕ) → elements C F (take h l) ≡ take h (elements C F l)
   take-elements zero l = refl
   take-elements (suc h) [] = refl
   take-elements (suc h) (x ∷ l) = ap (λ (k : List (G .K)). F .element x ∷ k) (take-elements h l)
 
+  -- of the rest
   drop-elements : (h : ℕ) (l : List ℕ) → elements C F (drop h l) ≡ drop h (elements C F l)
   drop-elements zero l = refl
   drop-elements (suc h) [] = refl
   drop-elements (suc h) (x ∷ l) = drop-elements h l
 
+  -- of a list with one put into it
   set-elements : (l : List ℕ) (i c : ℕ) → elements C F (set l i c) ≡ set (elements C F l) i (F .element c)
   set-elements [] i c = refl
   set-elements (x ∷ l) zero c = refl
   set-elements (x ∷ l) (suc i) c = ap (λ (k : List (G .K)). F .element x ∷ k) (set-elements l i c)
 
+  -- of an array
   columns-elements : (h w : ℕ) (l : List ℕ) → columnElements C F (columns N h w l) ≡ columns G h w (elements C F l)
   unfolding columns
   columns-elements h zero l = refl
@@ -122,6 +130,7 @@ module _ (C : Code) (F : FieldOf C) where
       ap₂ (λ (p : List (G .K)) (L : List (List (G .K))). p ∷ L) (take-elements h l)
       (columns-elements h w (drop h l) ∙ ap (columns G h w) (drop-elements h l))
 
+  -- of a loaded array
   loaded-elements : (h : ℕ) (q : List ℕ) (L : List (ℕ × ℕ)) (l : List ℕ) → elements C F (loaded N h q L l) ≡ loaded G h (elements C F q) L (elements C F l)
   unfolding loaded
   loaded-elements h [] L l = refl
@@ -137,6 +146,7 @@ module _ (C : Code) (F : FieldOf C) where
         let b : m .1 ≤ D / v = (le-div-iff-mul-le pos) .1 (omega arith) in
         (omega arith, omega arith)
 
+    -- zeros stand for zero elements
     zero-elements-at : (j : ℕ) → getD (elements C F (zeros n)) j (G .o) ≡ G .o
     zero-elements-at j = element-at C F (zeros n) j ∙ ap (F .element) (zeros-at n j) ∙ element-zero C F
 
@@ -180,6 +190,7 @@ module _ (C : Code) (F : FieldOf C) where
           | no m ↦ columns-beyond N (D / v + 1) (D + 1) (loaded N (D / v + 1) q (monomials v D) (zeros n)) a b (omega arith)
         ]
 
+    -- its entries are symbols
     grid-symbols : SymbolColumns C (grid C n v D q)
     grid-symbols =
         columns-symbols C (zero-symbol C F) (D / v + 1) (D + 1) (loaded N (D / v + 1) q (monomials v D) (zeros n))
@@ -196,6 +207,7 @@ module _ (C : Code) (F : FieldOf C) where
       λ r. compose-zero C F f q (monomials v D) sf s (λ t. sym (along-grid f t) ∙ strip-root C F f (grid C n v D q) r t),
     )
 
+    -- also when it is stripped
     stripped-symbols : SymbolColumns C (strip (grid C n v D q))
     stripped-symbols = strip-symbols C (grid C n v D q) grid-symbols
 
@@ -215,6 +227,7 @@ module _ (C : Code) (F : FieldOf C) where
           ∙ zero-first C (grid C n v D q) y a b))) ∙ z)))
           (λ e. e)
 
+      -- its first column is of its height
       first-short : length (first N (strip (grid C n v D q))) ≤ suc (D / v)
       first-short =
           let h = strip-height C (D / v + 1) (D + 1) (loaded N (D / v + 1) q (monomials v D) (zeros n)) in
@@ -228,6 +241,7 @@ module _ (C : Code) (F : FieldOf C) where
       pub prefixes-in-all : (k : ℕ) → allPrefixes C k (strip (grid C n v D q)) ≤ k * (D / v)
       prefixes-in-all k = all-prefixes-at-most C F k (D / v) (strip (grid C n v D q)) stripped-symbols first-nonzero first-short
 
+      -- so there are at most as many rows
       rows-at-most : (k : ℕ) → length (search C (suc k) (strip (grid C n v D q))) ≤ D / v
       rows-at-most k = le-trans (rows-at-most-prefixes C (suc k) (strip (grid C n v D q))) (prefixes-at-each-level k)
 

@@ -46,24 +46,29 @@ equal-tests false false f g = refl
 
 -- ---- strip
 
+-- of no columns
 pub strip-nil : strip [] ≡ []
 unfolding strip
 strip-nil = refl
 
+-- a first column of zeros is left out
 pub strip-yes : (p : List ℕ) (M : List (List ℕ)) → isZero p ≡ true → strip (p ∷ M) ≡ strip M
 unfolding strip
 strip-yes p M e = rw e
 
+-- another one stays
 pub strip-no : (p : List ℕ) (M : List (List ℕ)) → isZero p ≡ false → strip (p ∷ M) ≡ p ∷ M
 unfolding strip
 strip-no p M e = rw e
 
 module _ (C : Code) where
+  -- the entries stay symbols
   pub strip-symbols : (M : List (List ℕ)) → SymbolColumns C M → SymbolColumns C (strip M)
   strip-symbols [] s = rw strip-nil s
   strip-symbols (p ∷ M) s =
       split (isZero p) (λ y. rw (strip-yes p M y) (strip-symbols M (λ a. s (suc a)))) (λ n. rw (strip-no p M n) s)
 
+  -- also those of M(0, y)
   pub first-symbols : (M : List (List ℕ)) → SymbolColumns C M → Symbols C (first (numbers C) M)
   first-symbols M s = subst (Symbols C) (first-column (numbers C) M) (s zero)
 
@@ -71,10 +76,12 @@ module _ (C : Code) where
   abbrev pub branch : ℕ → List (List ℕ) → ℕ → List (List ℕ)
   branch k M c = cond (begins C c M) (map (λ (f : List ℕ). c ∷ f) (search C k (next C c M))) []
 
+  -- with no level left
   pub search-zero : (M : List (List ℕ)) → search C 0 M ≡ cond (constantsZero M) ([] ∷ []) []
   unfolding search
   search-zero M = refl
 
+  -- one symbol after the other
   pub search-suc : (k : ℕ) (M : List (List ℕ)) → search C (suc k) M ≡ flatMap (branch k M) (below (C .symbols))
   unfolding search
   search-suc k M = refl
@@ -92,6 +99,7 @@ module _ (C : Code) (F : FieldOf C) where
       (λ y. rw (strip-yes p M y) (root-strip f M (root-freed (F .ring) (elements C F f) (elements C F p) (columnElements C F M) (elements-zero C F p y) r)))
       (λ n. rw (strip-no p M n) r)
 
+  -- and adds none
   pub strip-root : (f : List ℕ) (M : List (List ℕ)) → IsRoot (strip M) f → IsRoot M f
   strip-root f [] r = rw strip-nil at r
   strip-root f (p ∷ M) r =
@@ -109,6 +117,7 @@ module _ (C : Code) (F : FieldOf C) where
   constants-root (p ∷ M) e (suc n) =
       empty-next (F .ring) (elements C F p) (columnElements C F M) n ∙ constants-root M (both (eqb (getD p 0 0) 0) (constantsZero M) e .1) n
 
+  -- and the other way round
   root-constants : (M : List (List ℕ)) → SymbolColumns C M → IsRoot M [] → constantsZero M ≡ true
   unfolding constantsZero
   root-constants [] s r = refl
@@ -126,6 +135,7 @@ module _ (C : Code) (F : FieldOf C) where
         (subst (λ (L : List (List (F .ring .ops .K))). Root (F .ring) L (elements C F f)) (sym (substitute-elements C F c hc M s))
         (root-rest (F .ring) (F .element c) (elements C F f) (columnElements C F M) r))
 
+    -- and the other way round
     pub next-root : (f : List ℕ) → IsRoot (next C c M) f → IsRoot M (c ∷ f)
     next-root f r =
         rest-root (F .ring) (F .element c) (elements C F f) (columnElements C F M)
@@ -143,6 +153,7 @@ module _ (C : Code) (F : FieldOf C) where
         (ap (value (F .ring .ops) (F .element c)) (sym (first-elements C F M)) ∙ root-first (F .ring) (F .element c) (elements C F f) (columnElements C F M) r)
         ∙ F .number .φ-zero)
 
+    -- what is handed on is of symbols
     pub next-symbols : SymbolColumns C (next C c M)
     next-symbols = strip-symbols C (substitute (numbers C) c M) (substitute-symbols C F c hc M s)
 
@@ -150,6 +161,7 @@ module _ (C : Code) (F : FieldOf C) where
   abbrev pub Decides : (List ℕ → Bool) → List (List ℕ) → Type 0
   Decides t M = (f : List ℕ) → Symbols C f → (t f ≡ true → IsRoot M f) × (IsRoot M f → t f ≡ true)
 
+  -- a symbol before symbols
   cons-symbols : (c : ℕ) (f : List ℕ) → c < C .symbols → Symbols C f → Symbols C (c ∷ f)
   cons-symbols c f h s zero = h
   cons-symbols c f h s (suc j) = s j

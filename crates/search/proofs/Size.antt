@@ -20,6 +20,7 @@ module _ (v : ℕ) where
       let c : suc n * (v * suc n) ≡ suc n * (v * n) + suc n * v = (let d = mul-suc v n in let e = mul-add (suc n) v (v * n) in rw d (omega arith)) in
       rw (sum-suc (suc n) (λ (b : ℕ). v * b)) (omega arith)
 
+  -- the sum of D + 1 - v b, and that of v b
   both-sums : (D n : ℕ) → ((b : ℕ) → b < n → v * b ≤ D + 1)
       → sum n (λ (b : ℕ). D + 1 - v * b) + sum n (λ (b : ℕ). v * b) ≡ n * (D + 1)
   both-sums D zero h = rw (sum-zero (λ (b : ℕ). D + 1 - v * b), sum-zero (λ (b : ℕ). v * b)) (omega arith)

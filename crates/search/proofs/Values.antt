@@ -27,39 +27,46 @@ module _ (A R : Ring) (h : Hom (A .ops) (R .ops)) where
   valueOf x y [] = o
   valueOf x y (p ∷ M) = evaluate A R h y p ⊕ x ⊗ valueOf x y M
 
+  -- of no columns
   pub valueOf-nil : (x y : K) → valueOf x y [] ≡ o
   unfolding valueOf
   valueOf-nil x y = refl
 
+  -- of one column more
   pub valueOf-cons : (x y : K) (p : List (A .ops .K)) (M : List (List (A .ops .K))) → valueOf x y (p ∷ M) ≡ evaluate A R h y p ⊕ x ⊗ valueOf x y M
   unfolding valueOf
   valueOf-cons x y p M = refl
 
+  -- one step of Horner's rule
   shift-step : (r : K) (c d : A .ops .K) (q : List (A .ops .K)) (s : K) → evaluate A R h r q ≡ s
       → evaluate A R h r (plus (A .ops) (scaled (A .ops) c q) (d ∷ q)) ≡ φ d ⊕ (φ c ⊕ r) ⊗ s
   shift-step r c d q s e = simp (evaluate-sum, evaluate-multiple, value-cons, e, ring)
 
   -- p(y + c)
-  pub value-shift : (r : K) (c : A .ops .K) (p : List (A .ops .K)) → evaluate A R h r (shift (A .ops) c p) ≡ evaluate A R h (φ c ⊕ r) p
+  value-shift : (r : K) (c : A .ops .K) (p : List (A .ops .K)) → evaluate A R h r (shift (A .ops) c p) ≡ evaluate A R h (φ c ⊕ r) p
   unfolding shift
   value-shift r c [] = value-nil (R .ops) r ∙ sym (value-nil (R .ops) (φ c ⊕ r))
   value-shift r c (d ∷ p) =
       shift-step r c d (shift (A .ops) c p) (evaluate A R h (φ c ⊕ r) p) (value-shift r c p)
       ∙ sym (value-cons (R .ops) (φ c ⊕ r) (φ d) (map φ p))
 
+  -- one column of a sum
   plus-step : (x y : K) (p q : List (A .ops .K)) (M N T : List (List (A .ops .K))) → valueOf x y T ≡ valueOf x y M ⊕ valueOf x y N
       → valueOf x y (plus (A .ops) p q ∷ T) ≡ valueOf x y (p ∷ M) ⊕ valueOf x y (q ∷ N)
   plus-step x y p q M N T e = simp (valueOf-cons, evaluate-sum, e, ring)
 
+  -- the value of a sum
   value-plusColumns : (x y : K) (M N : List (List (A .ops .K))) → valueOf x y (plusColumns (A .ops) M N) ≡ valueOf x y M ⊕ valueOf x y N
   unfolding plusColumns
   value-plusColumns x y [] N = simp (valueOf-nil, ring)
   value-plusColumns x y (p ∷ M) [] = simp (valueOf-nil, ring)
   value-plusColumns x y (p ∷ M) (q ∷ N) = plus-step x y p q M N (plusColumns (A .ops) M N) (value-plusColumns x y M N)
 
+  -- one column of y M
   y-step : (x y a s t : K) → t ≡ y ⊗ s → φ (A .ops .o) ⊕ y ⊗ a ⊕ x ⊗ t ≡ y ⊗ (a ⊕ x ⊗ s)
   y-step x y a s t e = rw (e, φ-zero) (simp ring)
 
+  -- the value of y M
   value-timesY : (x y : K) (M : List (List (A .ops .K))) → valueOf x y (timesY (A .ops) M) ≡ y ⊗ valueOf x y M
   unfolding timesY
   value-timesY x y [] = simp (valueOf-nil, ring)
@@ -69,10 +76,12 @@ module _ (A R : Ring) (h : Hom (A .ops) (R .ops)) where
       ∙ y-step x y (evaluate A R h y p) (valueOf x y M) (valueOf x y (timesY (A .ops) M)) (value-timesY x y M)
       ∙ ap (λ (a : K). y ⊗ a) (sym (valueOf-cons x y p M))
 
+  -- one coefficient of p(x y)
   diagonal-step : (x y : K) (c : A .ops .K) (p : List (A .ops .K)) (T : List (List (A .ops .K))) → valueOf x y T ≡ y ⊗ evaluate A R h (x ⊗ y) p
       → valueOf x y ((c ∷ []) ∷ T) ≡ evaluate A R h (x ⊗ y) (c ∷ p)
   diagonal-step x y c p T e = simp (valueOf-cons, value-cons, value-nil, e, ring)
 
+  -- the value of p(x y)
   value-diagonal : (x y : K) (p : List (A .ops .K)) → valueOf x y (diagonal (A .ops) p) ≡ evaluate A R h (x ⊗ y) p
   unfolding diagonal
   value-diagonal x y [] = valueOf-nil x y ∙ sym (value-nil (R .ops) (x ⊗ y))
@@ -80,15 +89,18 @@ module _ (A R : Ring) (h : Hom (A .ops) (R .ops)) where
       diagonal-step x y c p (timesY (A .ops) (diagonal (A .ops) p))
       (value-timesY x y (diagonal (A .ops) p) ∙ ap (λ (s : K). y ⊗ s) (value-diagonal x y p))
 
+  -- one column of M(x, x y)
   spread-step : (x y : K) (p : List (A .ops .K)) (M T : List (List (A .ops .K))) → valueOf x y T ≡ valueOf x (x ⊗ y) M
       → valueOf x y (plusColumns (A .ops) (diagonal (A .ops) p) ([] ∷ T)) ≡ valueOf x (x ⊗ y) (p ∷ M)
   spread-step x y p M T e = simp (value-plusColumns, value-diagonal, valueOf-cons, value-nil, e, zero-plus)
 
+  -- the value of M(x, x y)
   value-spread : (x y : K) (M : List (List (A .ops .K))) → valueOf x y (spread (A .ops) M) ≡ valueOf x (x ⊗ y) M
   unfolding spread
   value-spread x y [] = valueOf-nil x y ∙ sym (valueOf-nil x (x ⊗ y))
   value-spread x y (p ∷ M) = spread-step x y p M (spread (A .ops) M) (value-spread x y M)
 
+  -- the value of M(x, y + c)
   value-shiftColumns : (x y : K) (c : A .ops .K) (M : List (List (A .ops .K))) → valueOf x y (shiftColumns (A .ops) c M) ≡ valueOf x (φ c ⊕ y) M
   unfolding shiftColumns
   value-shiftColumns x y c [] = valueOf-nil x y ∙ sym (valueOf-nil x (φ c ⊕ y))
@@ -105,13 +117,14 @@ module _ (A R : Ring) (h : Hom (A .ops) (R .ops)) where
   zeros-step : (r s : K) (c : A .ops .K) → c ≡ A .ops .o → s ≡ o → φ c ⊕ r ⊗ s ≡ o
   zeros-step r s c e f = rw (e, f, φ-zero) (simp ring)
 
+  -- of any length
   pub value-zeros : (r : K) (p : List (A .ops .K)) → Zero (A .ops) p → evaluate A R h r p ≡ o
   value-zeros r [] z = value-nil (R .ops) r
   value-zeros r (c ∷ p) z =
       value-cons (R .ops) r (φ c) (map φ p) ∙ zeros-step r (evaluate A R h r p) c (z zero) (value-zeros r p (λ t. z (suc t)))
 
   -- at zero it is the constant
-  pub value-at-zero : (p : List (A .ops .K)) → evaluate A R h o p ≡ φ (getD p zero (A .ops .o))
+  value-at-zero : (p : List (A .ops .K)) → evaluate A R h o p ≡ φ (getD p zero (A .ops .o))
   value-at-zero [] = value-nil (R .ops) o ∙ sym φ-zero
   value-at-zero (c ∷ p) = value-cons (R .ops) o (φ c) (map φ p) ∙ simp ring
 
@@ -120,16 +133,20 @@ module _ (A : Ring) where
 
   infixl 60 _⊕_
   infixl 70 _⊗_
+  -- zero and zero times x
   tidy : (x y : K) → o ⊕ (o ⊗ x ⊕ y) ≡ y
   tidy x y = simp ring
 
+  -- and zero times x
   tidy-first : (w x : K) → w ⊕ o ⊗ x ≡ w
   tidy-first w x = simp ring
 
+  -- f as a series, from its first coefficient on
   taylor-cons : (c : K) (p : List K) → taylor A o (c ∷ p) ≡ addS A (constant A c) (mulS A (linear A o) (taylor A o p))
   unfolding taylor
   taylor-cons c p = value-cons (Series A .ops) (linear A o) (constant A c) (map (constant A) p)
 
+  -- that of no coefficients
   taylor-nil : taylor A o [] ≡ zeroS A
   unfolding taylor
   taylor-nil = value-nil (Series A .ops) (linear A o)
@@ -164,11 +181,13 @@ module _ (A : Ring) where
   pub shift-same : (c : K) (p q : List K) → ((n : ℕ) → getD p n o ≡ getD q n o) → (n : ℕ) → getD (shift (A .ops) c p) n o ≡ getD (shift (A .ops) c q) n o
   shift-same c p q h n = sym (shift-coefficient c p n) ∙ ap (λ (s : ℕ → K). s n) (taylor-same c p q h) ∙ shift-coefficient c q n
 
+  -- values too
   pub value-same : (c : K) (p q : List K) → ((n : ℕ) → getD p n o ≡ getD q n o) → value (A .ops) c p ≡ value (A .ops) c q
   value-same c p q h = sym (taylor-zero A c p) ∙ ap (λ (s : ℕ → K). s zero) (taylor-same c p q h) ∙ taylor-zero A c q
 
   -- ---- M(x, f(x))
 
+  -- as a power series
   unfoldable pub along : List K → List (List K) → ℕ → K
   along f M = valueOf A (Series A) (constants A) (linear A o) (taylor A o f) M
 
@@ -176,10 +195,12 @@ module _ (A : Ring) where
   abbrev pub Root : List (List K) → List K → Type 0
   Root M f = (n : ℕ) → along f M n ≡ o
 
+  -- of no columns
   along-nil : (f : List K) (n : ℕ) → along f [] n ≡ o
   unfolding along
   along-nil f n = ap (λ (s : ℕ → K). s n) (valueOf-nil A (Series A) (constants A) (linear A o) (taylor A o f)) ∙ zeroS-at A n
 
+  -- of one column more
   along-cons : (f p : List K) (M : List (List K)) (n : ℕ)
       → along f (p ∷ M) n ≡ evaluate A (Series A) (constants A) (taylor A o f) p n ⊕ mulS A (linear A o) (along f M) n
   unfolding along
@@ -188,11 +209,13 @@ module _ (A : Ring) where
       ∙ addS-at A (evaluate A (Series A) (constants A) (taylor A o f) p)
       (mulS A (linear A o) (valueOf A (Series A) (constants A) (linear A o) (taylor A o f) M)) n
 
+  -- its constant is that of the first column
   along-first : (f p : List K) (M : List (List K)) → along f (p ∷ M) zero ≡ evaluate A (Series A) (constants A) (taylor A o f) p zero
   along-first f p M =
       along-cons f p M zero
       ∙ ap (λ (t : K). evaluate A (Series A) (constants A) (taylor A o f) p zero ⊕ t) (linear-mul-zero A o (along f M)) ∙ tidy-first _ (along f M zero)
 
+  -- where the first column gives nothing more, the other columns give the rest
   along-next : (f p : List K) (M : List (List K)) (n : ℕ) → evaluate A (Series A) (constants A) (taylor A o f) p (suc n) ≡ o
       → along f (p ∷ M) (suc n) ≡ along f M n
   along-next f p M n e = along-cons f p M (suc n) ∙ ap₂ _⊕_ e (linear-mul-suc A o (along f M) n) ∙ tidy (along f M (suc n)) (along f M n)
@@ -204,12 +227,15 @@ module _ (A : Ring) where
       value-substitute A (Series A) (constants A) (linear A o) (taylor A o g) c M
       ∙ ap (λ (y : ℕ → K). valueOf A (Series A) (constants A) (linear A o) y M) (sym (taylor-cons c g))
 
+  -- so of roots
   pub root-rest : (c : K) (g : List K) (M : List (List K)) → Root M (c ∷ g) → Root (substitute (A .ops) c M) g
   root-rest c g M r n = ap (λ (s : ℕ → K). s n) (along-substitute c g M) ∙ r n
 
+  -- and the other way round
   pub rest-root : (c : K) (g : List K) (M : List (List K)) → Root (substitute (A .ops) c M) g → Root M (c ∷ g)
   rest-root c g M r n = ap (λ (s : ℕ → K). s n) (sym (along-substitute c g M)) ∙ r n
 
+  -- a column of zeros gives nothing
   zeros-at : (f p : List K) → Zero (A .ops) p → (n : ℕ) → evaluate A (Series A) (constants A) (taylor A o f) p n ≡ o
   zeros-at f p z n = ap (λ (s : ℕ → K). s n) (value-zeros A (Series A) (constants A) (taylor A o f) p z) ∙ zeroS-at A n
 
@@ -217,10 +243,12 @@ module _ (A : Ring) where
   pub root-freed : (f p : List K) (M : List (List K)) → Zero (A .ops) p → Root (p ∷ M) f → Root M f
   root-freed f p M z r n = sym (along-next f p M n (zeros-at f p z (suc n))) ∙ r (suc n)
 
+  -- and the other way round
   pub freed-root : (f p : List K) (M : List (List K)) → Zero (A .ops) p → Root M f → Root (p ∷ M) f
   freed-root f p M z r zero = along-first f p M ∙ zeros-at f p z zero
   freed-root f p M z r (suc n) = along-next f p M n (zeros-at f p z (suc n)) ∙ r n
 
+  -- the constant of a value
   value-first : (y : ℕ → K) (p : List K) → evaluate A (Series A) (constants A) y p zero ≡ value (A .ops) (y zero) p
   value-first y [] = ap (λ (s : ℕ → K). s zero) (value-nil (Series A .ops) y) ∙ zeroS-at A zero ∙ sym (value-nil (A .ops) (y zero))
   value-first y (d ∷ p) =
@@ -241,11 +269,14 @@ module _ (A : Ring) where
   nil-value : (p : List K) → evaluate A (Series A) (constants A) (taylor A o []) p ≡ constant A (getD p zero o)
   nil-value p = ap (λ (y : ℕ → K). evaluate A (Series A) (constants A) y p) taylor-nil ∙ value-at-zero A (Series A) (constants A) p
 
+  -- the constant is that of the first column
   pub empty-first : (p : List K) (M : List (List K)) → along [] (p ∷ M) zero ≡ getD p zero o
   empty-first p M = along-first [] p M ∙ ap (λ (s : ℕ → K). s zero) (nil-value p) ∙ constant-zero A (getD p zero o)
 
+  -- the rest is that of the other columns
   pub empty-next : (p : List K) (M : List (List K)) (n : ℕ) → along [] (p ∷ M) (suc n) ≡ along [] M n
   empty-next p M n = along-next [] p M n (ap (λ (s : ℕ → K). s (suc n)) (nil-value p) ∙ constant-suc A (getD p zero o) n)
 
+  -- no columns have the root
   pub empty-root : Root [] []
   empty-root = along-nil []

@@ -27,23 +27,27 @@ use Rattle.substitution.specs.Array.{passed}
 
 -- ---- the value of the first column
 
+-- before Horner's first step
 pub no-value : (p : List ℕ) (h g : ℕ) → h ≤ length p → 0 ≡ value (numbers sixteen) g (drop h (take h p))
 no-value p h g l =
     let n = length-take-le h p l in
     let e : length (take h p) ≤ h = omega arith in
     sym (ap (value (numbers sixteen) g) (drop-of-length-le (take h p) e) ∙ value-nil (numbers sixteen) g)
 
+-- Horner's step
 pub first-value-more : (p : List ℕ) (h g b y x : ℕ) → 0 < b → b ≤ h → h ≤ length p → y ≡ value (numbers sixteen) g (drop b (take h p))
     → x ≡ sixteen .times g y → bitXor (getD p (b - 1) 0) x ≡ value (numbers sixteen) g (drop (b - 1) (take h p))
 first-value-more p h g b y x pos l k ey ex =
     let n = length-take-le h p k in
     ap (λ (z : ℕ). bitXor z x) (sym (getD-take h p (b - 1) 0 (omega arith))) ∙ value-more g (take h p) b y x pos (omega arith) ey ex
 
+-- what it has come to is a symbol
 pub first-value-symbol : (p : List ℕ) (h g b y : ℕ) → g < 16 → Symbols sixteen p → y ≡ value (numbers sixteen) g (drop b (take h p)) → y < 16
 first-value-symbol p h g b y hg s e = value-so-far g (take h p) b y hg (take-symbols sixteen sixteen-field h p s) e
 
 -- ---- entries copied to the front of zeros
 
+-- one entry more
 pub copied-more : (p rest now : List ℕ) (from b : ℕ) → from + b < length p → b < length rest → now ≡ take b (drop from p) ++ drop b rest
     → set now b (getD p (from + b) 0) ≡ take (b + 1) (drop from p) ++ drop (b + 1) rest
 copied-more p rest now from b h k e =
@@ -62,12 +66,14 @@ copied-front p rest r from h l e =
 
 -- ---- a pass of the shift
 
+-- to an entry c times the next is added
 two-entries : (c x y : ℕ) (q : List ℕ)
     → plus (numbers sixteen) (scaled (numbers sixteen) c (y ∷ q)) (x ∷ y ∷ q)
     ≡ sumOf (sixteen .times c y) x ∷ plus (numbers sixteen) (scaled (numbers sixteen) c q) (y ∷ q)
 unfolding plus scaled
 two-entries c x y q = refl
 
+-- one entry of a pass
 passed-step : (c b : ℕ) (p : List ℕ) → suc b < length p
     → passed c b p ≡ passed c (suc b) (set p b (sumOf (sixteen .times c (getD p (suc b) 0)) (getD p b 0)))
 unfolding passed
@@ -82,6 +88,7 @@ passed-step c b p h =
     ∙ ap₂ (λ (u w : List ℕ). take (suc b) (set p b x) ++ plus (numbers sixteen) (scaled (numbers sixteen) c u) w)
     (sym (drop-set-lt (suc (suc b)) p b x (omega arith))) (sym (drop-set-lt (suc b) p b x (omega arith)))
 
+-- in place
 pub passed-more : (c b h : ℕ) (t whole : List ℕ) (x : ℕ) → b < h - 1 → h ≤ length t → whole ≡ passed c b (take h t)
     → x ≡ sixteen .times c (getD t (b + 1) 0) → whole ≡ passed c (b + 1) (take h (set t b (bitXor x (getD t b 0))))
 unfolding sumOf
@@ -98,10 +105,12 @@ pub pass-symbol : (c x y z : ℕ) → x ≡ sixteen .times c y → c < 16 → y 
 unfolding sumOf
 pass-symbol c x y z e hc hy hz = plus-symbol sixteen sixteen-field x z (rw e (times-symbol sixteen sixteen-field c y hc hy)) hz
 
+-- after the last entry there is none
 none-scaled : (c : ℕ) (q : List ℕ) → plus (numbers sixteen) (scaled (numbers sixteen) c []) q ≡ q
 unfolding plus scaled
 none-scaled c q = refl
 
+-- the pass is over
 pub passed-end : (c b h : ℕ) (t whole : List ℕ) → h ≤ b + 1 → h ≤ length t → whole ≡ passed c b (take h t) → take h t ≡ whole
 unfolding passed
 passed-end c b h t whole l k e =
@@ -113,15 +122,18 @@ passed-end c b h t whole l k e =
 
 -- ---- the shift, pass by pass
 
+-- Horner's rule for p(y + c)
 shift-more : (c d : ℕ) (p : List ℕ)
     → plus (numbers sixteen) (scaled (numbers sixteen) c (shift (numbers sixteen) c p)) (d ∷ shift (numbers sixteen) c p) ≡ shift (numbers sixteen) c (d ∷ p)
 unfolding shift
 shift-more c d p = refl
 
+-- of no coefficients
 shift-none : (c : ℕ) → shift (numbers sixteen) c [] ≡ []
 unfolding shift
 shift-none c = refl
 
+-- a pass shifts one coefficient more
 one-pass : (c : ℕ) (p : List ℕ) (b : ℕ) → b < length p
     → passed c b (take (suc b) p ++ shift (numbers sixteen) c (drop (suc b) p)) ≡ take b p ++ shift (numbers sixteen) c (drop b p)
 unfolding passed
@@ -137,12 +149,14 @@ one-pass c p b h =
     ∙ ap (λ (w : List ℕ). take b p ++ plus (numbers sixteen) (scaled (numbers sixteen) c T) w) (ap (drop b) e ∙ drop-at (take b p) (d ∷ T) b n)
     ∙ ap (λ (l : List ℕ). take b p ++ l) (shift-more c d (drop (suc b) p) ∙ ap (shift (numbers sixteen) c) (sym (drop-cons p b 0 h)))
 
+-- before the first pass
 pub no-pass : (c h : ℕ) (t : List ℕ) → h ≤ length t → take h t ≡ take h (take h t) ++ shift (numbers sixteen) c (drop h (take h t))
 no-pass c h t k =
     let n = length-take-le h t k in
     let e : length (take h t) ≤ h = omega arith in
     sym (ap₂ (λ (u w : List ℕ). u ++ w) (take-all h (take h t) e) (ap (shift (numbers sixteen) c) (drop-of-length-le (take h t) e) ∙ shift-none c) ∙ append-nil (take h t))
 
+-- one pass more
 pub pass-more : (c b h : ℕ) (p t r : List ℕ) → 0 < b → b ≤ h → h ≤ length p → take h t ≡ take b (take h p) ++ shift (numbers sixteen) c (drop b (take h p))
     → take h r ≡ passed c (b - 1) (take h t) → take h r ≡ take (b - 1) (take h p) ++ shift (numbers sixteen) c (drop (b - 1) (take h p))
 pass-more c b h p t r pos l k et er =
@@ -157,11 +171,13 @@ pass-more c b h p t r pos l k et er =
 abbrev pub constantsFrom : ℕ → ℕ → List ℕ → ℕ → Bool
 constantsFrom h w p a = constantsZero (columns (numbers sixteen) h (w - a) (drop (a * h) p))
 
+-- of the first column and the others
 constants-step : (h w : ℕ) (l : List ℕ) → 0 < h
     → constantsZero (columns (numbers sixteen) h (suc w) l) ≡ (eqb (getD l 0 0) 0 && constantsZero (columns (numbers sixteen) h w (drop h l)))
 unfolding constantsZero columns
 constants-step h w l pos = ap (λ (x : ℕ). eqb x 0 && constantsZero (columns (numbers sixteen) h w (drop h l))) (getD-take h l 0 0 pos)
 
+-- of the a-th column and those after it
 constants-from : (h w : ℕ) (p : List ℕ) (a : ℕ) → 0 < h → a < w → constantsFrom h w p a ≡ (eqb (getD p (a * h) 0) 0 && constantsFrom h w p (a + 1))
 constants-from h w p a pos l =
     let e : w - a ≡ suc (w - (a + 1)) = omega arith in
@@ -171,24 +187,29 @@ constants-from h w p a pos l =
     ∙ ap₂ (λ (x : ℕ) (q : List ℕ). eqb x 0 && constantsZero (columns (numbers sixteen) h (w - (a + 1)) q))
     (getD-drop (a * h) p 0 0 ∙ ap (λ (n : ℕ). getD p n 0) z) (drop-drop h (a * h) p ∙ ap (λ (n : ℕ). drop n p) m)
 
+-- before the first column
 pub constants-begin : (h w : ℕ) (p : List ℕ) → constantsZero (columns (numbers sixteen) h w p) ≡ constantsFrom h w p 0
 constants-begin h w p =
     let e : 0 * h ≡ 0 = omega arith in
     let f : w ≡ w - 0 = omega arith in
     ap₂ (λ (n : ℕ) (q : List ℕ). constantsZero (columns (numbers sixteen) h n q)) f (ap (λ (n : ℕ). drop n p) (sym e))
 
+-- a constant other than zero
 pub constants-stop : (h w : ℕ) (p : List ℕ) (a : ℕ) (whole : Bool) → 0 < h → a < w → whole ≡ constantsFrom h w p a → (getD p (a * h) 0 ≡ 0 → ⊥) → false ≡ whole
 constants-stop h w p a whole pos l e n =
     sym (e ∙ constants-from h w p a pos l ∙ ap (λ (b : Bool). b && constantsFrom h w p (a + 1)) (ne-eqb (getD p (a * h) 0) 0 n))
 
+-- a zero
 pub constants-go-on : (h w : ℕ) (p : List ℕ) (a : ℕ) (whole : Bool) → 0 < h → a < w → whole ≡ constantsFrom h w p a → getD p (a * h) 0 ≡ 0 → whole ≡ constantsFrom h w p (a + 1)
 constants-go-on h w p a whole pos l e z =
     e ∙ constants-from h w p a pos l ∙ ap (λ (b : Bool). b && constantsFrom h w p (a + 1)) (eq-eqb (getD p (a * h) 0) 0 z)
 
+-- of no columns
 no-columns : (h : ℕ) (l : List ℕ) → constantsZero (columns (numbers sixteen) h 0 l) ≡ true
 unfolding constantsZero columns
 no-columns h l = refl
 
+-- after the last column
 pub constants-end : (h w : ℕ) (p : List ℕ) (a : ℕ) (whole : Bool) → w ≤ a → whole ≡ constantsFrom h w p a → true ≡ whole
 constants-end h w p a whole l e =
     let z : w - a ≡ 0 = omega arith in

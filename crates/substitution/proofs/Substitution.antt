@@ -32,9 +32,11 @@ use Rattle.substitution.specs.Array.{polynomial, Laid, Substituted, Free
 -- ---- a column laid
 
 module _ (h w a : ℕ) (col l : List ℕ) where
+  -- nothing laid
   pub laid-none : Laid h w a 0 col l l
   laid-none = record { hit = λ t p. absurd (not-suc-le-zero p); miss = λ s t p q n. refl }
 
+  -- one entry more
   pub laid-more : (b : ℕ) (r : List ℕ) → Laid h w a b col l r → b < h → a + b < w → w * h ≤ length r
       → Laid h w a (b + 1) col l (set r ((a + b) * h + b) (getD col b 0))
   laid-more b r d hb hw room =
@@ -68,12 +70,16 @@ module _ (h w a : ℕ) (col l : List ℕ) where
 module _ (h w c : ℕ) (p : List ℕ) where
   -- the columns before the a-th are done
   pub record Partly (a : ℕ) (q : List ℕ) : Type 0 where
+    -- what they give
     pub done : (s t : ℕ) → s < w → t < h → t ≤ s → s - t < a → getD q (s * h + t) 0 ≡ getD (shift (numbers sixteen) c (take h (drop ((s - t) * h) p))) t 0
+    -- what they do not give is zero
     pub rest : (s t : ℕ) → s < w → t < h → (t ≤ s → s - t < a → ⊥) → getD q (s * h + t) 0 ≡ 0
 
+  -- before the first column
   pub partly-none : (n : ℕ) → Partly 0 (zeros n)
   partly-none n = record { done = λ s t _ _ _ k. absurd (not-suc-le-zero k); rest = λ s t _ _ _. zeros-at n (s * h + t) }
 
+  -- one column more
   pub partly-more : (a : ℕ) (q r col : List ℕ) → Partly a q → take h col ≡ shift (numbers sixteen) c (take h (drop (a * h) p)) → Laid h w a h col q r → Partly (a + 1) r
   partly-more a q r col d e k =
       record {
@@ -89,6 +95,7 @@ module _ (h w c : ℕ) (p : List ℕ) where
             k .miss s t hs ht (λ _ g. n (omega arith) (omega arith)) ∙ d .rest s t hs ht (λ l m. n l (omega arith));
       }
 
+  -- after the last column
   pub partly-all : c < 16 → Symbols sixteen p → (q : List ℕ) → Partly w q → Substituted h w c p q
   partly-all hc sp q d s t hs ht =
       elim (decLt s t) [
@@ -103,9 +110,11 @@ module _ (h w c : ℕ) (p : List ℕ) where
 -- ---- the first coefficient other than zero
 
 module _ (p : List ℕ) (n : ℕ) where
+  -- one is found
   pub other-found : (i : ℕ) → i < n → ((j : ℕ) → j < i → isOther p j ≡ false) → (getD p i 0 ≡ 0 → ⊥) → i ≡ smallest (isOther p) n
   other-found i h f k = sym (smallest-is (isOther p) n i (omega arith) f (λ _. ap not (ne-eqb (getD p i 0) 0 k)))
 
+  -- a zero is passed
   pub zero-passed : (i : ℕ) → ((j : ℕ) → j < i → isOther p j ≡ false) → getD p i 0 ≡ 0 → (j : ℕ) → j < i + 1 → isOther p j ≡ false
   zero-passed i f z j h =
       elim (decLt j i) [
@@ -113,30 +122,37 @@ module _ (p : List ℕ) (n : ℕ) where
         | no m ↦ let e : j ≡ i = omega arith in subst (λ (x : ℕ). isOther p x ≡ false) (sym e) (ap not (eq-eqb (getD p i 0) 0 z))
       ]
 
+  -- there is none
   pub none-other : (i : ℕ) → i ≤ n → n ≤ i → ((j : ℕ) → j < i → isOther p j ≡ false) → i ≡ smallest (isOther p) n
   none-other i h l f = sym (smallest-is (isOther p) n i h f (λ k. let z : ⊥ = omega arith in absurd z))
 
 -- ---- stripping
 
+-- places add up
 add-mul : (u s h : ℕ) → (u + s) * h ≡ u * h + s * h
 add-mul zero s h = rw (zero-add s) (omega arith)
 add-mul (suc u) s h = let e = add-mul u s h in let a = suc-mul u h in let b = suc-mul (u + s) h in rw (suc-add u s) (omega arith)
 
+-- the number of columns
 columns-length : (h w : ℕ) (l : List ℕ) → length (polynomial h w l) ≡ w
 unfolding columns
 columns-length h zero l = refl
 columns-length h (suc w) l = ap suc (columns-length h w (drop h l))
 
 module _ (h w : ℕ) (pos : 0 < h) (p : List ℕ) (full : length p ≡ 512) (room : w * h ≤ 512) where
+  -- the first coefficient other than zero
   abbrev i : ℕ
   i = smallest (isOther p) (w * h)
 
+  -- its column
   abbrev u : ℕ
   u = i / h
 
+  -- that begins no later
   u-low : u * h ≤ i
   u-low = div-mul-le-self i h
 
+  -- and ends after it
   u-high : i < suc u * h
   u-high = (div-lt-iff-lt-mul pos) .0 (omega arith)
 
@@ -156,6 +172,7 @@ module _ (h w : ℕ) (pos : 0 < h) (p : List ℕ) (full : length p ≡ 512) (roo
         | no n ↦ columns-above (numbers sixteen) h w p a t (omega arith)
       ])
     where
+      -- a place before it is in a column
       inside : (a t : ℕ) → a * h + t < i → i ≤ w * h → a < w
       inside a t k s =
           elim (decLt a w) [
@@ -224,6 +241,7 @@ module _ (h w : ℕ) (pos : 0 < h) (p : List ℕ) (full : length p ≡ 512) (roo
             ∙ sym (strip-at sixteen (polynomial h w p) u before-zero first-other-column s t ∙ columns-beyond (numbers sixteen) h w p (u + s) t (omega arith))
       ]
     where
+      -- what is moved
       front : length (take (w * h - u * h) (drop (u * h) p)) ≡ w * h - u * h
       front = length-take-le (w * h - u * h) (drop (u * h) p) (rw (length-drop (u * h) p) (omega arith))
 
@@ -238,12 +256,15 @@ copied-symbols p n from size s j =
           (zero-symbol sixteen sixteen-field)
     ]
   where
+    -- what is moved
     front : List ℕ
     front = take n (drop from p)
 
+    -- and the zeros after it
     back : List ℕ
     back = drop n (zeros size)
 
+-- zeros are symbols
 pub zeros-symbols : (n : ℕ) → Symbols sixteen (zeros n)
 zeros-symbols n j = rw (zeros-at n j) (zero-symbol sixteen sixteen-field)
 
