@@ -9,7 +9,6 @@ use native.Mathlib.Omega.{arith}
 use lib.ListN.{length, take, drop, length-append}
 use Rattle.algebra.proofs.Closed.{zero-symbol}
 use Rattle.definitions.proofs.Joined.{join-nil, join-cons}
-use Rattle.definitions.proofs.Messages.{AllMessages}
 use Rattle.definitions.specs.Answers.{rowsOnto}
 use Rattle.definitions.specs.Bound.{count}
 use Rattle.definitions.specs.Code.{Symbols}

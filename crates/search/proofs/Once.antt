@@ -6,7 +6,7 @@ use mathlib.Core.List.{List, [], _∷_, List·Memᴰ}
 use mathlib.Core.Path.{_≡_}
 use Prim.Native.Nat.{ℕ, _-_, _<_}
 use lib.ListN.{length, getD}
-use Rattle.definitions.proofs.Messages.{AllMessages, Before, before-irreflexive, messages-in-order}
+use Rattle.definitions.proofs.Messages.{Before, before-irreflexive, messages-in-order}
 use Rattle.definitions.proofs.Ordered.{Ordered, ordered-once}
 use Rattle.definitions.proofs.Tools.{split, select-nil, select-yes, select-no, select-passes, select-from, select-keeps}
 use Rattle.definitions.specs.Code.{Symbols, messages}

@@ -9,7 +9,7 @@ use native.Mathlib.Decide.{decLt}
 use native.Mathlib.Nat.{le-div-iff-mul-le, le-trans}
 use native.Mathlib.Omega.{arith}
 use lib.ListN.{length, getD, take, drop, set, length-replicate, length-map}
-use Rattle.definitions.proofs.Monomials.{MonomialOrder, monomials-in-order}
+use Rattle.definitions.proofs.Monomials.{monomials-in-order}
 use Rattle.definitions.proofs.Tools.{split}
 use Rattle.definitions.specs.Bound.{count}
 use Rattle.definitions.specs.Code.{Symbols, messages}
