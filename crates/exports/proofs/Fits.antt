@@ -4,24 +4,27 @@ use mathlib.Core.Bool.{true}
 use mathlib.Core.List.{List, [], _∷_}
 use mathlib.Core.Path.{_≡_}
 use Prim.Native.Nat.{ℕ, _*_, _-_, _<_}
+use native.Mathlib.Nat.{div-le-self}
 use native.Mathlib.Omega.{arith}
 use borrow.Author.Tests.{not-false, eqb-true, ltb-true, ltb-false}
 use lib.Dec.{eqb}
 use lib.ListN.{length}
 use Rattle.algebra.proofs.Elements.{plus-symbol, times-symbol}
-use Rattle.definitions.proofs.Bound.{bound-le}
+use Rattle.definitions.proofs.Bound.{bound-le, count-above}
 use Rattle.definitions.proofs.Refusals.{none-above}
 use Rattle.definitions.proofs.Table.{Whatever, last, or, whatever, sizes-mean, size-means}
 use Rattle.definitions.proofs.Tools.{smallest-le}
-use Rattle.definitions.specs.Answers.{Answer, refused, valued, counted, costed, sumAnswer, productAnswer, inverseAnswer, encodeAnswer, multiplicitiesAnswer, costAnswer, interpolated, Interpolated, InterpolationAnswers}
-use Rattle.definitions.specs.Bound.{bound}
+use Rattle.definitions.specs.Answers.{Answer, refused, valued, counted, costed, sumAnswer, productAnswer, inverseAnswer, encodeAnswer, multiplicitiesAnswer, costAnswer, interpolated, Interpolated, InterpolationAnswers, rootsAnswer}
+use Rattle.definitions.specs.Bound.{count, bound}
 use Rattle.definitions.specs.Field.{sixteen, inverseOf}
-use Rattle.definitions.specs.Refusals.{Line, tried, sizesFit, sizeFits, noneAbove, firstAbove, badColumn, fieldTable, inverseTable, encodeTable, multiplicitiesTable, costTable, interpolationTable}
+use Rattle.definitions.specs.Refusals.{Line, tried, sizesFit, sizeFits, noneAbove, firstAbove, badColumn, fieldTable, inverseTable, encodeTable, multiplicitiesTable, costTable, interpolationTable, rootsTable}
+use Rattle.definitions.specs.Roots.{rootsOf}
 use Rattle.definitions.specs.Tools.{smallest}
 use Rattle.definitions.specs.Weights.{cost}
 use Rattle.exports.specs.Crossing.{Narrow}
 use Rattle.field.proofs.Instance.{sixteen-field}
 use Rattle.interpolation.proofs.Width.{width-fits}
+use Rattle.search.proofs.Roots.{roots-at-most}
 use Rattle.weights.proofs.Cost.{cost-small}
 
 refused-narrow : (number place : ℕ) → place < 65536 → Narrow (refused number place)
@@ -126,3 +129,19 @@ interpolation-narrow n k G m out answer after =
   where
     so : {number place : ℕ} → Narrow (refused number place) → (answer ≡ refused number place) × (after ≡ out) → Narrow answer
     so narrow-refused p = rw (p .0) narrow-refused
+
+pub roots-narrow : (D k : ℕ) (q out : List ℕ) → Narrow (rootsAnswer sixteen D k q out)
+roots-narrow D k q out =
+    narrow (counted (length (rootsOf sixteen D k q))) (rootsTable sixteen D k q (length out)) (or (λ _. at-none) (λ s.
+    let fits = size-means sixteen k (not-false (sizeFits sixteen k) s) in
+    or (λ _. at-none) (λ d.
+    let few = ltb-false 256 (count (k - 1) D) d in
+    or (λ _. at-none) (λ l.
+    let full = eqb-true (length q) (count (k - 1) D) (not-false (eqb (length q) (count (k - 1) D)) l) in
+    or (λ _. at-none) (λ _. or (at-first 15 q (omega arith)) (λ e.
+    let none = none-above 15 q (ltb-false (firstAbove 15 q) (length q) e) in
+    or (λ _. at-none) (λ z.
+    let most = roots-at-most sixteen sixteen-field k D (fits .0) q (λ j. let h = none j in omega arith) (omega arith) z in
+    let degree = count-above (k - 1) (omega arith) D in
+    let part = div-le-self D (k - 1) in
+    last (counted-narrow (length (rootsOf sixteen D k q)) (omega arith)))))))))

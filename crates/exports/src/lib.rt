@@ -2,7 +2,7 @@
 ghost use mathlib.Core.Path.{_≡_};
 ghost use Prim.Native.Nat.{_<_};
 ghost use Rattle.code.specs.Told.{toldCounted};
-ghost use Rattle.definitions.specs.Answers.{sumAnswer, productAnswer, inverseAnswer, encodeAnswer, encodeOut, multiplicitiesAnswer, multiplicitiesOut, costAnswer, InterpolationAnswers};
+ghost use Rattle.definitions.specs.Answers.{sumAnswer, productAnswer, inverseAnswer, encodeAnswer, encodeOut, multiplicitiesAnswer, multiplicitiesOut, costAnswer, InterpolationAnswers, rootsAnswer, rootsOut};
 ghost use Rattle.definitions.specs.Field.{sixteen};
 ghost use Rattle.exports.specs.Crossing.{answerOf, Narrow};
 ghost use Rattle.field.specs.Told.{toldRefusal, toldElement};
@@ -188,4 +188,12 @@ pub extern "C" fn kv_interpolate(
     ensures { λ r. ⌜ InterpolationAnswers sixteen n k limit (now (matrix .entry)) (now (out .entry)) (answerOf r) (now (out .exit)) ⌝ }
 {
     interpolated(interpolation::interpolate(n, k, limit, matrix, out))
+}
+
+#[no_mangle]
+pub extern "C" fn kv_roots(degree: usize, k: usize, coefficients: &[u8], out: &mut [u8]) -> Answer
+    ensures { λ r. ⌜ answerOf r ≡ rootsAnswer sixteen degree k (now (coefficients .entry)) (now (out .entry)) ⌝ }
+    ensures { λ _. ⌜ now (out .exit) ≡ rootsOut sixteen degree k (now (coefficients .entry)) (now (out .entry)) ⌝ }
+{
+    counted(roots::roots(degree, k, coefficients, out))
 }
