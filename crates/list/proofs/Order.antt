@@ -5,10 +5,12 @@ use mathlib.Core.List.{List}
 use mathlib.Core.Path.{_≡_, _∙_, ap}
 use Prim.Native.Nat.{ℕ, _*_, _≤_, _<_}
 use borrow.Author.Tests.{lt-ltb, le-ltb}
+use native.Mathlib.Omega.{arith}
 use lib.ListN.{length}
 use Rattle.definitions.proofs.Table.{Gives, stop, pass, Accepts, end, next, gives, accepts, sizes-given, sizes-passed, level-given, level-passed, entries-given, entries-passed, room-given, room-passed, above-given, above-passed, columns-given, columns-passed}
 use Rattle.definitions.specs.Answers.{Answer, refused, counted, rowsOnto, scoresOnto, listAnswer, listRows, listScores, readAnswer, readRows, readScores}
 use Rattle.definitions.specs.Field.{sixteen}
+use Rattle.definitions.specs.Limits.{greatestRows}
 use Rattle.definitions.specs.Listing.{listOf}
 use Rattle.definitions.specs.Refusals.{Line, tried, sizesFit, levelFits, firstAbove, badColumn, listTable, readTable}
 use Rattle.definitions.specs.Tools.{smallest}
@@ -21,14 +23,14 @@ module _ (table : List Line) (n k : ℕ) (m rows scores : List ℕ) where
   Answered answer rowsAfter scoresAfter =
       (answer ≡ tried table refused (counted (length (listOf sixteen n k m))))
       × ((rowsAfter ≡ tried table (λ _ _. rows) (rowsOnto sixteen k (listOf sixteen n k m) rows))
-      × (scoresAfter ≡ tried table (λ _ _. scores) (scoresOnto sixteen n m (listOf sixteen n k m) scores)))
+      × ((scoresAfter ≡ tried table (λ _ _. scores) (scoresOnto sixteen n m (listOf sixteen n k m) scores)) × (answer .count ≤ greatestRows)))
 
   pub refuses : {number place : ℕ} → Gives table number place → Answered (refused number place) rows scores
-  refuses g = (gives refused _ g, (gives (λ _ _. rows) _ g, gives (λ _ _. scores) _ g))
+  refuses g = (gives refused _ g, (gives (λ _ _. rows) _ g, (gives (λ _ _. scores) _ g, omega arith)))
 
   pub listed : Accepts table → (count : ℕ) (rowsAfter scoresAfter : List ℕ) → Lists n k m rows scores count rowsAfter scoresAfter → Answered (counted count) rowsAfter scoresAfter
   listed a count rowsAfter scoresAfter w =
-      (ap counted (w .counted) ∙ accepts refused _ a, (w .rows-are ∙ accepts (λ _ _. rows) _ a, w .scores-are ∙ accepts (λ _ _. scores) _ a))
+      (ap counted (w .counted) ∙ accepts refused _ a, (w .rows-are ∙ accepts (λ _ _. rows) _ a, (w .scores-are ∙ accepts (λ _ _. scores) _ a, w .few)))
 
 module _ (n k G : ℕ) (m : List ℕ) (rows scores : ℕ) where
   pub at-sizes : sizesFit sixteen n k ≡ false → Gives (listTable sixteen n k G m rows scores) 1 0

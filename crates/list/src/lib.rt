@@ -1,8 +1,10 @@
 // The list: every message whose codeword's score is above the bound, and no other.
 ghost use mathlib.Core.Path.{_≡_};
+ghost use Prim.Native.Nat.{_≤_};
 ghost use Rattle.code.specs.Told.{toldCounted};
 ghost use Rattle.definitions.specs.Answers.{listAnswer, listRows, listScores, readAnswer, readRows, readScores};
 ghost use Rattle.definitions.specs.Field.{sixteen};
+ghost use Rattle.definitions.specs.Limits.{greatestRows};
 
 pub mod inside;
 
@@ -25,6 +27,7 @@ pub fn list_of_multiplicities(
     ensures { λ r. ⌜ toldCounted r ≡ listAnswer sixteen n k limit (now (matrix .entry)) (now (rows .entry)) (now (scores .entry)) ⌝ }
     ensures { λ _. ⌜ now (rows .exit) ≡ listRows sixteen n k limit (now (matrix .entry)) (now (rows .entry)) (now (scores .entry)) ⌝ }
     ensures { λ _. ⌜ now (scores .exit) ≡ listScores sixteen n k limit (now (matrix .entry)) (now (rows .entry)) (now (scores .entry)) ⌝ }
+    ensures { λ r. ⌜ toldCounted r .count ≤ greatestRows ⌝ }
 {
     if !code::inside::sizes_fit(n, k) {
         return Counted::Refused(Refusal::Sizes);
@@ -65,6 +68,7 @@ pub fn list_of_reliabilities(
     ensures { λ r. ⌜ toldCounted r ≡ readAnswer sixteen n k level limit (now (reliabilities .entry)) (now (rows .entry)) (now (scores .entry)) ⌝ }
     ensures { λ _. ⌜ now (rows .exit) ≡ readRows sixteen n k level limit (now (reliabilities .entry)) (now (rows .entry)) (now (scores .entry)) ⌝ }
     ensures { λ _. ⌜ now (scores .exit) ≡ readScores sixteen n k level limit (now (reliabilities .entry)) (now (rows .entry)) (now (scores .entry)) ⌝ }
+    ensures { λ r. ⌜ toldCounted r .count ≤ greatestRows ⌝ }
 {
     if !code::inside::sizes_fit(n, k) {
         return Counted::Refused(Refusal::Sizes);
