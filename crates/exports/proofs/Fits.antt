@@ -3,7 +3,7 @@
 use mathlib.Core.Bool.{true}
 use mathlib.Core.List.{List, [], _∷_}
 use mathlib.Core.Path.{_≡_}
-use Prim.Native.Nat.{ℕ, _*_, _-_, _<_}
+use Prim.Native.Nat.{ℕ, _*_, _-_, _≤_, _<_}
 use native.Mathlib.Nat.{div-le-self}
 use native.Mathlib.Omega.{arith}
 use borrow.Author.Tests.{not-false, eqb-true, ltb-true, ltb-false}
@@ -14,13 +14,15 @@ use Rattle.definitions.proofs.Bound.{bound-le, count-above}
 use Rattle.definitions.proofs.Refusals.{none-above}
 use Rattle.definitions.proofs.Table.{Whatever, last, or, whatever, sizes-mean, size-means}
 use Rattle.definitions.proofs.Tools.{smallest-le}
-use Rattle.definitions.specs.Answers.{Answer, refused, valued, counted, costed, sumAnswer, productAnswer, inverseAnswer, encodeAnswer, multiplicitiesAnswer, costAnswer, interpolated, Interpolated, InterpolationAnswers, rootsAnswer}
+use Rattle.definitions.specs.Answers.{Answer, refused, valued, counted, costed, sumAnswer, productAnswer, inverseAnswer, encodeAnswer, multiplicitiesAnswer, costAnswer, interpolated, Interpolated, InterpolationAnswers, rootsAnswer, listAnswer, readAnswer}
 use Rattle.definitions.specs.Bound.{count, bound}
 use Rattle.definitions.specs.Field.{sixteen, inverseOf}
-use Rattle.definitions.specs.Refusals.{Line, tried, sizesFit, sizeFits, noneAbove, firstAbove, badColumn, fieldTable, inverseTable, encodeTable, multiplicitiesTable, costTable, interpolationTable, rootsTable}
+use Rattle.definitions.specs.Limits.{greatestRows}
+use Rattle.definitions.specs.Listing.{listOf}
+use Rattle.definitions.specs.Refusals.{Line, tried, sizesFit, sizeFits, noneAbove, firstAbove, badColumn, columns, fieldTable, inverseTable, encodeTable, multiplicitiesTable, costTable, interpolationTable, rootsTable, listTable, readTable}
 use Rattle.definitions.specs.Roots.{rootsOf}
 use Rattle.definitions.specs.Tools.{smallest}
-use Rattle.definitions.specs.Weights.{cost}
+use Rattle.definitions.specs.Weights.{matrix, cost}
 use Rattle.exports.specs.Crossing.{Narrow}
 use Rattle.field.proofs.Instance.{sixteen-field}
 use Rattle.interpolation.proofs.Width.{width-fits}
@@ -53,6 +55,10 @@ at-none {number} = refused-narrow number 0 (omega arith)
 -- a refusal at the first of few numbers above the greatest
 at-first : (greatest : ℕ) (l : List ℕ) → length l < 65536 → noneAbove greatest l .given ≡ true → Narrow (refused 5 (firstAbove greatest l))
 at-first greatest l h e = refused-narrow 5 (firstAbove greatest l) (let bad = ltb-true (firstAbove greatest l) (length l) e in omega arith)
+
+-- a refusal at the first of few positions whose numbers do not sum to 4,096
+at-bad-column : (n : ℕ) (r : List ℕ) → n < 65536 → columns sixteen n r .given ≡ true → Narrow (refused 6 (smallest (badColumn sixteen r) n))
+at-bad-column n r h e = refused-narrow 6 (smallest (badColumn sixteen r) n) (let bad = ltb-true (smallest (badColumn sixteen r) n) n e in omega arith)
 
 module _ (a b : ℕ) where
   -- one of two is no symbol, or both are
@@ -90,7 +96,7 @@ multiplicities-narrow n L r out =
     narrow (counted (16 * n)) (multiplicitiesTable sixteen n L r (length out)) (or (λ _. at-none) (λ s.
     let fits = size-means sixteen n (not-false (sizeFits sixteen n) s) in
     or (λ _. at-none) (λ _. or (λ _. at-none) (λ _. or (λ _. at-none) (λ _. or
-    (λ e. refused-narrow 6 (smallest (badColumn sixteen r) n) (let bad = ltb-true (smallest (badColumn sixteen r) n) n e in omega arith))
+    (at-bad-column n r (omega arith))
     (λ _. last (counted-narrow (16 * n) (omega arith))))))))
 
 pub cost-narrow : (n k : ℕ) (m : List ℕ) → Narrow (costAnswer sixteen n k m)
@@ -145,3 +151,27 @@ roots-narrow D k q out =
     let degree = count-above (k - 1) (omega arith) D in
     let part = div-le-self D (k - 1) in
     last (counted-narrow (length (rootsOf sixteen D k q)) (omega arith)))))))))
+
+-- an answer that counts few rows
+abbrev Few : Answer → Type 0
+Few answer = answer .count ≤ greatestRows → Narrow answer
+
+few-narrow : (accepted : ℕ) (table : List Line) → Whatever (λ number place. Few (refused number place)) (Few (counted accepted)) table → Few (tried table refused (counted accepted))
+few-narrow accepted = whatever Few refused (counted accepted)
+
+pub list-narrow : (n k G : ℕ) (m rows scores : List ℕ) → Few (listAnswer sixteen n k G m rows scores)
+list-narrow n k G m rows scores =
+    few-narrow (length (listOf sixteen n k m)) (listTable sixteen n k G m (length rows) (length scores)) (or (λ _ _. at-none) (λ s.
+    let fits = sizes-mean sixteen n k (not-false (sizesFit sixteen n k) s) in
+    or (λ _ _. at-none) (λ _. or (λ _ _. at-none) (λ l.
+    let full = eqb-true (length m) (16 * n) (not-false (eqb (length m) (16 * n)) l) in
+    or (λ _ _. at-none) (λ _. or (λ _ _. at-none) (λ _. or (λ e _. at-first 4 m (omega arith) e) (λ _. or (λ _ _. at-none) (λ _.
+    last (λ few. counted-narrow (length (listOf sixteen n k m)) (omega arith))))))))))
+
+pub read-narrow : (n k L G : ℕ) (r rows scores : List ℕ) → Few (readAnswer sixteen n k L G r rows scores)
+read-narrow n k L G r rows scores =
+    few-narrow (length (listOf sixteen n k (matrix L r))) (readTable sixteen n k L G r (length rows) (length scores)) (or (λ _ _. at-none) (λ s.
+    let fits = sizes-mean sixteen n k (not-false (sizesFit sixteen n k) s) in
+    or (λ _ _. at-none) (λ _. or (λ _ _. at-none) (λ _. or (λ _ _. at-none) (λ _. or (λ _ _. at-none) (λ _. or (λ _ _. at-none) (λ _. or
+    (λ e _. at-bad-column n r (omega arith) e) (λ _. or (λ _ _. at-none) (λ _.
+    last (λ few. counted-narrow (length (listOf sixteen n k (matrix L r))) (omega arith)))))))))))

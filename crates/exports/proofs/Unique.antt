@@ -7,7 +7,7 @@ use Prim.Native.Nat.{ℕ}
 use Rattle.code.proofs.Unique.{one-counted}
 use Rattle.code.specs.Told.{toldCounted}
 use Rattle.code.specs.declared.Counted.{Counted}
-use Rattle.definitions.specs.Answers.{Answer, sumAnswer, productAnswer, inverseAnswer, encodeAnswer, encodeOut, multiplicitiesAnswer, multiplicitiesOut, costAnswer, InterpolationAnswers, rootsAnswer, rootsOut}
+use Rattle.definitions.specs.Answers.{Answer, sumAnswer, productAnswer, inverseAnswer, encodeAnswer, encodeOut, multiplicitiesAnswer, multiplicitiesOut, costAnswer, InterpolationAnswers, rootsAnswer, rootsOut, listAnswer, listRows, listScores, readAnswer, readRows, readScores}
 use Rattle.definitions.specs.Field.{sixteen}
 use Rattle.exports.specs.Crossing.{answerOf}
 use Rattle.exports.specs.declared.Answer as crossing
@@ -59,6 +59,26 @@ pub roots-unique : (D k : ℕ) (q out : List ℕ) (x y : Counted) (after again :
     → (toldCounted x ≡ rootsAnswer sixteen D k q out) × (after ≡ rootsOut sixteen D k q out)
     → (toldCounted y ≡ rootsAnswer sixteen D k q out) × (again ≡ rootsOut sixteen D k q out) → (x ≡ y) × (after ≡ again)
 roots-unique D k q out = counted-unique (rootsAnswer sixteen D k q out) (rootsOut sixteen D k q out)
+
+-- an answer that counts rows, and what lies in both lent memories after the call
+module _ (answer : Answer) (rows scores : List ℕ) where
+  listed-unique : (x y : Counted) (rowsAfter scoresAfter rowsAgain scoresAgain : List ℕ) → (toldCounted x ≡ answer) × (rowsAfter ≡ rows) × (scoresAfter ≡ scores)
+      → (toldCounted y ≡ answer) × (rowsAgain ≡ rows) × (scoresAgain ≡ scores) → (x ≡ y) × (rowsAfter ≡ rowsAgain) × (scoresAfter ≡ scoresAgain)
+  listed-unique x y rowsAfter scoresAfter rowsAgain scoresAgain p q = (one-counted (p .0) (q .0), p .1 ∙ sym (q .1), p .2 ∙ sym (q .2))
+
+pub list-of-multiplicities-unique : (n k G : ℕ) (m rows scores : List ℕ) (x y : Counted) (rowsAfter scoresAfter rowsAgain scoresAgain : List ℕ)
+    → (toldCounted x ≡ listAnswer sixteen n k G m rows scores) × (rowsAfter ≡ listRows sixteen n k G m rows scores) × (scoresAfter ≡ listScores sixteen n k G m rows scores)
+    → (toldCounted y ≡ listAnswer sixteen n k G m rows scores) × (rowsAgain ≡ listRows sixteen n k G m rows scores) × (scoresAgain ≡ listScores sixteen n k G m rows scores)
+    → (x ≡ y) × (rowsAfter ≡ rowsAgain) × (scoresAfter ≡ scoresAgain)
+list-of-multiplicities-unique n k G m rows scores =
+    listed-unique (listAnswer sixteen n k G m rows scores) (listRows sixteen n k G m rows scores) (listScores sixteen n k G m rows scores)
+
+pub list-of-reliabilities-unique : (n k L G : ℕ) (r rows scores : List ℕ) (x y : Counted) (rowsAfter scoresAfter rowsAgain scoresAgain : List ℕ)
+    → (toldCounted x ≡ readAnswer sixteen n k L G r rows scores) × (rowsAfter ≡ readRows sixteen n k L G r rows scores) × (scoresAfter ≡ readScores sixteen n k L G r rows scores)
+    → (toldCounted y ≡ readAnswer sixteen n k L G r rows scores) × (rowsAgain ≡ readRows sixteen n k L G r rows scores) × (scoresAgain ≡ readScores sixteen n k L G r rows scores)
+    → (x ≡ y) × (rowsAfter ≡ rowsAgain) × (scoresAfter ≡ scoresAgain)
+list-of-reliabilities-unique n k L G r rows scores =
+    listed-unique (readAnswer sixteen n k L G r rows scores) (readRows sixteen n k L G r rows scores) (readScores sixteen n k L G r rows scores)
 
 -- an answer as it crosses to C is told by its numbers
 pub crossing-unique : (a : Answer) (x y : crossing.Answer) → answerOf x ≡ a → answerOf y ≡ a → x ≡ y
