@@ -1,4 +1,4 @@
--- How many conditions a matrix has: its cost.
+-- How many conditions a point has of one order by x.
 -- Assumes nothing.
 use mathlib.Core.List.{List}
 use mathlib.Core.Path.{_≡_, _∙_}

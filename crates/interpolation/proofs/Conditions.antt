@@ -1,4 +1,4 @@
--- The rows of a matrix' conditions: as many as it costs, and what solves them is what passes.
+-- The rows of a matrix's conditions: as many as it costs, and what solves them is what passes.
 -- Assumes nothing.
 use mathlib.Core.List.{List, [], _∷_, flatMap, List·Memᴰ, List·Memᴰ·head, List·Memᴰ·tail, Memᴰ·map, Memᴰ·of-map, List·Memᴰ·cases-cons, List·Memᴰ·not-nil}
 use mathlib.Core.Logic.{⊎-elim}

@@ -1,4 +1,4 @@
--- For a cost of at most 150 a polynomial within the bound has at most sixteen y-roots.
+-- For a cost of at most 150 no monomial within the bound has more than sixteen powers of y.
 -- Assumes nothing.
 use mathlib.Core.Bool.{_||_}
 use Prim.Native.Nat.{ℕ, _/_, _≤_, _<_}

@@ -1,4 +1,4 @@
-// Weights to multiplicities, and a matrix' cost and bound.
+// Weights to multiplicities, and a matrix's cost and bound.
 ghost use mathlib.Core.Path.{_≡_};
 ghost use Rattle.code.specs.Told.{toldCounted};
 ghost use Rattle.definitions.specs.Answers.{multiplicitiesAnswer, multiplicitiesOut, costAnswer};

@@ -19,26 +19,21 @@ Inv-loop coefficients degree v p₀ h j₀ d₀ p j d = (d ≤ degree + 1) × (l
 abbrev μ-loop : tie.MeasureT-loop
 μ-loop coefficients degree v p₀ h j₀ d₀ p j d = degree + 1 - d
 
--- src/inside.rt:53:13
 div-h : tie.Need-div-h Inv-loop μ-loop
 div-h c = omega arith
 
--- src/inside.rt:53:13
 add-h : tie.Need-add-h Inv-loop μ-loop
 add-h c = omega arith
 
--- src/inside.rt:56:5
 loop-holds : tie.Need-loop-holds Inv-loop μ-loop
 unfolding zeros
 loop-holds c =
     let s = c .before in
     (omega arith, refl, none-lower (s .args .v), load-none (s .args .v) (s .pre .0 .0) (s .args .degree) (s .args .coefficients .now) (s .pre .1) (s .args .degree / s .args .v + 1) (zeros 512))
 
--- src/inside.rt:57:21
 slice-aggregate-load-degree : tie.Need-slice-aggregate-load-degree Inv-loop μ-loop
 slice-aggregate-load-degree c = omega arith
 
--- src/inside.rt:57:9
 load-degree-requires : tie.Need-load-degree-requires Inv-loop μ-loop
 load-degree-requires c κs =
     let l = c .before .before in
@@ -48,11 +43,9 @@ load-degree-requires c κs =
     let there = degree-within (s .args .v) (s .pre .0 .0) (s .args .degree) (s .args .coefficients .now) (s .pre .1) (l .loop .d) (omega arith) in
     ((s .pre .0 .0, omega arith, omega arith), omega arith)
 
--- src/inside.rt:58:14
 div-j : tie.Need-div-j Inv-loop μ-loop
 div-j c = omega arith
 
--- src/inside.rt:58:14
 add-j : tie.Need-add-j Inv-loop μ-loop
 add-j c =
     let l = c .before .before .before .before in
@@ -60,7 +53,6 @@ add-j c =
     let there = degree-within (s .args .v) (s .pre .0 .0) (s .args .degree) (s .args .coefficients .now) (s .pre .1) (l .loop .d) (omega arith) in
     omega arith
 
--- src/inside.rt:58:9
 add-j-2 : tie.Need-add-j-2 Inv-loop μ-loop
 add-j-2 c =
     let l = c .before .before .before .before in
@@ -68,15 +60,12 @@ add-j-2 c =
     let there = degree-within (s .args .v) (s .pre .0 .0) (s .args .degree) (s .args .coefficients .now) (s .pre .1) (l .loop .d) (omega arith) in
     omega arith
 
--- src/inside.rt:59:9
 add-d : tie.Need-add-d Inv-loop μ-loop
 add-d c = omega arith
 
--- src/inside.rt:56:5
 loop-less : tie.Need-loop-less Inv-loop μ-loop
 loop-less c = omega arith
 
--- src/inside.rt:56:5
 loop-again : tie.Need-loop-again Inv-loop μ-loop
 loop-again c =
     let l = c .before .before .before .before in
@@ -85,7 +74,6 @@ loop-again c =
     let z = load-more (s .args .v) (s .pre .0 .0) (s .args .degree) (s .args .coefficients .now) (s .pre .1) (s .args .degree / s .args .v + 1) (zeros 512) (l .loop .d) (l .loop .j) (l .loop .p) (r .last .0) (omega arith) (l .loop .inv .2) (l .loop .inv .3) (r .ensures) in
     (omega arith, omega arith, z .0, z .1)
 
--- src/inside.rt:47:1
 returns : tie.Need-returns Inv-loop μ-loop
 returns c =
     let l = c .before in

@@ -23,12 +23,10 @@ Inv-loop table p h w g q₀ a₀ q a = (a ≤ w) × (length q ≡ 512) × Symbol
 abbrev μ-loop : tie.MeasureT-loop
 μ-loop table p h w g q₀ a₀ q a = w - a
 
--- src/array.rt:103:5
 loop-holds : tie.Need-loop-holds Inv-loop μ-loop
 unfolding zeros
 loop-holds c = (omega arith, refl, zeros-symbols 512, partly-none (c .args .h) (c .args .w) (c .args .g) (c .args .p .now) 512)
 
--- src/array.rt:104:33
 mul-column : tie.Need-mul-column Inv-loop μ-loop
 mul-column c =
     let l = c .before in
@@ -36,7 +34,6 @@ mul-column c =
     let i = column-within (l .loop .a) (s .args .h) (s .args .w) (omega arith) in
     omega arith
 
--- src/array.rt:104:23
 column-requires : tie.Need-column-requires Inv-loop μ-loop
 column-requires c κs =
     let l = c .before in
@@ -44,11 +41,9 @@ column-requires c κs =
     let i = column-within (l .loop .a) (s .args .h) (s .args .w) (omega arith) in
     (s .pre .1 .1 .0, omega arith, s .pre .1 .1 .3)
 
--- src/array.rt:105:22
 slice-aggregate-shift : tie.Need-slice-aggregate-shift Inv-loop μ-loop
 slice-aggregate-shift c = search needs
 
--- src/array.rt:105:9
 shift-requires : tie.Need-shift-requires Inv-loop μ-loop
 shift-requires c κs =
     let l = c .before .before .before in
@@ -56,15 +51,12 @@ shift-requires c κs =
     let n : length (c .before .column .result) ≡ 32 = search needs in
     (s .pre .0, (subst (Symbols sixteen) (sym (c .before .column .ensures)) (copied-symbols (s .args .p .now) (s .args .h) (l .loop .a * s .args .h) 32 (s .pre .1 .0)), (omega arith, s .pre .1 .1 .1)))
 
--- src/array.rt:106:13
 slice-aggregate-lay : tie.Need-slice-aggregate-lay Inv-loop μ-loop
 slice-aggregate-lay c = search needs
 
--- src/array.rt:106:21
 slice-aggregate-lay-2 : tie.Need-slice-aggregate-lay-2 Inv-loop μ-loop
 slice-aggregate-lay-2 c = search needs
 
--- src/array.rt:106:9
 lay-requires : tie.Need-lay-requires Inv-loop μ-loop
 lay-requires c κs =
     let l = c .before .before .before .before .before .before .before in
@@ -72,15 +64,12 @@ lay-requires c κs =
     let r = c .before .before .before .shift in
     (l .loop .inv .2, (r .ensures .1, (omega arith, omega arith, omega arith)))
 
--- src/array.rt:107:9
 add-a : tie.Need-add-a Inv-loop μ-loop
 add-a c = omega arith
 
--- src/array.rt:103:5
 loop-less : tie.Need-loop-less Inv-loop μ-loop
 loop-less c = omega arith
 
--- src/array.rt:103:5
 loop-again : tie.Need-loop-again Inv-loop μ-loop
 loop-again c =
     let l = c .before .before .before .before .before .before .before .before .before in
@@ -96,7 +85,6 @@ loop-again c =
           (t .ensures .0 ∙ ap (shift (numbers sixteen) (s .args .g)) e) (r .ensures .0),
     )
 
--- src/array.rt:94:1
 returns : tie.Need-returns Inv-loop μ-loop
 returns c =
     let l = c .before in
