@@ -56,3 +56,8 @@ starred = record {
   two-roots = two-roots;
   root-once = root-once;
 }
+
+-- an empty list, or one that never changes, is none: of two hard words the first has a row and the second has not
+pub lists-differ : (listOf sixteen 3 2 (hardWord (1 ∷ 1 ∷ 1 ∷ [])) ≡ (1 ∷ 0 ∷ []) ∷ []) × (listOf sixteen 3 2 (hardWord (1 ∷ 1 ∷ 2 ∷ [])) ≡ [])
+unfolding hardWord messages flatMap power value sumOf double shifted below sum smallest select placed fallingOnto
+lists-differ = (refl, list-of-112)
