@@ -1,8 +1,6 @@
 //! Calls the proved library and the second program on the same inputs, and compares what they
 //! answer and what they leave in lent memory. The first difference ends the run with status 1.
 
-#![allow(dead_code)] // until every entry is compared
-
 #[path = "../answer.rs"]
 mod answer;
 #[path = "../library.rs"]
@@ -33,5 +31,9 @@ fn main() {
     encode::compare();
     multiplicities::compare();
     cost_and_bound::compare();
+    interpolation::compare();
+    roots::compare();
+    list_of_multiplicities::compare();
+    list_of_reliabilities::compare();
     edges::compare();
 }

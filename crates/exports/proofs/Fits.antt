@@ -3,25 +3,30 @@
 use mathlib.Core.Bool.{true}
 use mathlib.Core.List.{List, [], _∷_}
 use mathlib.Core.Path.{_≡_}
-use Prim.Native.Nat.{ℕ, _*_, _-_, _<_}
+use Prim.Native.Nat.{ℕ, _*_, _-_, _≤_, _<_}
+use native.Mathlib.Nat.{div-le-self}
 use native.Mathlib.Omega.{arith}
 use borrow.Author.Tests.{not-false, eqb-true, ltb-true, ltb-false}
 use lib.Dec.{eqb}
 use lib.ListN.{length}
 use Rattle.algebra.proofs.Elements.{plus-symbol, times-symbol}
-use Rattle.definitions.proofs.Bound.{bound-le}
+use Rattle.definitions.proofs.Bound.{bound-le, count-above}
 use Rattle.definitions.proofs.Refusals.{none-above}
 use Rattle.definitions.proofs.Table.{Whatever, last, or, whatever, sizes-mean, size-means}
 use Rattle.definitions.proofs.Tools.{smallest-le}
-use Rattle.definitions.specs.Answers.{Answer, refused, valued, counted, costed, sumAnswer, productAnswer, inverseAnswer, encodeAnswer, multiplicitiesAnswer, costAnswer, interpolated, Interpolated, InterpolationAnswers}
-use Rattle.definitions.specs.Bound.{bound}
+use Rattle.definitions.specs.Answers.{Answer, refused, valued, counted, costed, sumAnswer, productAnswer, inverseAnswer, encodeAnswer, multiplicitiesAnswer, costAnswer, interpolated, Interpolated, InterpolationAnswers, rootsAnswer, listAnswer, readAnswer}
+use Rattle.definitions.specs.Bound.{count, bound}
 use Rattle.definitions.specs.Field.{sixteen, inverseOf}
-use Rattle.definitions.specs.Refusals.{Line, tried, sizesFit, sizeFits, noneAbove, firstAbove, badColumn, fieldTable, inverseTable, encodeTable, multiplicitiesTable, costTable, interpolationTable}
+use Rattle.definitions.specs.Limits.{greatestRows}
+use Rattle.definitions.specs.Listing.{listOf}
+use Rattle.definitions.specs.Refusals.{Line, tried, sizesFit, sizeFits, noneAbove, firstAbove, badColumn, columns, fieldTable, inverseTable, encodeTable, multiplicitiesTable, costTable, interpolationTable, rootsTable, listTable, readTable}
+use Rattle.definitions.specs.Roots.{rootsOf}
 use Rattle.definitions.specs.Tools.{smallest}
-use Rattle.definitions.specs.Weights.{cost}
+use Rattle.definitions.specs.Weights.{matrix, cost}
 use Rattle.exports.specs.Crossing.{Narrow}
 use Rattle.field.proofs.Instance.{sixteen-field}
 use Rattle.interpolation.proofs.Width.{width-fits}
+use Rattle.search.proofs.Roots.{roots-at-most}
 use Rattle.weights.proofs.Cost.{cost-small}
 
 refused-narrow : (number place : ℕ) → place < 65536 → Narrow (refused number place)
@@ -50,6 +55,10 @@ at-none {number} = refused-narrow number 0 (omega arith)
 -- a refusal at the first of few numbers above the greatest
 at-first : (greatest : ℕ) (l : List ℕ) → length l < 65536 → noneAbove greatest l .given ≡ true → Narrow (refused 5 (firstAbove greatest l))
 at-first greatest l h e = refused-narrow 5 (firstAbove greatest l) (let bad = ltb-true (firstAbove greatest l) (length l) e in omega arith)
+
+-- a refusal at the first of few positions whose numbers do not sum to 4,096
+at-bad-column : (n : ℕ) (r : List ℕ) → n < 65536 → columns sixteen n r .given ≡ true → Narrow (refused 6 (smallest (badColumn sixteen r) n))
+at-bad-column n r h e = refused-narrow 6 (smallest (badColumn sixteen r) n) (let bad = ltb-true (smallest (badColumn sixteen r) n) n e in omega arith)
 
 module _ (a b : ℕ) where
   -- one of two is no symbol, or both are
@@ -87,7 +96,7 @@ multiplicities-narrow n L r out =
     narrow (counted (16 * n)) (multiplicitiesTable sixteen n L r (length out)) (or (λ _. at-none) (λ s.
     let fits = size-means sixteen n (not-false (sizeFits sixteen n) s) in
     or (λ _. at-none) (λ _. or (λ _. at-none) (λ _. or (λ _. at-none) (λ _. or
-    (λ e. refused-narrow 6 (smallest (badColumn sixteen r) n) (let bad = ltb-true (smallest (badColumn sixteen r) n) n e in omega arith))
+    (at-bad-column n r (omega arith))
     (λ _. last (counted-narrow (16 * n) (omega arith))))))))
 
 pub cost-narrow : (n k : ℕ) (m : List ℕ) → Narrow (costAnswer sixteen n k m)
@@ -126,3 +135,43 @@ interpolation-narrow n k G m out answer after =
   where
     so : {number place : ℕ} → Narrow (refused number place) → (answer ≡ refused number place) × (after ≡ out) → Narrow answer
     so narrow-refused p = rw (p .0) narrow-refused
+
+pub roots-narrow : (D k : ℕ) (q out : List ℕ) → Narrow (rootsAnswer sixteen D k q out)
+roots-narrow D k q out =
+    narrow (counted (length (rootsOf sixteen D k q))) (rootsTable sixteen D k q (length out)) (or (λ _. at-none) (λ s.
+    let fits = size-means sixteen k (not-false (sizeFits sixteen k) s) in
+    or (λ _. at-none) (λ d.
+    let few = ltb-false 256 (count (k - 1) D) d in
+    or (λ _. at-none) (λ l.
+    let full = eqb-true (length q) (count (k - 1) D) (not-false (eqb (length q) (count (k - 1) D)) l) in
+    or (λ _. at-none) (λ _. or (at-first 15 q (omega arith)) (λ e.
+    let none = none-above 15 q (ltb-false (firstAbove 15 q) (length q) e) in
+    or (λ _. at-none) (λ z.
+    let most = roots-at-most sixteen sixteen-field k D (fits .0) q (λ j. let h = none j in omega arith) (omega arith) z in
+    let degree = count-above (k - 1) (omega arith) D in
+    let part = div-le-self D (k - 1) in
+    last (counted-narrow (length (rootsOf sixteen D k q)) (omega arith)))))))))
+
+-- an answer that counts few rows
+abbrev Few : Answer → Type 0
+Few answer = answer .count ≤ greatestRows → Narrow answer
+
+few-narrow : (accepted : ℕ) (table : List Line) → Whatever (λ number place. Few (refused number place)) (Few (counted accepted)) table → Few (tried table refused (counted accepted))
+few-narrow accepted = whatever Few refused (counted accepted)
+
+pub list-narrow : (n k G : ℕ) (m rows scores : List ℕ) → Few (listAnswer sixteen n k G m rows scores)
+list-narrow n k G m rows scores =
+    few-narrow (length (listOf sixteen n k m)) (listTable sixteen n k G m (length rows) (length scores)) (or (λ _ _. at-none) (λ s.
+    let fits = sizes-mean sixteen n k (not-false (sizesFit sixteen n k) s) in
+    or (λ _ _. at-none) (λ _. or (λ _ _. at-none) (λ l.
+    let full = eqb-true (length m) (16 * n) (not-false (eqb (length m) (16 * n)) l) in
+    or (λ _ _. at-none) (λ _. or (λ _ _. at-none) (λ _. or (λ e _. at-first 4 m (omega arith) e) (λ _. or (λ _ _. at-none) (λ _.
+    last (λ few. counted-narrow (length (listOf sixteen n k m)) (omega arith))))))))))
+
+pub read-narrow : (n k L G : ℕ) (r rows scores : List ℕ) → Few (readAnswer sixteen n k L G r rows scores)
+read-narrow n k L G r rows scores =
+    few-narrow (length (listOf sixteen n k (matrix L r))) (readTable sixteen n k L G r (length rows) (length scores)) (or (λ _ _. at-none) (λ s.
+    let fits = sizes-mean sixteen n k (not-false (sizesFit sixteen n k) s) in
+    or (λ _ _. at-none) (λ _. or (λ _ _. at-none) (λ _. or (λ _ _. at-none) (λ _. or (λ _ _. at-none) (λ _. or (λ _ _. at-none) (λ _. or
+    (λ e _. at-bad-column n r (omega arith) e) (λ _. or (λ _ _. at-none) (λ _.
+    last (λ few. counted-narrow (length (listOf sixteen n k (matrix L r))) (omega arith)))))))))))

@@ -2,18 +2,21 @@
 -- function of the C boundary, whose promise is its entry's.
 -- Assumes nothing.
 use mathlib.Core.List.{List}
-use mathlib.Core.Path.{_≡_, sym, _∙_, ap}
+use mathlib.Core.Path.{_≡_, refl, sym, _∙_, ap}
 use Prim.Native.Nat.{ℕ}
 use Rattle.code.proofs.Unique.{one-counted}
 use Rattle.code.specs.Told.{toldCounted}
 use Rattle.code.specs.declared.Counted.{Counted}
-use Rattle.definitions.specs.Answers.{Answer, sumAnswer, productAnswer, inverseAnswer, encodeAnswer, encodeOut, multiplicitiesAnswer, multiplicitiesOut, costAnswer}
+use Rattle.definitions.specs.Answers.{Answer, sumAnswer, productAnswer, inverseAnswer, encodeAnswer, encodeOut, multiplicitiesAnswer, multiplicitiesOut, costAnswer, InterpolationAnswers, rootsAnswer, rootsOut, listAnswer, listRows, listScores, readAnswer, readRows, readScores}
 use Rattle.definitions.specs.Field.{sixteen}
 use Rattle.exports.specs.Crossing.{answerOf}
 use Rattle.exports.specs.declared.Answer as crossing
 use Rattle.field.proofs.Unique.{one-element}
 use Rattle.field.specs.Told.{toldElement}
 use Rattle.field.specs.declared.Element.{Element}
+use Rattle.interpolation.proofs.Unique.{interpolation-unique, numbers-unique}
+use Rattle.interpolation.specs.Told.{toldInterpolated}
+use Rattle.interpolation.specs.declared.Interpolated.{Interpolated}
 use Rattle.weights.proofs.Unique.{one-costed}
 use Rattle.weights.specs.Told.{toldCosted}
 use Rattle.weights.specs.declared.Costed.{Costed}
@@ -46,9 +49,47 @@ multiplicities-unique n L r out = counted-unique (multiplicitiesAnswer sixteen n
 pub cost-and-bound-unique : (n k : ℕ) (m : List ℕ) (x y : Costed) → toldCosted x ≡ costAnswer sixteen n k m → toldCosted y ≡ costAnswer sixteen n k m → x ≡ y
 cost-and-bound-unique n k m x y = one-costed
 
+-- here the promise names no answer, but what is true of it
+pub interpolate-unique : (n k G : ℕ) (m out : List ℕ) (x y : Interpolated) (after again : List ℕ)
+    → InterpolationAnswers sixteen n k G m out (toldInterpolated x) after → InterpolationAnswers sixteen n k G m out (toldInterpolated y) again
+    → (x ≡ y) × (after ≡ again)
+interpolate-unique = interpolation-unique
+
+pub roots-unique : (D k : ℕ) (q out : List ℕ) (x y : Counted) (after again : List ℕ)
+    → (toldCounted x ≡ rootsAnswer sixteen D k q out) × (after ≡ rootsOut sixteen D k q out)
+    → (toldCounted y ≡ rootsAnswer sixteen D k q out) × (again ≡ rootsOut sixteen D k q out) → (x ≡ y) × (after ≡ again)
+roots-unique D k q out = counted-unique (rootsAnswer sixteen D k q out) (rootsOut sixteen D k q out)
+
+-- an answer that counts rows, and what lies in both lent memories after the call
+module _ (answer : Answer) (rows scores : List ℕ) where
+  listed-unique : (x y : Counted) (rowsAfter scoresAfter rowsAgain scoresAgain : List ℕ) → (toldCounted x ≡ answer) × (rowsAfter ≡ rows) × (scoresAfter ≡ scores)
+      → (toldCounted y ≡ answer) × (rowsAgain ≡ rows) × (scoresAgain ≡ scores) → (x ≡ y) × (rowsAfter ≡ rowsAgain) × (scoresAfter ≡ scoresAgain)
+  listed-unique x y rowsAfter scoresAfter rowsAgain scoresAgain p q = (one-counted (p .0) (q .0), p .1 ∙ sym (q .1), p .2 ∙ sym (q .2))
+
+pub list-of-multiplicities-unique : (n k G : ℕ) (m rows scores : List ℕ) (x y : Counted) (rowsAfter scoresAfter rowsAgain scoresAgain : List ℕ)
+    → (toldCounted x ≡ listAnswer sixteen n k G m rows scores) × (rowsAfter ≡ listRows sixteen n k G m rows scores) × (scoresAfter ≡ listScores sixteen n k G m rows scores)
+    → (toldCounted y ≡ listAnswer sixteen n k G m rows scores) × (rowsAgain ≡ listRows sixteen n k G m rows scores) × (scoresAgain ≡ listScores sixteen n k G m rows scores)
+    → (x ≡ y) × (rowsAfter ≡ rowsAgain) × (scoresAfter ≡ scoresAgain)
+list-of-multiplicities-unique n k G m rows scores =
+    listed-unique (listAnswer sixteen n k G m rows scores) (listRows sixteen n k G m rows scores) (listScores sixteen n k G m rows scores)
+
+pub list-of-reliabilities-unique : (n k L G : ℕ) (r rows scores : List ℕ) (x y : Counted) (rowsAfter scoresAfter rowsAgain scoresAgain : List ℕ)
+    → (toldCounted x ≡ readAnswer sixteen n k L G r rows scores) × (rowsAfter ≡ readRows sixteen n k L G r rows scores) × (scoresAfter ≡ readScores sixteen n k L G r rows scores)
+    → (toldCounted y ≡ readAnswer sixteen n k L G r rows scores) × (rowsAgain ≡ readRows sixteen n k L G r rows scores) × (scoresAgain ≡ readScores sixteen n k L G r rows scores)
+    → (x ≡ y) × (rowsAfter ≡ rowsAgain) × (scoresAfter ≡ scoresAgain)
+list-of-reliabilities-unique n k L G r rows scores =
+    listed-unique (readAnswer sixteen n k L G r rows scores) (readRows sixteen n k L G r rows scores) (readScores sixteen n k L G r rows scores)
+
 -- an answer as it crosses to C is told by its numbers
 pub crossing-unique : (a : Answer) (x y : crossing.Answer) → answerOf x ≡ a → answerOf y ≡ a → x ≡ y
 crossing-unique a x y p q = ap back (p ∙ sym q)
   where
     back : Answer → crossing.Answer
     back b = record { number = b .number; place = b .place; count = b .count; value = b .value; cost = b .cost; bound = b .bound }
+
+-- and so is that of interpolation
+pub crossing-interpolate-unique : (n k G : ℕ) (m out : List ℕ) (x y : crossing.Answer) (after again : List ℕ)
+    → InterpolationAnswers sixteen n k G m out (answerOf x) after → InterpolationAnswers sixteen n k G m out (answerOf y) again
+    → (x ≡ y) × (after ≡ again)
+crossing-interpolate-unique n k G m out x y after again p q =
+    let u = numbers-unique n k G m out (answerOf x) (answerOf y) after again p q in (crossing-unique (answerOf y) x y (u .0) refl, u .1)

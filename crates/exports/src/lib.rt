@@ -1,9 +1,10 @@
 // The boundary to C: each entry over numbers and slices, its answer by value in one struct.
 ghost use mathlib.Core.Path.{_≡_};
-ghost use Prim.Native.Nat.{_<_};
+ghost use Prim.Native.Nat.{_≤_, _<_};
 ghost use Rattle.code.specs.Told.{toldCounted};
-ghost use Rattle.definitions.specs.Answers.{sumAnswer, productAnswer, inverseAnswer, encodeAnswer, encodeOut, multiplicitiesAnswer, multiplicitiesOut, costAnswer, InterpolationAnswers};
+ghost use Rattle.definitions.specs.Answers.{sumAnswer, productAnswer, inverseAnswer, encodeAnswer, encodeOut, multiplicitiesAnswer, multiplicitiesOut, costAnswer, InterpolationAnswers, rootsAnswer, rootsOut, listAnswer, listRows, listScores, readAnswer, readRows, readScores};
 ghost use Rattle.definitions.specs.Field.{sixteen};
+ghost use Rattle.definitions.specs.Limits.{greatestRows};
 ghost use Rattle.exports.specs.Crossing.{answerOf, Narrow};
 ghost use Rattle.field.specs.Told.{toldRefusal, toldElement};
 ghost use Rattle.interpolation.specs.Told.{toldInterpolated};
@@ -188,4 +189,47 @@ pub extern "C" fn kv_interpolate(
     ensures { λ r. ⌜ InterpolationAnswers sixteen n k limit (now (matrix .entry)) (now (out .entry)) (answerOf r) (now (out .exit)) ⌝ }
 {
     interpolated(interpolation::interpolate(n, k, limit, matrix, out))
+}
+
+#[no_mangle]
+pub extern "C" fn kv_roots(degree: usize, k: usize, coefficients: &[u8], out: &mut [u8]) -> Answer
+    ensures { λ r. ⌜ answerOf r ≡ rootsAnswer sixteen degree k (now (coefficients .entry)) (now (out .entry)) ⌝ }
+    ensures { λ _. ⌜ now (out .exit) ≡ rootsOut sixteen degree k (now (coefficients .entry)) (now (out .entry)) ⌝ }
+{
+    counted(roots::roots(degree, k, coefficients, out))
+}
+
+#[no_mangle]
+pub extern "C" fn kv_list_of_multiplicities(
+    n: usize,
+    k: usize,
+    limit: usize,
+    matrix: &[u8],
+    rows: &mut [u8],
+    scores: &mut [u16],
+) -> Answer
+    ensures { λ r. ⌜ answerOf r ≡ listAnswer sixteen n k limit (now (matrix .entry)) (now (rows .entry)) (now (scores .entry)) ⌝ }
+    ensures { λ _. ⌜ now (rows .exit) ≡ listRows sixteen n k limit (now (matrix .entry)) (now (rows .entry)) (now (scores .entry)) ⌝ }
+    ensures { λ _. ⌜ now (scores .exit) ≡ listScores sixteen n k limit (now (matrix .entry)) (now (rows .entry)) (now (scores .entry)) ⌝ }
+    ensures { λ r. ⌜ answerOf r .count ≤ greatestRows ⌝ }
+{
+    counted(list::list_of_multiplicities(n, k, limit, matrix, rows, scores))
+}
+
+#[no_mangle]
+pub extern "C" fn kv_list_of_reliabilities(
+    n: usize,
+    k: usize,
+    level: usize,
+    limit: usize,
+    reliabilities: &[u16],
+    rows: &mut [u8],
+    scores: &mut [u16],
+) -> Answer
+    ensures { λ r. ⌜ answerOf r ≡ readAnswer sixteen n k level limit (now (reliabilities .entry)) (now (rows .entry)) (now (scores .entry)) ⌝ }
+    ensures { λ _. ⌜ now (rows .exit) ≡ readRows sixteen n k level limit (now (reliabilities .entry)) (now (rows .entry)) (now (scores .entry)) ⌝ }
+    ensures { λ _. ⌜ now (scores .exit) ≡ readScores sixteen n k level limit (now (reliabilities .entry)) (now (rows .entry)) (now (scores .entry)) ⌝ }
+    ensures { λ r. ⌜ answerOf r .count ≤ greatestRows ⌝ }
+{
+    counted(list::list_of_reliabilities(n, k, level, limit, reliabilities, rows, scores))
 }

@@ -47,7 +47,7 @@ module _ (n k G : ℕ) (m out : List ℕ) where
       )
 
   -- of the numbers of the answer
-  numbers-unique : (a b : Answer) (after later : List ℕ) → InterpolationAnswers sixteen n k G m out a after → InterpolationAnswers sixteen n k G m out b later
+  pub numbers-unique : (a b : Answer) (after later : List ℕ) → InterpolationAnswers sixteen n k G m out a after → InterpolationAnswers sixteen n k G m out b later
       → (a ≡ b) × (after ≡ later)
   numbers-unique a b after later =
       tried-unique out a b after later (Interpolated sixteen n k m out a after) (Interpolated sixteen n k m out b later) (accepted-unique a b after later)

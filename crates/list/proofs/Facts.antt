@@ -4,8 +4,8 @@ use mathlib.Core.List.{List, _++_}
 use mathlib.Core.Path.{_≡_, refl, sym, _∙_, ap, subst}
 use Prim.Native.Nat.{ℕ, _+_, _*_, _-_, _≤_, _<_}
 use native.Mathlib.Omega.{arith}
-use lib.ListN.{length, take, drop, length-append, length-drop}
-use lib.Seq.{take-at}
+use lib.ListN.{length, take, drop, replicate, length-append, length-drop, length-replicate}
+use lib.Seq.{take-at, length-take-le}
 use Rattle.definitions.proofs.Bound.{bound-le}
 use Rattle.definitions.specs.Bound.{count, bound}
 use Rattle.definitions.specs.Field.{sixteen}
@@ -51,3 +51,25 @@ module _ (n k price : ℕ) (hk : 2 ≤ k) (hn : k ≤ n) (small : n ≤ 15) (che
           let full = found .size in
           ap length (found .written) ∙ length-append (found .coefficients) (drop (length (found .coefficients)) before)
           ∙ ap (λ (x : ℕ). length (found .coefficients) + x) (length-drop (length (found .coefficients)) before) ∙ omega arith
+
+-- of a matrix written over the front of a memory of zeros
+module _ (m after : List ℕ) (w : ℕ) (written : after ≡ m ++ drop (length m) (replicate w 0)) where
+  pub front : take (length m) after ≡ m
+  front = ap (take (length m)) written ∙ take-at m (drop (length m) (replicate w 0)) (length m) refl
+
+  pub length-front : length m ≤ w → length after ≡ w
+  length-front h =
+      let zeros : List ℕ = replicate w 0 in
+      let joined = length-append m (drop (length m) zeros) in
+      let rest = length-drop (length m) zeros in
+      let all = length-replicate {A = ℕ} w 0 in
+      ap length written ∙ joined ∙ omega arith
+
+  pub front-fits : (n : ℕ) → length m ≡ 16 * n → length m ≤ w → 16 * n ≤ length (take (16 * n) after)
+  front-fits n size h =
+      let long = length-front h in
+      let taken = length-take-le (16 * n) after (omega arith) in
+      omega arith
+
+  pub loaded-front : (n : ℕ) → length m ≡ 16 * n → (a : List (List ℕ)) → a ≡ matrixOf (take (16 * n) after) n → a ≡ matrixOf m n
+  loaded-front n size a e = e ∙ ap (λ (j : ℕ). matrixOf (take j after) n) (sym size) ∙ ap (λ (x : List ℕ). matrixOf x n) front

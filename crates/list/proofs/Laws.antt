@@ -13,8 +13,9 @@ use lib.Seq.{getD-drop}
 use Rattle.algebra.proofs.Complete.{roots-hold-high-scores}
 use Rattle.algebra.proofs.Elements.{zero-symbol}
 use Rattle.algebra.proofs.Every.{All}
+use Rattle.definitions.proofs.Listing.{falling-in-order}
 use Rattle.definitions.proofs.Messages.{messages-in-order}
-use Rattle.definitions.proofs.Tools.{select-from}
+use Rattle.definitions.proofs.Tools.{select-from, length-select}
 use Rattle.definitions.specs.Answers.{rowsOnto, scoresOnto}
 use Rattle.definitions.specs.Bound.{count, bound}
 use Rattle.definitions.specs.Code.{Symbols, messages}
@@ -22,6 +23,7 @@ use Rattle.definitions.specs.Field.{sixteen}
 use Rattle.definitions.specs.Listing.{fallingOnto, listOf}
 use Rattle.definitions.specs.Polynomial.{Interpolates, isZero}
 use Rattle.definitions.specs.Roots.{isRoot, rootsOf}
+use Rattle.definitions.specs.Tools.{select}
 use Rattle.definitions.specs.Weights.{cost, score}
 use Rattle.field.proofs.Instance.{sixteen-field}
 use Rattle.list.proofs.Degrees.{powers-of-y}
@@ -89,7 +91,18 @@ module _ (m q : List ℕ) (n k D : ℕ) (hk : 2 ≤ k) (hn : k ≤ n) (small : n
   unfolding ranked
   list-of-roots =
       ap (fallingOnto (score sixteen n m) []) (roots-hold-high-scores sixteen sixteen-field n k D D m q (omega arith) small (i .symbols) (i .through) (omega arith)
-      ∙ ap (λ (d : ℕ). Rattle.definitions.specs.Tools.select (λ (f : List ℕ). ltb d (score sixteen n m f)) (messages sixteen k)) is-bound)
+      ∙ ap (λ (d : ℕ). select (λ (f : List ℕ). ltb d (score sixteen n m f)) (messages sixteen k)) is-bound)
+
+  -- "There are at most 16 rows"
+  few-rows : length (listOf sixteen n k m) ≤ 16
+  unfolding ranked
+  few-rows =
+      let high = select (λ (f : List ℕ). ltb D (score sixteen n m f)) (rootsOf sixteen D k q) in
+      let same : length (fallingOnto (score sixteen n m) [] high) ≡ length (listOf sixteen n k m) = ap length list-of-roots in
+      let kept = falling-in-order (score sixteen n m) high .size in
+      let fewer = length-select (λ (f : List ℕ). ltb D (score sixteen n m f)) (rootsOf sixteen D k q) in
+      let few = few-roots .0 in
+      omega arith
 
   agree : All (λ f. matrixScore (matrixOf m n) n f ≡ score sixteen n m f) (rootsOf sixteen D k q)
   agree = all-members (λ f. matrixScore (matrixOf m n) n f ≡ score sixteen n m f) (rootsOf sixteen D k q) (λ f e.
@@ -117,6 +130,7 @@ module _ (m q : List ℕ) (n k D : ℕ) (hk : 2 ≤ k) (hn : k ≤ n) (small : n
       let e = ranked-is-list a before found many ea em ef in
       record {
         counted = ec ∙ ap length e;
+        few = rw (ec ∙ ap length e) few-rows;
         rows-are = eo ∙ ap (λ (l : List (List ℕ)). rowsOnto sixteen k l out) e;
         scores-are =
             es ∙ ap (λ (l : List (List ℕ)). scoresOf (matrixScore a n) l scores) e ∙ ap (λ (x : List (List ℕ)). scoresOf (matrixScore x n) (listOf sixteen n k m) scores) ea

@@ -1,3 +1,4 @@
 pub mod Degrees
 pub mod Laws
 pub mod Facts
+pub mod Order

@@ -9,17 +9,16 @@ use native.Mathlib.Omega.{arith}
 use lib.ListN.{length, take, drop, length-append}
 use Rattle.algebra.proofs.Elements.{zero-symbol}
 use Rattle.definitions.proofs.Joined.{join-nil, join-cons}
-use Rattle.definitions.proofs.Messages.{AllMessages, messages-in-order}
-use Rattle.definitions.proofs.Tools.{select-from}
 use Rattle.definitions.specs.Answers.{rowsOnto}
 use Rattle.definitions.specs.Bound.{count}
-use Rattle.definitions.specs.Code.{Symbols, messages}
+use Rattle.definitions.specs.Code.{Symbols}
 use Rattle.definitions.specs.Field.{numbers, sixteen}
 use Rattle.definitions.specs.Polynomial.{monomials, isZero}
-use Rattle.definitions.specs.Roots.{isRoot, rootsOf}
+use Rattle.definitions.specs.Roots.{rootsOf}
 use Rattle.field.proofs.Instance.{sixteen-field}
 use Rattle.search.proofs.Arrays.{place-column, length-loaded}
 use Rattle.search.proofs.Levels.{search-same, under-strip}
+use Rattle.search.proofs.Once.{roots-in-order}
 use Rattle.search.proofs.Roots.{length-zeros, loaded-symbols, columns-symbols, under-grid, search-is-roots, roots-at-most}
 use Rattle.search.proofs.Search.{strip-symbols}
 use Rattle.search.proofs.Size.{array-size, column-height}
@@ -102,7 +101,7 @@ module _ (D k : ℕ) (q : List ℕ) (two : 2 ≤ k) (small : count (k - 1) D ≤
 
       -- each root is a message of k symbols
       row-size : (f : List ℕ) → List·Memᴰ f (rootsOf sixteen D k q) → length f ≡ k
-      row-size f m = messages-in-order sixteen (zero-symbol sixteen sixteen-field) k .sized f (select-from (isRoot sixteen (k - 1) D q) (messages sixteen k) f m)
+      row-size f m = roots-in-order sixteen sixteen-field D k q .sized f m
 
       module _ (row : List ℕ) where
         -- the rows that the search writes

@@ -10,7 +10,7 @@ use native.Mathlib.Omega.{arith}
 use lib.ListN.{length, getD, take, drop, set, length-append, length-map, length-drop}
 use lib.Seq.{getD-drop, take-suc, take-add, take-all, length-take-le}
 use Rattle.definitions.proofs.Joined.{join-nil, join-below}
-use Rattle.definitions.proofs.Monomials.{MonomialOrder, monomials-in-order}
+use Rattle.definitions.proofs.Monomials.{monomials-in-order}
 use Rattle.definitions.proofs.Tools.{below-zero, length-below, map-below}
 use Rattle.definitions.specs.Bound.{count}
 use Rattle.definitions.specs.Field.{numbers, sixteen}

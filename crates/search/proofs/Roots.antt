@@ -9,7 +9,7 @@ use native.Mathlib.Decide.{decLt}
 use native.Mathlib.Nat.{le-div-iff-mul-le, le-trans}
 use native.Mathlib.Omega.{arith}
 use lib.ListN.{length, getD, take, drop, set, length-replicate, length-map}
-use Rattle.definitions.proofs.Monomials.{MonomialOrder, monomials-in-order}
+use Rattle.definitions.proofs.Monomials.{monomials-in-order}
 use Rattle.definitions.proofs.Tools.{split}
 use Rattle.definitions.specs.Bound.{count}
 use Rattle.definitions.specs.Code.{Symbols, messages}
@@ -21,8 +21,8 @@ use Rattle.algebra.specs.FieldOf.{FieldOf}
 use Rattle.algebra.proofs.Carry.{carried}
 use Rattle.algebra.proofs.Elements.{zero-symbol}
 use Rattle.algebra.proofs.Composition.{valueAt, evaluate-compose}
-use Rattle.algebra.proofs.Numbers.{elements, isZero-of-zeros, number-compose, compose-zero}
 use Rattle.algebra.proofs.Elements.{number-injective}
+use Rattle.algebra.proofs.Numbers.{elements, isZero-of-zeros, number-compose, compose-zero}
 use Rattle.algebra.proofs.RingLaws.{zero-plus}
 use Rattle.algebra.proofs.Series.{Series, constants, linear}
 use Rattle.algebra.proofs.Taylor.{taylor}

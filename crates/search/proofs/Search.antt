@@ -10,7 +10,7 @@ use borrow.Author.Tests.{eqb-true, eq-eqb}
 use lib.Dec.{eqb}
 use lib.ListN.{getD}
 use Rattle.definitions.proofs.Joined.{join-nil, join-below}
-use Rattle.definitions.proofs.Messages.{AllMessages, messages-zero, messages-suc, messages-in-order, beginning}
+use Rattle.definitions.proofs.Messages.{messages-zero, messages-suc, messages-in-order, beginning}
 use Rattle.definitions.proofs.Tools.{split, below-zero, select-nil, select-yes, select-no, select-none, select-append, select-map}
 use Rattle.definitions.specs.Code.{Symbols, messages}
 use Rattle.definitions.specs.Field.{Code, numbers, value}

@@ -42,7 +42,7 @@ module _ (C : Code) where
   abbrev pub next : ℕ → List (List ℕ) → List (List ℕ)
   next c M = strip (substitute (numbers C) c M)
 
-  -- "The search fixes one message symbol at each level and goes on with the levels left"
+  -- "The search .. fixes one message symbol at each level and goes on with the levels left"
   unfoldable pub search : ℕ → List (List ℕ) → List (List ℕ)
   search zero M = cond (constantsZero M) ([] ∷ []) []
   search (suc k) M = flatMap (λ (c : ℕ). cond (begins c M) (map (λ (f : List ℕ). c ∷ f) (search k (next c M))) []) (below (C .symbols))

@@ -19,14 +19,12 @@ use Rattle.definitions.specs.Polynomial.{Interpolates, Through, binomial, modul
 use Rattle.definitions.specs.Tools.{below, sum}
 use Rattle.definitions.specs.Weights.{entry}
 use Rattle.elimination.proofs.Leading.{zero-after}
+use Rattle.worked.specs.Starred.{hardWord}
 
--- multiplicity 1 at symbol 1 in each of three positions
-hardWord : List ℕ
-hardWord =
-    0 ∷ 1 ∷ 0 ∷ 0 ∷ 0 ∷ 0 ∷ 0 ∷ 0 ∷ 0 ∷ 0 ∷ 0 ∷ 0 ∷ 0 ∷ 0 ∷ 0 ∷ 0 ∷ 0 ∷ 1 ∷ 0 ∷ 0 ∷ 0 ∷ 0 ∷ 0 ∷ 0 ∷ 0 ∷ 0 ∷ 0 ∷ 0 ∷ 0 ∷ 0 ∷ 0 ∷ 0 ∷ 0 ∷ 1 ∷ 0 ∷ 0
-    ∷ 0 ∷ 0 ∷ 0 ∷ 0 ∷ 0 ∷ 0 ∷ 0 ∷ 0 ∷ 0 ∷ 0 ∷ 0 ∷ 0 ∷ []
+abbrev word : List ℕ
+word = hardWord (1 ∷ 1 ∷ 1 ∷ [])
 
-answer : List ℕ
+abbrev answer : List ℕ
 answer = 1 ∷ 0 ∷ 1 ∷ 0 ∷ 0 ∷ 0 ∷ []
 
 -- the value of a polynomial at a point
@@ -34,10 +32,10 @@ valueAt : List ℕ → ℕ → ℕ → ℕ
 valueAt q x y = hasse (numbers sixteen) (terms (numbers sixteen) q (monomials 1 2)) 0 0 x y
 
 passesAt : ℕ → ℕ → Bool
-passesAt i b = leb (entry sixteen hardWord i b) 1 && (eqb (entry sixteen hardWord i b) 0 || eqb (valueAt answer (point sixteen i) b) 0)
+passesAt i b = leb (entry sixteen word i b) 1 && (eqb (entry sixteen word i b) 0 || eqb (valueAt answer (point sixteen i) b) 0)
 
 passing : T (every 3 (λ i. every 16 (λ b. passesAt i b)))
-unfolding passesAt valueAt answer hardWord every hasse terms derivative modulo2 binomial power sumOf double shifted below flatMap
+unfolding passesAt valueAt hardWord every hasse terms derivative modulo2 binomial power sumOf double shifted below flatMap
 passing = tt
 
 -- of two coefficients only zeros pass through two of the points
@@ -52,18 +50,18 @@ module _ (i b : ℕ) (hi : i < 3) (hb : b < 16) where
   test-at : T (passesAt i b)
   test-at = every-at 16 (λ b. passesAt i b) (every-at 3 (λ i. every 16 (λ b. passesAt i b)) passing i hi) b hb
 
-  at-most-one : entry sixteen hardWord i b ≤ 1
+  at-most-one : entry sixteen word i b ≤ 1
   unfolding passesAt
-  at-most-one = leb→le (entry sixteen hardWord i b) 1 (first-passes (leb (entry sixteen hardWord i b) 1) (eqb (entry sixteen hardWord i b) 0 || eqb (valueAt answer (point sixteen i) b) 0) test-at)
+  at-most-one = leb→le (entry sixteen word i b) 1 (first-passes (leb (entry sixteen word i b) 1) (eqb (entry sixteen word i b) 0 || eqb (valueAt answer (point sixteen i) b) 0) test-at)
 
-  value-zero : (entry sixteen hardWord i b ≡ 0 → ⊥) → valueAt answer (point sixteen i) b ≡ 0
+  value-zero : (entry sixteen word i b ≡ 0 → ⊥) → valueAt answer (point sixteen i) b ≡ 0
   unfolding passesAt
   value-zero n =
       eqb→eq (valueAt answer (point sixteen i) b) 0
-      (rw (ne-eqb (entry sixteen hardWord i b) 0 n) at
-      (second-passes (leb (entry sixteen hardWord i b) 1) (eqb (entry sixteen hardWord i b) 0 || eqb (valueAt answer (point sixteen i) b) 0) test-at))
+      (rw (ne-eqb (entry sixteen word i b) 0 n) at
+      (second-passes (leb (entry sixteen word i b) 1) (eqb (entry sixteen word i b) 0 || eqb (valueAt answer (point sixteen i) b) 0) test-at))
 
-passes : Through sixteen 3 1 2 hardWord answer
+passes : Through sixteen 3 1 2 word answer
 unfolding valueAt
 passes i b hi hb s t h =
     let e = at-most-one i b hi hb in
@@ -91,15 +89,15 @@ shape p e h = ext-getD 0 p (getD p 0 0 ∷ getD p 1 0 ∷ 0 ∷ 0 ∷ 0 ∷ 0 �
     at (suc (suc (suc (suc (suc zero))))) l = zero-after p 5 (omega arith)
     at (suc (suc (suc (suc (suc (suc i)))))) l = let z : ⊥ = omega arith in absurd z
 
-first-point : (p : List ℕ) → Through sixteen 3 1 2 hardWord p → valueAt p 1 1 ≡ 0
-unfolding valueAt hardWord power sumOf double shifted
+first-point : (p : List ℕ) → Through sixteen 3 1 2 word p → valueAt p 1 1 ≡ 0
+unfolding valueAt hardWord below power sumOf double shifted
 first-point p h = h 0 1 (omega arith) (omega arith) 0 0 (omega arith)
 
-second-point : (p : List ℕ) → Through sixteen 3 1 2 hardWord p → valueAt p 2 1 ≡ 0
-unfolding valueAt hardWord power sumOf double shifted
+second-point : (p : List ℕ) → Through sixteen 3 1 2 word p → valueAt p 2 1 ≡ 0
+unfolding valueAt hardWord below power sumOf double shifted
 second-point p h = h 1 1 (omega arith) (omega arith) 0 0 (omega arith)
 
-none-earlier : (p : List ℕ) → length p ≡ 6 → Symbols sixteen p → Through sixteen 3 1 2 hardWord p → leading p < 2 → isZero p ≡ true
+none-earlier : (p : List ℕ) → length p ≡ 6 → Symbols sixteen p → Through sixteen 3 1 2 word p → leading p < 2 → isZero p ≡ true
 none-earlier p e sp through h =
     let s = shape p e h in
     let z = both-zero (getD p 0 0) (getD p 1 0) (sp 0) (sp 1) (ap (λ (q : List ℕ). valueAt q 1 1) (sym s) ∙ first-point p through) (ap (λ (q : List ℕ). valueAt q 2 1) (sym s) ∙ second-point p through) in
@@ -111,7 +109,6 @@ none-earlier p e sp through h =
     at z (suc (suc k)) = zero-after p (suc (suc k)) (omega arith)
 
 answer-symbols : Symbols sixteen answer
-unfolding answer
 answer-symbols zero = omega arith
 answer-symbols (suc zero) = omega arith
 answer-symbols (suc (suc zero)) = omega arith
@@ -121,11 +118,11 @@ answer-symbols (suc (suc (suc (suc (suc zero))))) = omega arith
 answer-symbols (suc (suc (suc (suc (suc (suc j)))))) = omega arith
 
 answer-leads : leading answer ≡ 2
-unfolding answer leading isZero
+unfolding leading isZero
 answer-leads = refl
 
 answer-size : length answer ≡ count 1 2
-unfolding answer sum
+unfolding sum
 answer-size = refl
 
 size-six : count 1 2 ≡ 6
@@ -133,14 +130,13 @@ unfolding sum
 size-six = refl
 
 answer-nonzero : isZero answer ≡ false
-unfolding answer isZero
+unfolding isZero
 answer-nonzero = refl
 
 answer-one : getD answer 2 0 ≡ 1
-unfolding answer
 answer-one = refl
 
-hard-word : Interpolates sixteen 3 1 2 hardWord answer
+pub hard-word : Interpolates sixteen 3 1 2 word answer
 hard-word = record {
   size = answer-size;
   symbols = answer-symbols;

@@ -1,0 +1,2 @@
+pub mod HardWord
+pub mod Starred

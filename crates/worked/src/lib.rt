@@ -1,0 +1,1 @@
+// The worked lines of document 01, shown of the definitions.
