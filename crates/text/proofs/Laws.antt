@@ -2,9 +2,9 @@
 -- Assumes nothing.
 use mathlib.Core.Bool.{Bool, cond}
 use mathlib.Core.List.{List, [], _∷_, _++_, map, append-assoc, append-nil}
-use mathlib.Core.Path.{_≡_, refl, sym, _∙_, ap}
+use mathlib.Core.Path.{_≡_, refl, sym, _∙_, ap, subst}
 use Prim.Native.Nat.{ℕ, zero, suc, _+_, _*_, _-_, _/_, _%_, _≤_, _<_}
-use native.Mathlib.Nat.{add-zero}
+use native.Mathlib.Nat.{add-zero, mul-suc, mul-le-mul-left}
 use native.Mathlib.Numerals.{add-one}
 use native.Mathlib.Omega.{arith}
 use borrow.Author.Tests.{eq-eqb, ne-eqb}
@@ -14,7 +14,7 @@ use Rattle.definitions.proofs.Loops.{put-more}
 use Rattle.definitions.proofs.Tools.{below-zero, length-below, map-below}
 use Rattle.definitions.proofs.Weights.{map-take}
 use Rattle.definitions.specs.Tools.{below}
-use Rattle.text.specs.Text.{laid, Puts, numberAt, numbersOf}
+use Rattle.text.specs.Text.{laid, Puts, numberAt, numbersOf, rowLine, lineOf, rowLines}
 
 -- what is before the end of the words has its length
 length-front : (out : List ℕ) (at : ℕ) (w : List ℕ) → at ≤ length out → length (take at out ++ w) ≡ at + length w
@@ -120,3 +120,39 @@ module _ (bytes out : List ℕ) where
       ap (λ (b : Bool). cond b (map (numberAt bytes) (below (length bytes / 2))) []) (eq-eqb (length bytes % 2) 0 even) in
       let size : length (map (numberAt bytes) (below (length bytes / 2))) ≡ length bytes / 2 = length-map (below (length bytes / 2)) (numberAt bytes) ∙ length-below (length bytes / 2) in
       rw (all, size) (refl, e ∙ ap (λ (n : ℕ). map (numberAt bytes) (below n) ++ drop n out) ei)
+
+-- the lines of rows: no row, and one row more
+module _ (k : ℕ) (rows scores : List ℕ) where
+  none-lines : rowLines k rows scores 0 ≡ []
+  unfolding rowLines
+  none-lines = refl
+
+  more-lines : (j : ℕ) → rowLines k rows scores (suc j) ≡ rowLines k rows scores j ++ lineOf k rows scores j
+  unfolding rowLines
+  more-lines j = refl
+
+  pub lines-begun : (out : List ℕ) (at : ℕ) → Puts out at (rowLines k rows scores 0) at out
+  lines-begun out at = rw none-lines (omega arith, refl, laid-none out at)
+
+  pub lines-more : (out middle after : List ℕ) (at end last j : ℕ) → at ≤ length out → Puts out at (rowLines k rows scores j) end middle
+      → Puts middle end (lineOf k rows scores j) last after → Puts out at (rowLines k rows scores (j + 1)) last after
+  lines-more out middle after at end last j h p q =
+      let e : rowLines k rows scores (j + 1) ≡ rowLines k rows scores j ++ lineOf k rows scores j = ap (λ (n : ℕ). rowLines k rows scores n) (add-one j) ∙ more-lines j in
+      subst (λ (w : List ℕ). Puts out at w last after) (sym e) (puts-more out middle after (rowLines k rows scores j) (lineOf k rows scores j) at end last h p q)
+
+  -- a row is the part of the memory that was lent
+  pub row-put : (out after : List ℕ) (at j score end : ℕ) → k ≤ 15 → score ≡ getD scores j 0 → k * j + k ≤ length rows
+      → Puts out at (rowLine score (take (k * j + k - k * j) (drop (k * j) rows))) end after
+      → end ≤ at + 36 + length (take (k * j + k - k * j) (drop (k * j) rows)) → Puts out at (lineOf k rows scores j) end after × (end ≤ at + 51)
+  row-put out after at j score end hk es h p l =
+      let size : k * j + k - k * j ≡ k = omega arith in
+      let rest = length-drop (k * j) rows in
+      let long : length (take k (drop (k * j) rows)) ≡ k = length-take-le k (drop (k * j) rows) (omega arith) in
+      let same : rowLine score (take (k * j + k - k * j) (drop (k * j) rows)) ≡ lineOf k rows scores j =
+      ap (λ (n : ℕ). rowLine score (take n (drop (k * j) rows))) size ∙ ap (λ (s : ℕ). rowLine s (take k (drop (k * j) rows))) es in
+      let end-size : length (take (k * j + k - k * j) (drop (k * j) rows)) ≡ k = ap (λ (n : ℕ). length (take n (drop (k * j) rows))) size ∙ long in
+      (subst (λ (w : List ℕ). Puts out at w end after) same p, omega arith)
+
+-- a row of those that are there lies within the memory
+pub row-within : (k r many size : ℕ) → r < many → k * many ≤ size → k * r + k ≤ size
+row-within k r many size h l = let one-more = mul-le-mul-left k h in let grown = mul-suc k r in omega arith

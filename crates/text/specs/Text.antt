@@ -56,6 +56,14 @@ listedLine count = listedWord ++ decimal count ++ lineFeed
 abbrev pub rowLine : ℕ → List ℕ → List ℕ
 rowLine score message = scoreWord ++ decimal score ++ messageWord ++ map hexDigit message ++ lineFeed
 
+-- the line of row j of k symbols that lie one after the other, and the lines of the first rows
+abbrev pub lineOf : ℕ → List ℕ → List ℕ → ℕ → List ℕ
+lineOf k rows scores j = rowLine (getD scores j 0) (take k (drop (k * j) rows))
+
+unfoldable pub rowLines : ℕ → List ℕ → List ℕ → ℕ → List ℕ
+rowLines k rows scores zero = []
+rowLines k rows scores (suc j) = rowLines k rows scores j ++ lineOf k rows scores j
+
 -- "or `refused R at P`"
 abbrev pub refusedLine : ℕ → ℕ → List ℕ
 refusedLine number place = refusedWord ++ decimal number ++ atWord ++ decimal place ++ lineFeed

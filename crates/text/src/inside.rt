@@ -3,7 +3,7 @@ ghost use mathlib.Core.List.{_++_, map};
 ghost use mathlib.Core.Path.{_≡_};
 ghost use Prim.Native.Nat.{_+_, _*_, _≤_, _<_};
 ghost use lib.ListN.{length, drop};
-ghost use Rattle.text.specs.Text.{numbersOf, hexDigit, decimal, listedLine, rowLine, refusedLine, Puts};
+ghost use Rattle.text.specs.Text.{numbersOf, hexDigit, decimal, listedLine, rowLine, refusedLine, lineOf, rowLines, Puts};
 
 const BASE: u8 = 16;
 
@@ -115,4 +115,43 @@ pub fn put_row(out: &mut [u8], at: usize, score: usize, message: &[u8]) -> usize
     let joined = put(out, scored, b" message ");
     let written = put_digits(out, joined, message);
     put(out, written, b"\n")
+}
+
+fn full(score: u16) -> usize
+    ensures { λ r. ⌜ r ≡ score ⌝ }
+{
+    score as usize
+}
+
+// The line of row j of k symbols.
+fn put_row_of(out: &mut [u8], at: usize, k: usize, j: usize, rows: &[u8], scores: &[u16]) -> usize
+    requires { ⌜ (k ≤ 15) × (j < 16) × (k * j + k ≤ length (now rows)) × (j < length (now scores)) × (at + 51 ≤ length (now out)) ⌝ }
+    ensures { λ r. ⌜ Puts (now (out .entry)) at (lineOf k (now (rows .entry)) (now (scores .entry)) j) r (now (out .exit)) ⌝ }
+    ensures { λ r. ⌜ r ≤ at + 51 ⌝ }
+{
+    let from = k * j;
+    let to = from + k;
+    let score = full(scores[j]);
+    put_row(out, at, score, &rows[from..to])
+}
+
+// The lines of the first `count` rows of k symbols.
+pub fn put_rows(
+    out: &mut [u8],
+    at: usize,
+    k: usize,
+    count: usize,
+    rows: &[u8],
+    scores: &[u16],
+) -> usize
+    requires { ⌜ (k ≤ 15) × (count ≤ 16) × (k * count ≤ length (now rows)) × (count ≤ length (now scores)) × (at + 816 ≤ length (now out)) ⌝ }
+    ensures { λ r. ⌜ Puts (now (out .entry)) at (rowLines k (now (rows .entry)) (now (scores .entry)) count) r (now (out .exit)) ⌝ }
+{
+    let mut end = at;
+    let mut j = 0;
+    while j < count {
+        end = put_row_of(out, end, k, j, rows, scores);
+        j += 1;
+    }
+    end
 }
