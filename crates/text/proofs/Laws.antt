@@ -123,11 +123,11 @@ module _ (bytes out : List ℕ) where
 
 -- the lines of rows: no row, and one row more
 module _ (k : ℕ) (rows scores : List ℕ) where
-  none-lines : rowLines k rows scores 0 ≡ []
+  pub none-lines : rowLines k rows scores 0 ≡ []
   unfolding rowLines
   none-lines = refl
 
-  more-lines : (j : ℕ) → rowLines k rows scores (suc j) ≡ rowLines k rows scores j ++ lineOf k rows scores j
+  pub more-lines : (j : ℕ) → rowLines k rows scores (suc j) ≡ rowLines k rows scores j ++ lineOf k rows scores j
   unfolding rowLines
   more-lines j = refl
 
