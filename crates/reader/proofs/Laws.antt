@@ -1,14 +1,14 @@
 -- From the list's answer to the program's text.
 -- Assumes nothing.
-use mathlib.Core.Bool.{Bool, true, false, cond}
+use mathlib.Core.Bool.{Bool, true, false, cond, not}
 use mathlib.Core.List.{List, [], _∷_, _++_, map, flatten, append-nil, List·Memᴰ, List·Memᴰ·head, List·Memᴰ·tail}
 use mathlib.Core.Path.{_≡_, refl, sym, _∙_, ap, ap₂, subst}
-use Prim.Native.Nat.{ℕ, zero, suc, _+_, _*_, _-_, _≤_, _<_}
+use Prim.Native.Nat.{ℕ, zero, suc, _+_, _*_, _-_, _/_, _%_, _≤_, _<_}
 use native.Mathlib.Omega.{arith}
 use borrow.Author.Tests.{ne-eqb, lt-ltb, le-ltb, not-false}
 use lib.Dec.{eqb, ltb}
 use lib.ListN.{length, take, drop, getD, length-append, length-drop, length-map, List·getD-append}
-use lib.Seq.{ext-getD, take-all, take-at}
+use lib.Seq.{ext-getD, getD-take, length-take-le, take-all, take-at}
 use Rattle.algebra.proofs.Elements.{zero-symbol}
 use Rattle.algebra.proofs.Every.{All}
 use Rattle.definitions.proofs.Listing.{falling-in-order}
@@ -20,7 +20,7 @@ use Rattle.definitions.specs.Bound.{bound}
 use Rattle.definitions.specs.Code.{messages}
 use Rattle.definitions.specs.Field.{sixteen}
 use Rattle.definitions.specs.Listing.{listOf}
-use Rattle.definitions.specs.Refusals.{Line, tried, sizesFit, readTable}
+use Rattle.definitions.specs.Refusals.{Line, tried, line, sizesFit, sizes, level, limit, entries, room, columns, costWithin, readTable}
 use Rattle.definitions.specs.Tools.{below, select}
 use Rattle.definitions.specs.Weights.{matrix, cost, score}
 use Rattle.field.proofs.Instance.{sixteen-field}
@@ -32,7 +32,7 @@ use Rattle.ranking.proofs.Written.{Sized, length-flatten, flatten-append}
 use Rattle.ranking.specs.Rows.{rowAt, rowsOf}
 use Rattle.reader.specs.Program.{listText, answerTo, output, answerText, Holds}
 use Rattle.text.proofs.Laws.{none-lines, more-lines}
-use Rattle.text.specs.Text.{numbersOf, listedLine, rowLine, lineOf, rowLines, refusedLine}
+use Rattle.text.specs.Text.{numberAt, numbersOf, listedLine, rowLine, lineOf, rowLines, refusedLine}
 
 -- no line of a table has the number 0, which tells a list
 abbrev Numbered : List Line → Type 0
@@ -217,3 +217,44 @@ front-within words rest now count ec en = let size : length now ≡ length words
 -- the bytes behind the header
 pub bytes-are : (input : List ℕ) → take (length input - 4) (drop 4 input) ≡ drop 4 input
 bytes-are input = let size = length-drop 4 input in take-all (length input - 4) (drop 4 input) (omega arith)
+
+-- tables that begin alike and then both refuse a length, whatever they would make of it later
+both-refuse : (a b c : Line) (g h : Bool) (s t : List Line) (f : ℕ → ℕ → List ℕ) (x y : List ℕ) → g ≡ true → h ≡ true
+    → tried (a ∷ b ∷ c ∷ line 3 g ∷ s) f x ≡ tried (a ∷ b ∷ c ∷ line 3 h ∷ t) f y
+both-refuse a b c g h s t f x y eg eh = rw (eg, eh) refl
+
+sizes-refuse : (g : Bool) (s t : List Line) (f : ℕ → ℕ → List ℕ) (x y : List ℕ) → g ≡ true → tried (line 1 g ∷ s) f x ≡ tried (line 1 g ∷ t) f y
+sizes-refuse g s t f x y eg = rw eg refl
+
+-- two inputs of a wrong length
+wrong-lengths : (n k L G : ℕ) (r q : List ℕ) → ((n : ℕ) → 2 ≤ n → n ≤ 15 → length r ≡ 16 * n → ⊥) → ((n : ℕ) → 2 ≤ n → n ≤ 15 → length q ≡ 16 * n → ⊥)
+    → answerTo n k L G r ≡ answerTo n k L G q
+wrong-lengths n k L G r q wr wq = split (sizesFit sixteen n k) (λ e.
+    let fits = sizes-mean sixteen n k e in
+    both-refuse (sizes sixteen n k) (level L) (limit G) (not (eqb (length r) (16 * n))) (not (eqb (length q) (16 * n)))
+    (room (16 * k) 240 ∷ room 16 16 ∷ columns sixteen n r ∷ costWithin G (matrix L r) ∷ [])
+    (room (16 * k) 240 ∷ room 16 16 ∷ columns sixteen n q ∷ costWithin G (matrix L q) ∷ []) refusedLine (listText n k (matrix L r)) (listText n k (matrix L q))
+    (ap not (ne-eqb (length r) (16 * n) (wr n (omega arith) (omega arith)))) (ap not (ne-eqb (length q) (16 * n) (wq n (omega arith) (omega arith)))))
+    (λ e. sizes-refuse (not (sizesFit sixteen n k)) (level L ∷ limit G ∷ entries (16 * n) r ∷ room (16 * k) 240 ∷ room 16 16 ∷ columns sixteen n r ∷ costWithin G (matrix L r) ∷ [])
+    (level L ∷ limit G ∷ entries (16 * n) q ∷ room (16 * k) 240 ∷ room 16 16 ∷ columns sixteen n q ∷ costWithin G (matrix L q) ∷ []) refusedLine (listText n k (matrix L r)) (listText n k (matrix L q)) (ap not e))
+
+-- more than 481 bytes hold no list's numbers
+too-many : (b : List ℕ) → 481 < length b → (n : ℕ) → 2 ≤ n → n ≤ 15 → length (numbersOf b) ≡ 16 * n → ⊥
+too-many b h n low high e = split (eqb (length b % 2) 0) (λ t.
+    let size : length (numbersOf b) ≡ length b / 2 = rw t (length-map (below (length b / 2)) (numberAt b) ∙ length-below (length b / 2)) in
+    omega arith)
+    (λ t.
+    let none : length (numbersOf b) ≡ 0 = rw t refl in
+    omega arith)
+
+-- an input that is too long is answered as its beginning is
+pub beginning : (input : List ℕ) → 486 < length input → output (take 486 input) ≡ output input
+beginning input h =
+    let size : length (take 486 input) ≡ 486 = length-take-le 486 input (omega arith) in
+    let short = length-drop 4 (take 486 input) in
+    let long = length-drop 4 input in
+    sym (header (take 486 input) (numbersOf (drop 4 (take 486 input))) (getD input 0 0) (getD input 1 0) (getD input 2 0) (getD input 3 0) (omega arith)
+    (sym (getD-take 486 input 0 0 (omega arith))) (sym (getD-take 486 input 1 0 (omega arith))) (sym (getD-take 486 input 2 0 (omega arith))) (sym (getD-take 486 input 3 0 (omega arith))) refl)
+    ∙ wrong-lengths (getD input 0 0) (getD input 1 0) (getD input 2 0) (getD input 3 0) (numbersOf (drop 4 (take 486 input))) (numbersOf (drop 4 input))
+    (too-many (drop 4 (take 486 input)) (omega arith)) (too-many (drop 4 input) (omega arith))
+    ∙ header input (numbersOf (drop 4 input)) (getD input 0 0) (getD input 1 0) (getD input 2 0) (getD input 3 0) (omega arith) refl refl refl refl refl

@@ -5,12 +5,16 @@ ghost use Prim.Native.Nat.{_+_, _*_, _≤_, _<_};
 ghost use lib.ListN.{length};
 ghost use Rattle.code.specs.Told.{toldCounted};
 ghost use Rattle.field.specs.Told.{toldRefusal};
+ghost use Rattle.io.specs.Counts.{Counts};
 ghost use Rattle.reader.specs.Program.{answerTo, output, answerText, Holds};
 ghost use Rattle.text.specs.Text.{listedLine, rowLines, Puts};
 use code::Counted;
 use field::Refusal;
 
 const HEADER: usize = 4;
+
+// One number more than any list takes.
+pub const LONGEST: usize = 486;
 
 fn number_of(r: Refusal) -> usize
     ensures { λ n. ⌜ n ≡ toldRefusal r .number ⌝ }
@@ -101,4 +105,16 @@ fn answer_to(input: &[u8], out: &mut [u8]) -> usize
     let mut numbers = [0u16; 241];
     let count = text::inside::numbers(&input[HEADER..], &mut numbers);
     answer(n, k, level, limit, &numbers[..count], out)
+}
+
+// What the program writes for its input: at most 844 bytes, in front of out.
+pub fn read(input: &[u8], out: &mut [u8]) -> usize
+    requires { ⌜ 844 ≤ length (now out) ⌝ }
+    ensures { λ r. ⌜ Puts (now (out .entry)) 0 (output (now (input .entry))) r (now (out .exit)) ⌝ }
+    ensures { λ r. ⌜ Counts r (now (out .exit)) ⌝ }
+{
+    if LONGEST < input.len() {
+        return answer_to(&input[..LONGEST], out);
+    }
+    answer_to(input, out)
 }

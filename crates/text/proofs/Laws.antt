@@ -156,3 +156,19 @@ module _ (k : ℕ) (rows scores : List ℕ) where
 -- a row of those that are there lies within the memory
 pub row-within : (k r many size : ℕ) → r < many → k * many ≤ size → k * r + k ≤ size
 row-within k r many size h l = let one-more = mul-le-mul-left k h in let grown = mul-suc k r in omega arith
+
+-- what is put ends within the memory
+laid-within : (out : List ℕ) (at : ℕ) (w : List ℕ) → at ≤ length out → at + length w ≤ length (laid out at w)
+unfolding laid
+laid-within out at w h =
+    let front = length-front out at w h in
+    let size = length-append (take at out ++ w) (drop (at + length w) out) in
+    omega arith
+
+pub puts-within : (out after w : List ℕ) (at end : ℕ) → at ≤ length out → Puts out at w end after → (end ≤ length after) × (end ≡ length (take end after))
+puts-within out after w at end h p =
+    let e : end ≡ at + length w = p .0 in
+    let within = laid-within out at w h in
+    let size : length after ≡ length (laid out at w) = ap length (p .2) in
+    let fits : end ≤ length after = omega arith in
+    (fits, sym (length-take-le end after fits))
