@@ -1,0 +1,120 @@
+// From the program's input to its output.
+ghost use mathlib.Core.Path.{_≡_};
+ghost use mathlib.Core.List.{_++_};
+ghost use Prim.Native.Nat.{_+_, _*_, _≤_, _<_};
+ghost use lib.ListN.{length};
+ghost use Rattle.code.specs.Told.{toldCounted};
+ghost use Rattle.field.specs.Told.{toldRefusal};
+ghost use Rattle.io.specs.Counts.{Counts};
+ghost use Rattle.reader.specs.Program.{answerTo, output, answerText, Holds};
+ghost use Rattle.text.specs.Text.{listedLine, rowLines, Puts};
+use code::Counted;
+use field::Refusal;
+
+const HEADER: usize = 4;
+
+// One number more than any list takes.
+pub const LONGEST: usize = 486;
+
+fn number_of(r: Refusal) -> usize
+    ensures { λ n. ⌜ n ≡ toldRefusal r .number ⌝ }
+{
+    match r {
+        Refusal::Sizes => 1,
+        Refusal::Setting => 2,
+        Refusal::Length => 3,
+        Refusal::Room => 4,
+        Refusal::Symbol(_) => 5,
+        Refusal::Column(_) => 6,
+        Refusal::Cost => 7,
+        Refusal::Zero => 8,
+    }
+}
+
+fn place_of(r: Refusal) -> usize
+    ensures { λ p. ⌜ p ≡ toldRefusal r .place ⌝ }
+{
+    match r {
+        Refusal::Sizes => 0,
+        Refusal::Setting => 0,
+        Refusal::Length => 0,
+        Refusal::Room => 0,
+        Refusal::Symbol(place) => place,
+        Refusal::Column(place) => place,
+        Refusal::Cost => 0,
+        Refusal::Zero => 0,
+    }
+}
+
+fn put_list(out: &mut [u8], k: usize, count: usize, rows: &[u8], scores: &[u16]) -> usize
+    requires { ⌜ (k ≤ 15) × (count ≤ 16) × (k * count ≤ length (now rows)) × (count ≤ length (now scores)) × (844 ≤ length (now out)) ⌝ }
+    ensures { λ r. ⌜ Puts (now (out .entry)) 0 (listedLine count ++ rowLines k (now (rows .entry)) (now (scores .entry)) count) r (now (out .exit)) ⌝ }
+{
+    let end = text::inside::put_listed(out, 0, count);
+    text::inside::put_rows(out, end, k, count, rows, scores)
+}
+
+fn put_answer(out: &mut [u8], k: usize, answer: Counted, rows: &[u8], scores: &[u16]) -> usize
+    requires { ⌜ Holds k (toldCounted answer) (now rows) (now scores) ⌝ }
+    requires { ⌜ 844 ≤ length (now out) ⌝ }
+    ensures { λ r. ⌜ Puts (now (out .entry)) 0 (answerText k (toldCounted answer) (now (rows .entry)) (now (scores .entry))) r (now (out .exit)) ⌝ }
+{
+    match answer {
+        Counted::Count(count) => put_list(out, k, count, rows, scores),
+        Counted::Refused(r) => text::inside::put_refused(out, 0, number_of(r), place_of(r)),
+    }
+}
+
+fn answer(
+    n: usize,
+    k: usize,
+    level: usize,
+    limit: usize,
+    reliabilities: &[u16],
+    out: &mut [u8],
+) -> usize
+    requires { ⌜ 844 ≤ length (now out) ⌝ }
+    ensures { λ r. ⌜ Puts (now (out .entry)) 0 (answerTo n k level limit (now (reliabilities .entry))) r (now (out .exit)) ⌝ }
+{
+    let mut rows = [0u8; 240];
+    let mut scores = [0u16; 16];
+    let told = list::list_of_reliabilities(
+        n,
+        k,
+        level,
+        limit,
+        reliabilities,
+        &mut rows,
+        &mut scores,
+    );
+    put_answer(out, k, told, &rows, &scores)
+}
+
+// The answer to an input of which no more than one number too many was read.
+fn answer_to(input: &[u8], out: &mut [u8]) -> usize
+    requires { ⌜ (length (now input) ≤ 486) × (844 ≤ length (now out)) ⌝ }
+    ensures { λ r. ⌜ Puts (now (out .entry)) 0 (output (now (input .entry))) r (now (out .exit)) ⌝ }
+{
+    if input.len() < HEADER {
+        return text::inside::put_refused(out, 0, 3, 0);
+    }
+    let n = field::inside::wide(input[0]);
+    let k = field::inside::wide(input[1]);
+    let level = field::inside::wide(input[2]);
+    let limit = field::inside::wide(input[3]);
+    let mut numbers = [0u16; 241];
+    let count = text::inside::numbers(&input[HEADER..], &mut numbers);
+    answer(n, k, level, limit, &numbers[..count], out)
+}
+
+// What the program writes for its input: at most 844 bytes, in front of out.
+pub fn read(input: &[u8], out: &mut [u8]) -> usize
+    requires { ⌜ 844 ≤ length (now out) ⌝ }
+    ensures { λ r. ⌜ Puts (now (out .entry)) 0 (output (now (input .entry))) r (now (out .exit)) ⌝ }
+    ensures { λ r. ⌜ Counts r (now (out .exit)) ⌝ }
+{
+    if LONGEST < input.len() {
+        return answer_to(&input[..LONGEST], out);
+    }
+    answer_to(input, out)
+}

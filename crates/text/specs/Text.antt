@@ -1,0 +1,77 @@
+-- What the program reads and writes: bytes to numbers, numbers to text. A text is the list of its ASCII codes.
+-- Assumes nothing.
+use mathlib.Core.Bool.{cond}
+use mathlib.Core.List.{List, [], _∷_, _++_, map}
+use mathlib.Core.Path.{_≡_}
+use Prim.Native.Nat.{ℕ, zero, suc, _+_, _*_, _/_, _%_}
+use lib.Dec.{eqb, ltb}
+use lib.ListN.{length, take, drop, getD}
+use Rattle.definitions.specs.Tools.{below}
+
+-- "numbers, low byte first": number i is at bytes 2i and 2i + 1
+abbrev pub numberAt : List ℕ → ℕ → ℕ
+numberAt bytes i = getD bytes (2 * i) 0 + 256 * getD bytes (2 * i + 1) 0
+
+-- the numbers of the bytes; none where a byte is left over, which is a wrong length for any n
+abbrev pub numbersOf : List ℕ → List ℕ
+numbersOf bytes = cond (eqb (length bytes % 2) 0) (map (numberAt bytes) (below (length bytes / 2))) []
+
+-- the last hexadecimal digit of a number, "lower case": a symbol has no other
+abbrev pub hexDigit : ℕ → ℕ
+hexDigit x = cond (ltb (x % 16) 10) (48 + x % 16) (87 + x % 16)
+
+-- a number in decimal, of at most w digits
+unfoldable pub decimalWithin : ℕ → ℕ → List ℕ
+decimalWithin zero x = []
+decimalWithin (suc w) x = cond (ltb x 10) ((48 + x) ∷ []) (decimalWithin w (x / 10) ++ ((48 + x % 10) ∷ []))
+
+-- no number has more digits than one more than itself
+abbrev pub decimal : ℕ → List ℕ
+decimal x = decimalWithin (suc x) x
+
+-- "listed ", "score ", " message ", "refused ", " at " and the line feed
+abbrev pub listedWord : List ℕ
+listedWord = 108 ∷ 105 ∷ 115 ∷ 116 ∷ 101 ∷ 100 ∷ 32 ∷ []
+
+abbrev pub scoreWord : List ℕ
+scoreWord = 115 ∷ 99 ∷ 111 ∷ 114 ∷ 101 ∷ 32 ∷ []
+
+abbrev pub messageWord : List ℕ
+messageWord = 32 ∷ 109 ∷ 101 ∷ 115 ∷ 115 ∷ 97 ∷ 103 ∷ 101 ∷ 32 ∷ []
+
+abbrev pub refusedWord : List ℕ
+refusedWord = 114 ∷ 101 ∷ 102 ∷ 117 ∷ 115 ∷ 101 ∷ 100 ∷ 32 ∷ []
+
+abbrev pub atWord : List ℕ
+atWord = 32 ∷ 97 ∷ 116 ∷ 32 ∷ []
+
+abbrev pub lineFeed : List ℕ
+lineFeed = 10 ∷ []
+
+-- "`listed N`"
+abbrev pub listedLine : ℕ → List ℕ
+listedLine count = listedWord ++ decimal count ++ lineFeed
+
+-- "`score S message H`, H being k hexadecimal digits, lower case, f₀ first"
+abbrev pub rowLine : ℕ → List ℕ → List ℕ
+rowLine score message = scoreWord ++ decimal score ++ messageWord ++ map hexDigit message ++ lineFeed
+
+-- the line of row j of k symbols that lie one after the other, and the lines of the first rows
+abbrev pub lineOf : ℕ → List ℕ → List ℕ → ℕ → List ℕ
+lineOf k rows scores j = rowLine (getD scores j 0) (take k (drop (k * j) rows))
+
+unfoldable pub rowLines : ℕ → List ℕ → List ℕ → ℕ → List ℕ
+rowLines k rows scores zero = []
+rowLines k rows scores (suc j) = rowLines k rows scores j ++ lineOf k rows scores j
+
+-- "or `refused R at P`"
+abbrev pub refusedLine : ℕ → ℕ → List ℕ
+refusedLine number place = refusedWord ++ decimal number ++ atWord ++ decimal place ++ lineFeed
+
+-- words put in place of what lies from a place on
+unfoldable pub laid : List ℕ → ℕ → List ℕ → List ℕ
+laid out at words = take at out ++ words ++ drop (at + length words) out
+
+-- words were put at a place: where they end, and the memory after it
+abbrev pub Puts : List ℕ → ℕ → List ℕ → ℕ → List ℕ → Type 0
+Puts out at words end after = (end ≡ at + length words) × (length after ≡ length out) × (after ≡ laid out at words)

@@ -1,0 +1,2 @@
+// Numbers from bytes, and numbers and rows as text.
+pub mod inside;
