@@ -3,9 +3,9 @@ use libc::STDIN_FILENO;
 use libc::STDOUT_FILENO;
 
 fn main() {
-    let mut input = [0u8; 486];
+    let mut input = [0u8; reader::LONGEST];
     let count = io::read_full(STDIN_FILENO, &mut input);
-    let mut out = [0u8; 844];
+    let mut out = [0u8; reader::ROOM];
     let end = reader::read(&input[..count], &mut out);
     io::write_all(STDOUT_FILENO, &out[..end]);
 }

@@ -10,11 +10,19 @@ ghost use Rattle.reader.specs.Program.{answerTo, output, answerText, Hol
 ghost use Rattle.text.specs.Text.{listedLine, rowLines, Puts};
 use code::Counted;
 use field::Refusal;
+use ranking::inside::ROWS;
 
 const HEADER: usize = 4;
 
 // One number more than any list takes.
 pub const LONGEST: usize = 486;
+
+const NUMBERS: usize = 241;
+
+// The line of the count, and sixteen rows of fifteen symbols.
+pub const ROOM: usize = 844;
+
+const SYMBOLS_OF_ROWS: usize = 240;
 
 fn number_of(r: Refusal) -> usize
     ensures { λ n. ⌜ n ≡ toldRefusal r .number ⌝ }
@@ -76,8 +84,8 @@ fn answer(
     requires { ⌜ 844 ≤ length (now out) ⌝ }
     ensures { λ r. ⌜ Puts (now (out .entry)) 0 (answerTo n k level limit (now (reliabilities .entry))) r (now (out .exit)) ⌝ }
 {
-    let mut rows = [0u8; 240];
-    let mut scores = [0u16; 16];
+    let mut rows = [0u8; SYMBOLS_OF_ROWS];
+    let mut scores = [0u16; ROWS];
     let told = list::list_of_reliabilities(
         n,
         k,
@@ -102,7 +110,7 @@ fn answer_to(input: &[u8], out: &mut [u8]) -> usize
     let k = field::inside::wide(input[1]);
     let level = field::inside::wide(input[2]);
     let limit = field::inside::wide(input[3]);
-    let mut numbers = [0u16; 241];
+    let mut numbers = [0u16; NUMBERS];
     let count = text::inside::numbers(&input[HEADER..], &mut numbers);
     answer(n, k, level, limit, &numbers[..count], out)
 }

@@ -7,6 +7,10 @@ ghost use Rattle.text.specs.Text.{numbersOf, hexDigit, decimal, listedLi
 
 const BASE: u8 = 16;
 
+const DIGITS: u8 = b'0';
+
+const LETTERS: u8 = b'a' - 10;
+
 fn number(low: u8, high: u8) -> u16
     ensures { λ r. ⌜ r ≡ low + 256 * high ⌝ }
 {
@@ -64,9 +68,9 @@ fn digit(x: u8) -> u8
 {
     let last = x % BASE;
     if last < 10 {
-        return 48 + last;
+        return DIGITS + last;
     }
-    87 + last
+    LETTERS + last
 }
 
 fn put_digits(out: &mut [u8], at: usize, message: &[u8]) -> usize
