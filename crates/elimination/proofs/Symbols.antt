@@ -3,13 +3,12 @@
 -- Assumes nothing.
 use mathlib.Core.List.{List}
 use mathlib.Core.Logic.{_≢_}
-use mathlib.Core.Path.{_≡_, sym, _∙_, ap, ap₂}
+use mathlib.Core.Path.{_≡_, sym, _∙_, ap}
 use Prim.Native.Nat.{ℕ, suc, _≤_, _<_}
 use native.Mathlib.Omega.{arith}
 use lib.ListN.{getD}
-use Rattle.algebra.proofs.Elements.{zero-symbol, one-symbol, plus-symbol, times-symbol}
+use Rattle.algebra.proofs.Elements.{number-injective, zero-symbol, one-symbol, plus-symbol, times-symbol, element-zero, element-one, element-plus, element-times}
 use Rattle.algebra.proofs.Linear.{dot, dot-equal, carry-dot}
-use Rattle.algebra.proofs.Elements.{number-injective}
 use Rattle.algebra.proofs.RingLaws.{plus-self, plus-zero, zero-times, equal-of-sum}
 use Rattle.algebra.specs.FieldOf.{FieldOf}
 use Rattle.definitions.specs.Code.{Symbols}
@@ -26,53 +25,31 @@ module _ (C : Code) (F : FieldOf C) where
   abbrev N : Ops
   N = numbers C
 
-  -- the element of 0
-  element-zero : F .element 0 ≡ G .o
-  element-zero = number-injective C F (F .element 0) (G .o) (F .number-element 0 (zero-symbol C F) ∙ sym (F .number .φ-zero))
-
-  -- the element of 1
-  element-one : F .element 1 ≡ G .i
-  element-one = number-injective C F (F .element 1) (G .i) (F .number-element 1 (one-symbol C F) ∙ sym (F .number .φ-one))
-
-  -- the element of a sum
-  element-plus : (a b : ℕ) → a < C .symbols → b < C .symbols → F .element (C .plus a b) ≡ G .add (F .element a) (F .element b)
-  element-plus a b ha hb =
-      number-injective C F (F .element (C .plus a b)) (G .add (F .element a) (F .element b))
-      (F .number-element (C .plus a b) (plus-symbol C F a b ha hb)
-      ∙ sym (F .number .φ-add (F .element a) (F .element b) ∙ ap₂ (C .plus) (F .number-element a ha) (F .number-element b hb)))
-
-  -- the element of a product
-  element-times : (a b : ℕ) → a < C .symbols → b < C .symbols → F .element (C .times a b) ≡ G .mul (F .element a) (F .element b)
-  element-times a b ha hb =
-      number-injective C F (F .element (C .times a b)) (G .mul (F .element a) (F .element b))
-      (F .number-element (C .times a b) (times-symbol C F a b ha hb)
-      ∙ sym (F .number .φ-mul (F .element a) (F .element b) ∙ ap₂ (C .times) (F .number-element a ha) (F .number-element b hb)))
-
   -- symbols with the same element are equal
   symbol-injective : (a b : ℕ) → a < C .symbols → b < C .symbols → F .element a ≡ F .element b → a ≡ b
   symbol-injective a b ha hb e = sym (F .number-element a ha) ∙ ap (F .number .φ) e ∙ F .number-element b hb
 
   -- a symbol whose element is zero
   symbol-zero : (a : ℕ) → a < C .symbols → F .element a ≡ G .o → a ≡ 0
-  symbol-zero a h e = symbol-injective a 0 h (zero-symbol C F) (e ∙ sym element-zero)
+  symbol-zero a h e = symbol-injective a 0 h (zero-symbol C F) (e ∙ sym (element-zero C F))
 
   -- equal symbols sum to zero, and only they
   pub plus-same : (a : ℕ) → a < C .symbols → C .plus a a ≡ 0
   plus-same a h =
-      symbol-zero (C .plus a a) (plus-symbol C F a a h h) (element-plus a a h h ∙ plus-self (F .ring) (F .element a))
+      symbol-zero (C .plus a a) (plus-symbol C F a a h h) (element-plus C F a a h h ∙ plus-self (F .ring) (F .element a))
 
   -- symbols that sum to zero are equal
   pub same-of-plus : (a b : ℕ) → a < C .symbols → b < C .symbols → C .plus a b ≡ 0 → a ≡ b
   same-of-plus a b ha hb e =
       symbol-injective a b ha hb
-      (equal-of-sum (F .ring) (F .element a) (F .element b) (sym (element-plus a b ha hb) ∙ ap (F .element) e ∙ element-zero))
+      (equal-of-sum (F .ring) (F .element a) (F .element b) (sym (element-plus C F a b ha hb) ∙ ap (F .element) e ∙ element-zero C F))
 
   -- a multiple by 0 adds nothing
   pub plus-nothing : (a b : ℕ) → a < C .symbols → b < C .symbols → a ≡ C .plus a (C .times 0 b)
   plus-nothing a b ha hb =
       symbol-injective a (C .plus a (C .times 0 b)) ha (plus-symbol C F a (C .times 0 b) ha (times-symbol C F 0 b (zero-symbol C F) hb))
-      (sym (element-plus a (C .times 0 b) ha (times-symbol C F 0 b (zero-symbol C F) hb)
-      ∙ ap (G .add (F .element a)) (element-times 0 b (zero-symbol C F) hb ∙ ap (λ (x : G .K). G .mul x (F .element b)) element-zero ∙ zero-times (F .ring) (F .element b))
+      (sym (element-plus C F a (C .times 0 b) ha (times-symbol C F 0 b (zero-symbol C F) hb)
+      ∙ ap (G .add (F .element a)) (element-times C F 0 b (zero-symbol C F) hb ∙ ap (λ (x : G .K). G .mul x (F .element b)) (element-zero C F) ∙ zero-times (F .ring) (F .element b))
       ∙ plus-zero (F .ring) (F .element a)))
 
   -- the elements of a list of rows
@@ -103,13 +80,13 @@ module _ (C : Code) (F : FieldOf C) where
     -- unit columns of elements
     unit-elements : (j : ℕ) (m : List (List ℕ)) → Units rows j m → UnitColumns G rows j (grid m)
     unfolding grid
-    unit-elements j m u k h = (ap (F .element) (u k h .0) ∙ element-one, λ a l n. ap (F .element) (u k h .1 a l n) ∙ element-zero)
+    unit-elements j m u k h = (ap (F .element) (u k h .0) ∙ element-one C F, λ a l n. ap (F .element) (u k h .1 a l n) ∙ element-zero C F)
 
     -- and of numbers
     unit-numbers : (j : ℕ) (m : List (List ℕ)) → SymbolRows C m → UnitColumns G rows j (grid m) → Units rows j m
     unfolding grid
     unit-numbers j m sm u k h = (
-      symbol-injective (entryOf m k k) 1 (sm k k) (one-symbol C F) (u k h .0 ∙ sym element-one),
+      symbol-injective (entryOf m k k) 1 (sm k k) (one-symbol C F) (u k h .0 ∙ sym (element-one C F)),
       λ a l n. symbol-zero (entryOf m a k) (sm a k) (u k h .1 a l n),
     )
 
@@ -121,7 +98,7 @@ module _ (C : Code) (F : FieldOf C) where
       pivoted : Pivoted G rows w (grid m) (grid b) r j (F .element u)
       unfolding grid
       pivoted = record {
-        pivot = λ k h. ap (F .element) (p .pivot k h) ∙ element-times u (entryOf m r k) hu (sm r k);
+        pivot = λ k h. ap (F .element) (p .pivot k h) ∙ element-times C F u (entryOf m r k) hu (sm r k);
         moved = λ n k h. ap (F .element) (p .moved n k h) ∙ cleared (entryOf m j k) (entryOf m j j) (entryOf b j k) (sm j k) (sm j j) (sb j k);
         others = λ t l n f k h. ap (F .element) (p .others t l n f k h) ∙ cleared (entryOf m t k) (entryOf m t j) (entryOf b j k) (sm t k) (sm t j) (sb j k);
       }
@@ -129,12 +106,12 @@ module _ (C : Code) (F : FieldOf C) where
           cleared : (x c y : ℕ) → x < C .symbols → c < C .symbols → y < C .symbols
               → F .element (C .plus x (C .times c y)) ≡ G .add (F .element x) (G .mul (F .element c) (F .element y))
           cleared x c y hx hc hy =
-              element-plus x (C .times c y) hx (times-symbol C F c y hc hy) ∙ ap (G .add (F .element x)) (element-times c y hc hy)
+              element-plus C F x (C .times c y) hx (times-symbol C F c y hc hy) ∙ ap (G .add (F .element x)) (element-times C F c y hc hy)
 
       module _ (one : C .times u (entryOf m r j) ≡ 1) where
         -- u is the inverse of the pivot
         scales : G .mul (F .element u) (F .element (entryOf m r j)) ≡ G .i
-        scales = sym (element-times u (entryOf m r j) hu (sm r j)) ∙ ap (F .element) one ∙ element-one
+        scales = sym (element-times C F u (entryOf m r j) hu (sm r j)) ∙ ap (F .element) one ∙ element-one C F
 
         -- a number that has an inverse is not zero
         nonzero : F .element u ≢ G .o
@@ -163,7 +140,7 @@ module _ (C : Code) (F : FieldOf C) where
       -- the column that depends has no pivot
       zero-below : (a : ℕ) → j ≤ a → a < rows → grid m a j ≡ G .o
       unfolding grid
-      zero-below a l h = ap (F .element) (d .1 a l h) ∙ element-zero
+      zero-below a l h = ap (F .element) (d .1 a l h) ∙ element-zero C F
 
       -- the column, then 1, then zeros, solves
       pub reduced-solves : (q : List ℕ) → Symbols C q → ((k : ℕ) → k < j → getD q k 0 ≡ entryOf m k j) → getD q j 0 ≡ 1
@@ -172,7 +149,7 @@ module _ (C : Code) (F : FieldOf C) where
       reduced-solves q sq column one ends =
           numbers-solve m sm q sq
           (column-solves (F .ring) rows w (grid m) j hj hr (unit-elements j m (d .0)) zero-below (vector q)
-          (λ k l h. ap (F .element) (ends k l h) ∙ element-zero) (λ k h. ap (F .element) (column k h)) (ap (F .element) one ∙ element-one))
+          (λ k l h. ap (F .element) (ends k l h) ∙ element-zero C F) (λ k h. ap (F .element) (column k h)) (ap (F .element) one ∙ element-one C F))
 
       -- and no other than zero ends earlier
       pub reduced-least : (q : List ℕ) → Symbols C q → Solves C rows w m q → ((k : ℕ) → j ≤ k → k < w → getD q k 0 ≡ 0)
@@ -181,4 +158,4 @@ module _ (C : Code) (F : FieldOf C) where
       reduced-least q sq s ends k h =
           symbol-zero (getD q k 0) (sq k)
           (ends-before (F .ring) rows w (grid m) j hj hr (unit-elements j m (d .0)) zero-below (vector q) (elements-solve m sm q sq s)
-          (λ a l f. ap (F .element) (ends a l f) ∙ element-zero) k h)
+          (λ a l f. ap (F .element) (ends a l f) ∙ element-zero C F) k h)

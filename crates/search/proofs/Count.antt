@@ -18,6 +18,7 @@ use Rattle.definitions.specs.Code.{Symbols}
 use Rattle.definitions.specs.Field.{Code, numbers, value}
 use Rattle.definitions.specs.Polynomial.{isZero}
 use Rattle.definitions.specs.Tools.{below, sum}
+use Rattle.algebra.proofs.Elements.{element-zero}
 use Rattle.algebra.specs.FieldOf.{FieldOf}
 use Rattle.algebra.proofs.Numbers.{elements, number-value}
 use Rattle.algebra.proofs.RootCounting.{root-counting}
@@ -25,7 +26,7 @@ use Rattle.algebra.proofs.Taylor.{taylor-zero}
 use Rattle.search.specs.Columns.{coefficient, first, shift, substitute}
 use Rattle.search.specs.Tree.{strip, constantsZero, begins, next, search, prefixes, allPrefixes}
 use Rattle.search.proofs.Columns.{Triangular, triangular-substitute, first-column}
-use Rattle.search.proofs.Elements.{zeros-of-isZero, not-isZero, SymbolColumns, element-zero, number-at, zero-elements, number-shift, shift-element, substitute-coefficient}
+use Rattle.search.proofs.Elements.{zeros-of-isZero, not-isZero, SymbolColumns, number-at, zero-elements, number-shift, shift-element, substitute-coefficient}
 use Rattle.search.proofs.Search.{strip-yes, strip-no, first-symbols, branch, search-zero, search-suc, next-symbols}
 use Rattle.search.proofs.Values.{shift-coefficient}
 

@@ -13,7 +13,7 @@ use Rattle.definitions.specs.Code.{Symbols}
 use Rattle.definitions.specs.Field.{Ops, Code, numbers}
 use Rattle.definitions.specs.Polynomial.{isZero}
 use Rattle.algebra.specs.FieldOf.{FieldOf}
-use Rattle.algebra.proofs.Elements.{zero-symbol}
+use Rattle.algebra.proofs.Elements.{zero-symbol, element-zero}
 use Rattle.algebra.proofs.Numbers.{elements, numbers-elements, isZero-of-zeros}
 use Rattle.algebra.proofs.RootCounting.{Zero}
 use Rattle.search.specs.Columns.{coefficient, first, shift, substitute}
@@ -57,13 +57,9 @@ module _ (C : Code) (F : FieldOf C) where
   abbrev pub columnElements : List (List ℕ) → List (List (F .ring .ops .K))
   columnElements M = map (elements C F) M
 
-  -- the element of 0
-  pub element-zero : F .element 0 ≡ F .ring .ops .o
-  element-zero = ap (F .element) (sym (F .number .φ-zero)) ∙ F .element-number (G .o)
-
   -- an entry of a list of elements
   pub element-at : (p : List ℕ) (n : ℕ) → getD (elements C F p) n (F .ring .ops .o) ≡ F .element (getD p n 0)
-  element-at [] n = sym element-zero
+  element-at [] n = sym (element-zero C F)
   element-at (x ∷ p) zero = refl
   element-at (x ∷ p) (suc n) = element-at p n
 
@@ -79,7 +75,7 @@ module _ (C : Code) (F : FieldOf C) where
 
   -- a list of zeros is one of zero elements
   pub elements-zero : (p : List ℕ) → isZero p ≡ true → Zero (F .ring .ops) (elements C F p)
-  elements-zero p z t = element-at p t ∙ ap (F .element) (zeros-of-isZero p z t) ∙ element-zero
+  elements-zero p z t = element-at p t ∙ ap (F .element) (zeros-of-isZero p z t) ∙ element-zero C F
 
   -- and the other way round
   pub zero-elements : (p : List ℕ) → Symbols C p → Zero (F .ring .ops) (elements C F p) → isZero p ≡ true

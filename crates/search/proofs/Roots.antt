@@ -19,9 +19,8 @@ use Rattle.definitions.specs.Roots.{compose, isRoot, rootsOf}
 use Rattle.definitions.specs.Tools.{select}
 use Rattle.algebra.specs.FieldOf.{FieldOf}
 use Rattle.algebra.proofs.Carry.{carried}
-use Rattle.algebra.proofs.Elements.{zero-symbol}
+use Rattle.algebra.proofs.Elements.{number-injective, zero-symbol, element-zero}
 use Rattle.algebra.proofs.Composition.{valueAt, evaluate-compose}
-use Rattle.algebra.proofs.Elements.{number-injective}
 use Rattle.algebra.proofs.Numbers.{elements, isZero-of-zeros, number-compose, compose-zero}
 use Rattle.algebra.proofs.RingLaws.{zero-plus}
 use Rattle.algebra.proofs.Series.{Series, constants, linear}
@@ -30,7 +29,7 @@ use Rattle.search.specs.Columns.{coefficient, first, columns, loaded}
 use Rattle.search.specs.Tree.{zeros, strip, search, prefixes, allPrefixes, grid}
 use Rattle.search.proofs.Arrays.{take-short, columns-within, columns-beyond, columns-above, loaded-keeps, loaded-zero, value-columns-zero, value-loaded, place-once}
 use Rattle.search.proofs.Count.{rows-at-most-prefixes, prefixes-at-most, all-prefixes-at-most}
-use Rattle.search.proofs.Elements.{zeros-of-isZero, SymbolColumns, columnElements, element-zero, element-at, number-at}
+use Rattle.search.proofs.Elements.{zeros-of-isZero, SymbolColumns, columnElements, element-at, number-at}
 use Rattle.search.proofs.Search.{Decides, strip-nil, strip-yes, strip-no, strip-symbols, strip-root, root-strip, search-selects}
 use Rattle.search.proofs.Values.{valueOf, along, series-coefficient}
 

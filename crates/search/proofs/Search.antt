@@ -17,12 +17,12 @@ use Rattle.definitions.specs.Field.{Code, numbers, value}
 use Rattle.definitions.specs.Polynomial.{isZero}
 use Rattle.definitions.specs.Tools.{below, select}
 use Rattle.algebra.specs.FieldOf.{FieldOf}
-use Rattle.algebra.proofs.Elements.{zero-symbol}
+use Rattle.algebra.proofs.Elements.{zero-symbol, element-zero}
 use Rattle.algebra.proofs.Numbers.{elements, number-value}
 use Rattle.search.specs.Columns.{first, substitute}
 use Rattle.search.specs.Tree.{strip, constantsZero, begins, next, search}
 use Rattle.search.proofs.Columns.{first-column}
-use Rattle.search.proofs.Elements.{both, SymbolColumns, columnElements, element-zero, element-at, zero-element, elements-zero, first-elements, substitute-elements, substitute-symbols}
+use Rattle.search.proofs.Elements.{both, SymbolColumns, columnElements, element-at, zero-element, elements-zero, first-elements, substitute-elements, substitute-symbols}
 use Rattle.search.proofs.Values.{Root, root-rest, rest-root, root-freed, freed-root, root-first, empty-first, empty-next, empty-root}
 
 -- equal lists for each number, equal lists joined
