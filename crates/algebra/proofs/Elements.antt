@@ -64,6 +64,10 @@ module _ (C : Code) (F : FieldOf C) where
     pub element-times : F .element (C .times a b) ≡ F .ring .ops .mul (F .element a) (F .element b)
     element-times = ap (F .element) (sym number-times) ∙ F .element-number (G .mul (F .element a) (F .element b))
 
+  -- the order of a product does not matter
+  pub times-either : (a b : ℕ) → a < C .symbols → b < C .symbols → C .times a b ≡ C .times b a
+  times-either a b ha hb = sym (number-times a b ha hb) ∙ ap φ (F .ring .mul-comm (F .element a) (F .element b)) ∙ number-times b a hb ha
+
   module _ (a : ℕ) (ha : a < C .symbols) (n : a ≢ 0) where
     -- the inverse in the field, as a number
     inverse : ℕ

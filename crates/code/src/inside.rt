@@ -1,40 +1,13 @@
-// Checks that several entries share, and encoding of what is within limits already.
+// Encoding of what is within limits already.
 ghost use mathlib.Core.List.{_++_};
 ghost use mathlib.Core.Path.{_≡_};
 ghost use Prim.Native.Nat.{_≤_, _<_};
 ghost use lib.ListN.{length, drop};
 ghost use Rattle.definitions.specs.Code.{Symbols, codeword};
 ghost use Rattle.definitions.specs.Field.{numbers, value, sixteen};
-ghost use Rattle.definitions.specs.Refusals.{sizesFit, firstAbove};
 ghost use Rattle.field.specs.Table.{Products};
 
 pub const ALPHA: u8 = 2;
-
-pub fn sizes_fit(n: usize, k: usize) -> bool
-    ensures { λ r. ⌜ r ≡ sizesFit sixteen n k ⌝ }
-{
-    if k < 2 {
-        return false;
-    }
-    if n < k {
-        return false;
-    }
-    n <= crate::POSITIONS
-}
-
-// The first place of a number above the greatest, or the length.
-pub fn first_above(greatest: u8, list: &[u8]) -> usize
-    ensures { λ r. ⌜ r ≡ firstAbove greatest (now (list .entry)) ⌝ }
-{
-    let mut i = 0;
-    while i < list.len() {
-        if greatest < list[i] {
-            return i;
-        }
-        i += 1;
-    }
-    i
-}
 
 // The value of the polynomial f at x.
 pub fn value_at(table: &[u8; 256], f: &[u8], x: u8) -> u8

@@ -1,18 +1,22 @@
 -- How a call comes through its table: line after line is passed, and one is given or none is. Whatever the call makes of that, its answer
 -- or its memory, is then known.
 -- Assumes nothing.
-use mathlib.Core.Bool.{Bool, true, false, not, _&&_, false≢true}
+use mathlib.Core.Bool.{Bool, true, false, _&&_, false≢true}
 use mathlib.Core.List.{List, [], _∷_}
-use mathlib.Core.Path.{_≡_, refl, ap}
-use Prim.Native.Nat.{ℕ, _≤_, _<_}
-use borrow.Author.Tests.{lt-ltb, le-ltb, eq-eqb, ne-eqb, leb-true}
-use lib.Dec.{leb}
-use lib.ListN.{length}
+use mathlib.Core.Path.{_≡_, refl}
+use Prim.Native.Nat.{ℕ, _-_, _≤_, _<_}
+use borrow.Author.Tests.{leb-true, ltb-false, eqb-true, not-false}
+use native.Mathlib.Omega.{arith}
+use lib.Dec.{eqb, leb}
+use lib.ListN.{length, getD}
+use Rattle.definitions.proofs.Refusals.{none-above}
 use Rattle.definitions.proofs.Tools.{split}
+use Rattle.definitions.specs.Bound.{count}
+use Rattle.definitions.specs.Code.{Symbols}
 use Rattle.definitions.specs.Field.{Code}
-use Rattle.definitions.specs.Limits.{greatestLevel}
-use Rattle.definitions.specs.Refusals.{Line, tried, sizesFit, sizes, sizeFits, size, levelFits, level, entries, room, firstAbove, noneAbove, badColumn, columns}
-use Rattle.definitions.specs.Tools.{smallest}
+use Rattle.definitions.specs.Limits.{greatestLevel, greatestLimit, greatestCount}
+use Rattle.definitions.specs.Refusals.{Line, tried, sizesFit, sizes, sizeFits, size, levelFits, level, limit, degree, entries, room, firstAbove, noneAbove, symbols, costWithin}
+use Rattle.definitions.specs.Weights.{cost}
 
 -- the refusal that a table gives: lines are passed, and one is given
 pub data Gives : List Line → ℕ → ℕ → Type 0 where
@@ -33,72 +37,47 @@ module _ {ℓ} {A : Type ℓ} (refused : ℕ → ℕ → A) (accepted : A) where
   accepts end = refl
   accepts (next e later) = rw e (accepts later)
 
--- the lines that several tables have
-module _ (C : Code) (n k : ℕ) where
-  pub sizes-given : sizesFit C n k ≡ false → sizes C n k .given ≡ true
-  sizes-given e = ap not e
-
-  pub sizes-passed : sizesFit C n k ≡ true → sizes C n k .given ≡ false
-  sizes-passed e = ap not e
-
-module _ (C : Code) (n : ℕ) where
-  pub size-given : sizeFits C n ≡ false → size C n .given ≡ true
-  size-given e = ap not e
-
-  pub size-passed : sizeFits C n ≡ true → size C n .given ≡ false
-  size-passed e = ap not e
-
-module _ (L : ℕ) where
-  pub level-given : levelFits L ≡ false → level L .given ≡ true
-  level-given e = ap not e
-
-  pub level-passed : levelFits L ≡ true → level L .given ≡ false
-  level-passed e = ap not e
-
-module _ (stated : ℕ) (input : List ℕ) where
-  pub entries-given : (length input ≡ stated → ⊥) → entries stated input .given ≡ true
-  entries-given n = ap not (ne-eqb (length input) stated n)
-
-  pub entries-passed : length input ≡ stated → entries stated input .given ≡ false
-  entries-passed e = ap not (eq-eqb (length input) stated e)
-
-module _ (needed given : ℕ) where
-  pub room-given : given < needed → room needed given .given ≡ true
-  room-given h = lt-ltb given needed h
-
-  pub room-passed : needed ≤ given → room needed given .given ≡ false
-  room-passed h = le-ltb given needed h
-
-module _ (greatest : ℕ) (l : List ℕ) where
-  pub above-given : firstAbove greatest l < length l → noneAbove greatest l .given ≡ true
-  above-given h = lt-ltb (firstAbove greatest l) (length l) h
-
-  pub above-passed : length l ≤ firstAbove greatest l → noneAbove greatest l .given ≡ false
-  above-passed h = le-ltb (firstAbove greatest l) (length l) h
-
-module _ (C : Code) (n : ℕ) (r : List ℕ) where
-  pub columns-given : smallest (badColumn C r) n < n → columns C n r .given ≡ true
-  columns-given h = lt-ltb (smallest (badColumn C r) n) n h
-
-  pub columns-passed : n ≤ smallest (badColumn C r) n → columns C n r .given ≡ false
-  columns-passed h = le-ltb (smallest (badColumn C r) n) n h
-
--- what the tests say of the numbers that pass them
+-- what a line says of a call that passes it
 both : (a b : Bool) → (a && b) ≡ true → (a ≡ true) × (b ≡ true)
 both true b e = (refl, e)
 both false b e = absurd (false≢true e)
 
-pub sizes-mean : (C : Code) (n k : ℕ) → sizesFit C n k ≡ true → (2 ≤ k) × (k ≤ n) × (n ≤ C .positions)
+pub sizes-mean : (C : Code) (n k : ℕ) → sizes C n k .given ≡ false → (2 ≤ k) × (k ≤ n) × (n ≤ C .positions)
 sizes-mean C n k e =
-    let low = both (leb 2 k) (leb k n && leb n (C .positions)) e in
+    let low = both (leb 2 k) (leb k n && leb n (C .positions)) (not-false (sizesFit C n k) e) in
     let high = both (leb k n) (leb n (C .positions)) (low .1) in
     (leb-true 2 k (low .0), leb-true k n (high .0), leb-true n (C .positions) (high .1))
 
-pub size-means : (C : Code) (n : ℕ) → sizeFits C n ≡ true → (2 ≤ n) × (n ≤ C .positions)
-size-means C n e = let b = both (leb 2 n) (leb n (C .positions)) e in (leb-true 2 n (b .0), leb-true n (C .positions) (b .1))
+pub size-means : (C : Code) (n : ℕ) → size C n .given ≡ false → (2 ≤ n) × (n ≤ C .positions)
+size-means C n e =
+    let b = both (leb 2 n) (leb n (C .positions)) (not-false (sizeFits C n) e) in
+    (leb-true 2 n (b .0), leb-true n (C .positions) (b .1))
 
-pub level-means : (L : ℕ) → levelFits L ≡ true → (1 ≤ L) × (L ≤ greatestLevel)
-level-means L e = let b = both (leb 1 L) (leb L greatestLevel) e in (leb-true 1 L (b .0), leb-true L greatestLevel (b .1))
+pub level-means : (L : ℕ) → level L .given ≡ false → (1 ≤ L) × (L ≤ greatestLevel)
+level-means L e =
+    let b = both (leb 1 L) (leb L greatestLevel) (not-false (levelFits L) e) in
+    (leb-true 1 L (b .0), leb-true L greatestLevel (b .1))
+
+pub limit-means : (G : ℕ) → limit G .given ≡ false → G ≤ greatestLimit
+limit-means G e = ltb-false greatestLimit G e
+
+pub degree-means : (v D : ℕ) → degree v D .given ≡ false → count v D ≤ greatestCount
+degree-means v D e = ltb-false greatestCount (count v D) e
+
+pub entries-mean : (stated : ℕ) (input : List ℕ) → entries stated input .given ≡ false → length input ≡ stated
+entries-mean stated input e = eqb-true (length input) stated (not-false (eqb (length input) stated) e)
+
+pub room-means : (needed given : ℕ) → room needed given .given ≡ false → needed ≤ given
+room-means needed given e = ltb-false given needed e
+
+pub above-means : (greatest : ℕ) (l : List ℕ) → noneAbove greatest l .given ≡ false → (j : ℕ) → getD l j 0 ≤ greatest
+above-means greatest l e = none-above greatest l (ltb-false (firstAbove greatest l) (length l) e)
+
+pub symbols-mean : (C : Code) → 0 < C .symbols → (l : List ℕ) → symbols C l .given ≡ false → Symbols C l
+symbols-mean C some l e j = let h = above-means (C .symbols - 1) l e j in omega arith
+
+pub cost-means : (G : ℕ) (m : List ℕ) → costWithin G m .given ≡ false → cost m ≤ G
+cost-means G m e = ltb-false G (cost m) e
 
 -- whatever a table gives: what is shown of a line's refusal where it is given, and of what is accepted where none is
 pub data Whatever (Refused : ℕ → ℕ → Type 0) (Accepted : Type 0) : List Line → Type 0 where

@@ -12,7 +12,8 @@ use borrow.Author.Tests.{ne-eqb}
 use lib.Dec.{T, eqb, ltb, eqb→eq, ltb→lt}
 use lib.ListN.{getD, set, length-set}
 use lib.Seq.{getD-set-same, getD-set-other}
-use Rattle.algebra.proofs.Tests.{every, every-at, first-passes, second-passes}
+use Rattle.algebra.proofs.Elements.{times-either, inverse-symbol, times-inverse}
+use Rattle.definitions.proofs.Table.{accepts}
 use Rattle.definitions.specs.Answers.{Answer, refused, valued, inverseAnswer}
 use Rattle.definitions.specs.Code.{Symbols}
 use Rattle.definitions.specs.Field.{numbers, sixteen, sumOf, double, shifted, inverseOf}
@@ -21,10 +22,10 @@ use Rattle.elimination.proofs.Pivot.{Pivoted}
 use Rattle.elimination.proofs.Symbols.{plus-nothing, step-solutions, step-units}
 use Rattle.elimination.specs.Rows.{entryOf, SameSolutions, Units}
 use Rattle.field.proofs.Instance.{sixteen-field}
-use Rattle.field.proofs.Order.{nonzero-symbol}
-use Rattle.field.specs.Told.{toldRefusal}
-use Rattle.field.specs.declared.Refusal.{Refusal}
-use Rattle.field.specs.declared.Refusal.the-variants.{Sizes, Setting, Length, Room, Symbol, Column, Cost, Zero}
+use Rattle.field.proofs.Operands.{inverse-accepts}
+use Rattle.refusals.proofs.Unique.{refusal-number}
+use Rattle.refusals.specs.Refusal.{toldRefusal}
+use Rattle.refusals.specs.declared.Refusal.{Refusal}
 use Rattle.dependence.specs.Dependence.{System, left, ClearedRow, Cleared, Step}
 use Rattle.rows.proofs.Filled.{filled-at, summed-symbols, multiple-symbols, multiple-at}
 use Rattle.rows.specs.Row.{width, summedRow, multipleRow, multiplesTo}
@@ -107,35 +108,17 @@ cleared-more j n o m b c r = record {
 
 -- ---- the pivot
 
--- the inverse of a symbol
-inverts : T (every 16 (λ a. eqb a 0 || (ltb (inverseOf sixteen a) 16 && eqb (sixteen .times (inverseOf sixteen a) a) 1)))
-unfolding every smallest sumOf double shifted
-inverts = tt
-
 -- what the inverse answers
 pub inverse-law : (a u : ℕ) → a < 16 → a ≢ 0 → valued u ≡ inverseAnswer sixteen a → (u < 16) × (sixteen .times u a ≡ 1)
 inverse-law a u h n e =
-    let is : u ≡ inverseOf sixteen a = ap (λ (x : Answer). x .value) (e ∙ sym (nonzero-symbol a refused (valued (inverseOf sixteen a)) (omega arith) n)) in
-    let test = rw (ne-eqb a 0 n) at (every-at 16 (λ a. eqb a 0 || (ltb (inverseOf sixteen a) 16 && eqb (sixteen .times (inverseOf sixteen a) a) 1)) inverts a h) in
-    let small = ltb→lt (inverseOf sixteen a) 16 (first-passes (ltb (inverseOf sixteen a) 16) (eqb (sixteen .times (inverseOf sixteen a) a) 1) test) in
-    let one = eqb→eq (sixteen .times (inverseOf sixteen a) a) 1 (second-passes (ltb (inverseOf sixteen a) 16) (eqb (sixteen .times (inverseOf sixteen a) a) 1) test) in
-    (subst (λ (x : ℕ). x < 16) (sym is) small, ap (λ (x : ℕ). sixteen .times x a) is ∙ one)
-
--- no refusal has the number 0
-refusal-number : (r : Refusal) → toldRefusal r .number ≡ 0 → ⊥
-refusal-number Sizes e = omega arith
-refusal-number Setting e = omega arith
-refusal-number Length e = omega arith
-refusal-number Room e = omega arith
-refusal-number (Symbol place) e = omega arith
-refusal-number (Column place) e = omega arith
-refusal-number Cost e = omega arith
-refusal-number Zero e = omega arith
+    let is : u ≡ inverseOf sixteen a = ap (λ (x : Answer). x .value) (e ∙ sym (accepts refused (valued (inverseOf sixteen a)) (inverse-accepts a (omega arith) n))) in
+    let small = inverse-symbol sixteen sixteen-field a h n in
+    (subst (λ (x : ℕ). x < 16) (sym is) small, ap (λ (x : ℕ). sixteen .times x a) is ∙ times-either sixteen sixteen-field (inverseOf sixteen a) a small h ∙ times-inverse sixteen sixteen-field a h n)
 
 -- a symbol that is not zero is not refused
 pub not-refused : (a : ℕ) (r : Refusal) → a < 16 → a ≢ 0 → toldRefusal r ≡ inverseAnswer sixteen a → ⊥
 not-refused a r h n e =
-    refusal-number r (ap (λ (x : Answer). x .number) (e ∙ sym (nonzero-symbol a refused (valued (inverseOf sixteen a)) (omega arith) n)))
+    refusal-number r (ap (λ (x : Answer). x .number) (e ∙ sym (accepts refused (valued (inverseOf sixteen a)) (inverse-accepts a (omega arith) n))))
 
 -- a multiple of a row of symbols, whatever the multiple
 pub scaled-symbols : (m : List (List ℕ)) → System m → (r : ℕ) {u : ℕ} {first : List ℕ} → u < 16 → first ≡ multipleRow u (getD m r []) → Symbols sixteen first

@@ -3,9 +3,9 @@
 use mathlib.Core.Path.{_≡_, refl, sym, _∙_, ap₂}
 use Prim.Native.Nat.{ℕ}
 use Rattle.definitions.specs.Answers.{Answer, refused}
-use Rattle.field.specs.Told.{toldRefusal}
-use Rattle.field.specs.declared.Refusal.{Refusal}
-use Rattle.field.specs.declared.Refusal.the-variants.{Sizes, Setting, Length, Room, Symbol, Column, Cost, Zero}
+use Rattle.refusals.specs.Refusal.{toldRefusal}
+use Rattle.refusals.specs.declared.Refusal.{Refusal}
+use Rattle.refusals.specs.declared.Refusal.the-variants.{Sizes, Setting, Length, Room, Symbol, Column, Cost, Zero}
 
 told-refused : (r : Refusal) → refused (toldRefusal r .number) (toldRefusal r .place) ≡ toldRefusal r
 told-refused Sizes = refl

@@ -4,21 +4,21 @@
 use mathlib.Core.List.{List}
 use mathlib.Core.Path.{_≡_, refl, sym, _∙_, ap}
 use Prim.Native.Nat.{ℕ}
-use Rattle.code.proofs.Unique.{one-counted}
-use Rattle.code.specs.Told.{toldCounted}
-use Rattle.code.specs.declared.Counted.{Counted}
+use Rattle.refusals.proofs.Unique.{one-counted}
+use Rattle.refusals.specs.Counted.{toldCounted}
+use Rattle.refusals.specs.declared.Counted.{Counted}
 use Rattle.definitions.specs.Answers.{Answer, sumAnswer, productAnswer, inverseAnswer, encodeAnswer, encodeOut, multiplicitiesAnswer, multiplicitiesOut, costAnswer, InterpolationAnswers, rootsAnswer, rootsOut, listAnswer, listRows, listScores, readAnswer, readRows, readScores}
 use Rattle.definitions.specs.Field.{sixteen}
 use Rattle.exports.specs.Crossing.{answerOf}
 use Rattle.exports.specs.declared.Answer as crossing
 use Rattle.field.proofs.Unique.{one-element}
-use Rattle.field.specs.Told.{toldElement}
+use Rattle.field.specs.Element.{toldElement}
 use Rattle.field.specs.declared.Element.{Element}
 use Rattle.interpolation.proofs.Unique.{interpolation-unique, numbers-unique}
-use Rattle.interpolation.specs.Told.{toldInterpolated}
+use Rattle.interpolation.specs.Interpolated.{toldInterpolated}
 use Rattle.interpolation.specs.declared.Interpolated.{Interpolated}
 use Rattle.weights.proofs.Unique.{one-costed}
-use Rattle.weights.specs.Told.{toldCosted}
+use Rattle.weights.specs.Costed.{toldCosted}
 use Rattle.weights.specs.declared.Costed.{Costed}
 
 pub sum-unique : (a b : ℕ) (x y : Element) → toldElement x ≡ sumAnswer sixteen a b → toldElement y ≡ sumAnswer sixteen a b → x ≡ y

@@ -1,17 +1,18 @@
 // The boundary to C: each entry over numbers and slices, its answer by value in one struct.
 ghost use mathlib.Core.Path.{_≡_};
 ghost use Prim.Native.Nat.{_≤_, _<_};
-ghost use Rattle.code.specs.Told.{toldCounted};
+ghost use Rattle.refusals.specs.Counted.{toldCounted};
 ghost use Rattle.definitions.specs.Answers.{sumAnswer, productAnswer, inverseAnswer, encodeAnswer, encodeOut, multiplicitiesAnswer, multiplicitiesOut, costAnswer, InterpolationAnswers, rootsAnswer, rootsOut, listAnswer, listRows, listScores, readAnswer, readRows, readScores};
 ghost use Rattle.definitions.specs.Field.{sixteen};
 ghost use Rattle.definitions.specs.Limits.{greatestRows};
 ghost use Rattle.exports.specs.Crossing.{answerOf, Narrow};
-ghost use Rattle.field.specs.Told.{toldRefusal, toldElement};
-ghost use Rattle.interpolation.specs.Told.{toldInterpolated};
-ghost use Rattle.weights.specs.Told.{toldCosted};
-use code::Counted;
+ghost use Rattle.refusals.specs.Refusal.{toldRefusal}
+ghost use Rattle.field.specs.Element.{toldElement};
+ghost use Rattle.interpolation.specs.Interpolated.{toldInterpolated};
+ghost use Rattle.weights.specs.Costed.{toldCosted};
+use refusals::Counted;
 use field::Element;
-use field::Refusal;
+use refusals::Refusal;
 use interpolation::Interpolated;
 use weights::Costed;
 

@@ -1,4 +1,4 @@
 pub mod Instance
-pub mod Order
+pub mod Operands
 pub mod Tables
 pub mod Unique

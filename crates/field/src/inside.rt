@@ -5,6 +5,7 @@ ghost use Prim.Native.Nat.{_<_};
 ghost use Rattle.definitions.specs.Field.{sixteen};
 ghost use Rattle.definitions.specs.Refusals.{firstAbove};
 ghost use Rattle.field.specs.Table.{Products, Inverses};
+use refusals::limits::GREATEST_SYMBOL;
 
 pub fn wide(x: u8) -> usize
     ensures { λ r. ⌜ (r ≡ x) × (r < 256) ⌝ }
@@ -16,10 +17,10 @@ pub fn wide(x: u8) -> usize
 pub fn first_bad(a: u8, b: u8) -> usize
     ensures { λ r. ⌜ r ≡ firstAbove 15 (a ∷ b ∷ []) ⌝ }
 {
-    if crate::GREATEST_SYMBOL < a {
+    if GREATEST_SYMBOL < a {
         return 0;
     }
-    if crate::GREATEST_SYMBOL < b {
+    if GREATEST_SYMBOL < b {
         return 1;
     }
     2

@@ -2,23 +2,13 @@
 ghost use mathlib.Core.Path.{_≡_};
 ghost use Rattle.definitions.specs.Field.{sixteen};
 ghost use Rattle.definitions.specs.Answers.{sumAnswer, productAnswer, inverseAnswer};
-ghost use Rattle.field.specs.Told.{toldElement};
+ghost use Rattle.field.specs.Element.{toldElement};
 
 pub mod inside;
 
-pub const GREATEST_SYMBOL: u8 = 15;
-
-// The lines of the table of refusals.
-pub enum Refusal {
-    Sizes,
-    Setting,
-    Length,
-    Room,
-    Symbol(usize),
-    Column(usize),
-    Cost,
-    Zero,
-}
+use refusals::Checked;
+use refusals::Refusal;
+use refusals::limits::GREATEST_SYMBOL;
 
 pub enum Element {
     Of(u8),
@@ -49,11 +39,11 @@ pub fn product(a: u8, b: u8) -> Element
 pub fn inverse(a: u8) -> Element
     ensures { λ r. ⌜ toldElement r ≡ inverseAnswer sixteen a ⌝ }
 {
-    if GREATEST_SYMBOL < a {
-        return Element::Refused(Refusal::Symbol(0));
-    }
-    if a == 0 {
-        return Element::Refused(Refusal::Zero);
+    let checked = Checked::Passed
+        .or(GREATEST_SYMBOL < a, Refusal::Symbol(0))
+        .or(a == 0, Refusal::Zero);
+    if let Checked::Refused(r) = checked {
+        return Element::Refused(r);
     }
     let table = inside::inverses();
     let at = inside::wide(a);

@@ -19,8 +19,8 @@ use Rattle.definitions.specs.Weights.{entryCost, cost}
 use Rattle.elimination.proofs.Leading.{isZero-false, leading-is}
 use Rattle.elimination.proofs.Unique.{interpolates-unique}
 use Rattle.field.proofs.Instance.{sixteen-field}
-use Rattle.field.proofs.Unique.{same-told, answerOf, refused-back}
-use Rattle.interpolation.specs.Told.{toldInterpolated}
+use Rattle.refusals.proofs.Unique.{same-told, answerOf, refused-back}
+use Rattle.interpolation.specs.Interpolated.{toldInterpolated}
 use Rattle.interpolation.specs.declared.Interpolated as Declared
 use Rattle.interpolation.specs.declared.Interpolated.the-variants.{Of, Refused}
 

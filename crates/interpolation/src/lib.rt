@@ -1,11 +1,11 @@
 // Interpolation: the polynomial with the smallest leading monomial.
 ghost use Rattle.definitions.specs.Answers.{InterpolationAnswers};
 ghost use Rattle.definitions.specs.Field.{sixteen};
-ghost use Rattle.interpolation.specs.Told.{toldInterpolated};
+ghost use Rattle.interpolation.specs.Interpolated.{toldInterpolated};
 
 pub mod inside;
 
-use field::Refusal;
+use refusals::Refusal;
 
 pub const GREATEST_LIMIT: usize = 150;
 

@@ -1,131 +1,84 @@
--- The refusals of the lists in their order.
+-- The refusals of the lists in their order: those of the checks, then the cost.
 -- Assumes nothing.
-use mathlib.Core.Bool.{true, false}
-use mathlib.Core.List.{List}
+use mathlib.Core.List.{List, [], _∷_, _++_}
 use mathlib.Core.Path.{_≡_, _∙_, ap}
-use Prim.Native.Nat.{ℕ, _*_, _≤_, _<_}
-use borrow.Author.Tests.{lt-ltb, le-ltb}
+use Prim.Native.Nat.{ℕ, _*_, _≤_}
+use borrow.Author.Tests.{ltb-false, eqb-true, not-false}
 use native.Mathlib.Omega.{arith}
 use lib.ListN.{length}
-use Rattle.definitions.proofs.Table.{Gives, stop, pass, Accepts, end, next, gives, accepts, sizes-given, sizes-passed, level-given, level-passed, entries-given, entries-passed, room-given, room-passed, above-given, above-passed, columns-given, columns-passed}
-use Rattle.definitions.specs.Answers.{Answer, refused, counted, rowsOnto, scoresOnto, listAnswer, listRows, listScores, readAnswer, readRows, readScores}
+use Rattle.definitions.proofs.Table.{Gives, Accepts, end, next, gives, accepts, sizes-mean, level-means}
+use Rattle.definitions.specs.Answers.{Answer, refused, counted}
 use Rattle.definitions.specs.Field.{sixteen}
-use Rattle.definitions.specs.Limits.{greatestRows}
-use Rattle.definitions.specs.Listing.{listOf}
-use Rattle.definitions.specs.Refusals.{Line, tried, sizesFit, levelFits, firstAbove, badColumn, listTable, readTable}
-use Rattle.definitions.specs.Tools.{smallest}
-use Rattle.definitions.specs.Weights.{matrix, cost}
-use Rattle.list.specs.Within.{Lists}
+use Rattle.definitions.specs.Refusals.{Line, sizesFit, sizes, levelFits, level, limit, entries, room, entriesOf, columns}
+use Rattle.refusals.specs.Refusal.{toldRefusal}
+use Rattle.refusals.specs.declared.Refusal.{Refusal}
+use Rattle.list.specs.Within.{Lists, Answered}
+use Rattle.refusals.proofs.Came.{Came, verdict, told-is, front-gives, front-passes}
+use Rattle.refusals.specs.Checked.{toldChecked}
+use Rattle.refusals.specs.declared.Checked.{Checked}
+use Rattle.refusals.specs.declared.Checked.the-variants.{Refused}
 
--- whatever the table: the answer and both memories, refused or listed
-module _ (table : List Line) (n k : ℕ) (m rows scores : List ℕ) where
-  abbrev pub Answered : Answer → List ℕ → List ℕ → Type 0
-  Answered answer rowsAfter scoresAfter =
-      (answer ≡ tried table refused (counted (length (listOf sixteen n k m))))
-      × ((rowsAfter ≡ tried table (λ _ _. rows) (rowsOnto sixteen k (listOf sixteen n k m) rows))
-      × ((scoresAfter ≡ tried table (λ _ _. scores) (scoresOnto sixteen n m (listOf sixteen n k m) scores)) × (answer .count ≤ greatestRows)))
+few-none : (r : Refusal) → toldRefusal r .count ≤ 16
+few-none r = let e = ap (λ (a : Answer). a .count) (told-is r) in omega arith
 
-  pub refuses : {number place : ℕ} → Gives table number place → Answered (refused number place) rows scores
+-- a table in two parts, of which the front refuses or passes the call on; and a table that accepts
+module _ (n k : ℕ) (m rows scores : List ℕ) where
+  pub stops : {front : List Line} (rest : List Line) {c : Checked} {r : Refusal} → Came front [] (toldChecked c) → c ≡ Refused r
+      → Answered (front ++ rest) n k m rows scores (toldRefusal r) rows scores
+  stops rest {r = r} came e =
+      let g = verdict came (Refused r) e in
+      (told-is r ∙ front-gives refused _ rest g, (front-gives (λ _ _. rows) _ rest g, (front-gives (λ _ _. scores) _ rest g, few-none r)))
+
+  pub goes-on : {front : List Line} (rest : List Line) → Accepts front → (answer : Answer) (rowsAfter scoresAfter : List ℕ)
+      → Answered rest n k m rows scores answer rowsAfter scoresAfter → Answered (front ++ rest) n k m rows scores answer rowsAfter scoresAfter
+  goes-on rest a answer rowsAfter scoresAfter w =
+      (w .0 ∙ front-passes refused _ rest a, (w .1 .0 ∙ front-passes (λ _ _. rows) _ rest a, (w .1 .1 .0 ∙ front-passes (λ _ _. scores) _ rest a, w .1 .1 .1)))
+
+  pub refuses : {table : List Line} {number place : ℕ} → Gives table number place → Answered table n k m rows scores (refused number place) rows scores
   refuses g = (gives refused _ g, (gives (λ _ _. rows) _ g, (gives (λ _ _. scores) _ g, omega arith)))
 
-  pub listed : Accepts table → (count : ℕ) (rowsAfter scoresAfter : List ℕ) → Lists n k m rows scores count rowsAfter scoresAfter → Answered (counted count) rowsAfter scoresAfter
+  pub listed : {table : List Line} → Accepts table → (count : ℕ) (rowsAfter scoresAfter : List ℕ) → Lists n k m rows scores count rowsAfter scoresAfter
+      → Answered table n k m rows scores (counted count) rowsAfter scoresAfter
   listed a count rowsAfter scoresAfter w =
       (ap counted (w .counted) ∙ accepts refused _ a, (w .rows-are ∙ accepts (λ _ _. rows) _ a, (w .scores-are ∙ accepts (λ _ _. scores) _ a, w .few)))
 
+-- what a call that passed the checks has
+pub record Fit (n k G size rows scores : ℕ) : Type 0 where
+  pub sizes-fit : (2 ≤ k) × (k ≤ n) × (n ≤ 15)
+  pub low : G ≤ 150
+  pub full : size ≡ 16 * n
+  pub room : 16 * k ≤ rows
+  pub spare : 16 ≤ scores
+
 module _ (n k G : ℕ) (m : List ℕ) (rows scores : ℕ) where
-  pub at-sizes : sizesFit sixteen n k ≡ false → Gives (listTable sixteen n k G m rows scores) 1 0
-  at-sizes s = stop (sizes-given sixteen n k s)
+  abbrev pub listFront : List Line
+  listFront = sizes sixteen n k ∷ limit G ∷ entries (16 * n) m ∷ room (16 * k) rows ∷ room 16 scores ∷ entriesOf m ∷ []
 
-  module _ (s : sizesFit sixteen n k ≡ true) where
-    pub at-limit : 150 < G → Gives (listTable sixteen n k G m rows scores) 2 0
-    at-limit g = pass (sizes-passed sixteen n k s) (stop (lt-ltb 150 G g))
-
-    module _ (g : G ≤ 150) where
-      pub at-length : (length m ≡ 16 * n → ⊥) → Gives (listTable sixteen n k G m rows scores) 3 0
-      at-length e = pass (sizes-passed sixteen n k s) (pass (le-ltb 150 G g) (stop (entries-given (16 * n) m e)))
-
-      module _ (e : length m ≡ 16 * n) where
-        pub at-rows : rows < 16 * k → Gives (listTable sixteen n k G m rows scores) 4 0
-        at-rows r = pass (sizes-passed sixteen n k s) (pass (le-ltb 150 G g) (pass (entries-passed (16 * n) m e) (stop (room-given (16 * k) rows r))))
-
-        module _ (r : 16 * k ≤ rows) where
-          pub at-scores : scores < 16 → Gives (listTable sixteen n k G m rows scores) 4 0
-          at-scores t =
-              pass (sizes-passed sixteen n k s)
-              (pass (le-ltb 150 G g) (pass (entries-passed (16 * n) m e) (pass (room-passed (16 * k) rows r) (stop (room-given 16 scores t)))))
-
-          module _ (t : 16 ≤ scores) where
-            pub at-entry : firstAbove 4 m < length m → Gives (listTable sixteen n k G m rows scores) 5 (firstAbove 4 m)
-            at-entry a =
-                pass (sizes-passed sixteen n k s)
-                (pass (le-ltb 150 G g)
-                (pass (entries-passed (16 * n) m e) (pass (room-passed (16 * k) rows r) (pass (room-passed 16 scores t) (stop (above-given 4 m a))))))
-
-            module _ (a : length m ≤ firstAbove 4 m) where
-              pub at-cost : G < cost m → Gives (listTable sixteen n k G m rows scores) 7 0
-              at-cost c =
-                  pass (sizes-passed sixteen n k s)
-                  (pass (le-ltb 150 G g)
-                  (pass (entries-passed (16 * n) m e)
-                  (pass (room-passed (16 * k) rows r) (pass (room-passed 16 scores t) (pass (above-passed 4 m a) (stop (lt-ltb G (cost m) c)))))))
-
-              pub accepted : cost m ≤ G → Accepts (listTable sixteen n k G m rows scores)
-              accepted c =
-                  next (sizes-passed sixteen n k s)
-                  (next (le-ltb 150 G g)
-                  (next (entries-passed (16 * n) m e)
-                  (next (room-passed (16 * k) rows r) (next (room-passed 16 scores t) (next (above-passed 4 m a) (next (le-ltb G (cost m) c) end))))))
+  pub list-fits : Accepts listFront → Fit n k G (length m) rows scores
+  list-fits (next s (next g (next e (next r (next t (next a end)))))) = record {
+    sizes-fit = sizes-mean sixteen n k (not-false (sizesFit sixteen n k) s);
+    low = ltb-false 150 G g;
+    full = eqb-true (length m) (16 * n) (not-false _ e);
+    room = ltb-false rows (16 * k) r;
+    spare = ltb-false scores 16 t;
+  }
 
 module _ (n k L G : ℕ) (r : List ℕ) (rows scores : ℕ) where
-  pub read-at-sizes : sizesFit sixteen n k ≡ false → Gives (readTable sixteen n k L G r rows scores) 1 0
-  read-at-sizes s = stop (sizes-given sixteen n k s)
+  -- the lines before the columns, which need what these say
+  abbrev pub readStart : List Line
+  readStart = sizes sixteen n k ∷ level L ∷ limit G ∷ entries (16 * n) r ∷ room (16 * k) rows ∷ room 16 scores ∷ []
 
-  module _ (s : sizesFit sixteen n k ≡ true) where
-    pub read-at-level : levelFits L ≡ false → Gives (readTable sixteen n k L G r rows scores) 2 0
-    read-at-level l = pass (sizes-passed sixteen n k s) (stop (level-given L l))
+  abbrev pub readFront : List Line
+  readFront = readStart ++ (columns sixteen n r ∷ [])
 
-    module _ (l : levelFits L ≡ true) where
-      pub read-at-limit : 150 < G → Gives (readTable sixteen n k L G r rows scores) 2 0
-      read-at-limit g = pass (sizes-passed sixteen n k s) (pass (level-passed L l) (stop (lt-ltb 150 G g)))
-
-      module _ (g : G ≤ 150) where
-        pub read-at-length : (length r ≡ 16 * n → ⊥) → Gives (readTable sixteen n k L G r rows scores) 3 0
-        read-at-length e = pass (sizes-passed sixteen n k s) (pass (level-passed L l) (pass (le-ltb 150 G g) (stop (entries-given (16 * n) r e))))
-
-        module _ (e : length r ≡ 16 * n) where
-          pub read-at-rows : rows < 16 * k → Gives (readTable sixteen n k L G r rows scores) 4 0
-          read-at-rows h =
-              pass (sizes-passed sixteen n k s)
-              (pass (level-passed L l) (pass (le-ltb 150 G g) (pass (entries-passed (16 * n) r e) (stop (room-given (16 * k) rows h)))))
-
-          module _ (h : 16 * k ≤ rows) where
-            pub read-at-scores : scores < 16 → Gives (readTable sixteen n k L G r rows scores) 4 0
-            read-at-scores t =
-                pass (sizes-passed sixteen n k s)
-                (pass (level-passed L l)
-                (pass (le-ltb 150 G g) (pass (entries-passed (16 * n) r e) (pass (room-passed (16 * k) rows h) (stop (room-given 16 scores t))))))
-
-            module _ (t : 16 ≤ scores) where
-              pub read-at-column : smallest (badColumn sixteen r) n < n → Gives (readTable sixteen n k L G r rows scores) 6 (smallest (badColumn sixteen r) n)
-              read-at-column b =
-                  pass (sizes-passed sixteen n k s)
-                  (pass (level-passed L l)
-                  (pass (le-ltb 150 G g)
-                  (pass (entries-passed (16 * n) r e) (pass (room-passed (16 * k) rows h) (pass (room-passed 16 scores t) (stop (columns-given sixteen n r b)))))))
-
-              module _ (b : n ≤ smallest (badColumn sixteen r) n) where
-                pub read-at-cost : G < cost (matrix L r) → Gives (readTable sixteen n k L G r rows scores) 7 0
-                read-at-cost c =
-                    pass (sizes-passed sixteen n k s)
-                    (pass (level-passed L l)
-                    (pass (le-ltb 150 G g)
-                    (pass (entries-passed (16 * n) r e)
-                    (pass (room-passed (16 * k) rows h) (pass (room-passed 16 scores t) (pass (columns-passed sixteen n r b) (stop (lt-ltb G (cost (matrix L r)) c))))))))
-
-                pub read-accepted : cost (matrix L r) ≤ G → Accepts (readTable sixteen n k L G r rows scores)
-                read-accepted c =
-                    next (sizes-passed sixteen n k s)
-                    (next (level-passed L l)
-                    (next (le-ltb 150 G g)
-                    (next (entries-passed (16 * n) r e)
-                    (next (room-passed (16 * k) rows h) (next (room-passed 16 scores t) (next (columns-passed sixteen n r b) (next (le-ltb G (cost (matrix L r)) c) end)))))))
+  pub read-fits : Accepts readStart → (L ≤ 4) × Fit n k G (length r) rows scores
+  read-fits (next s (next l (next g (next e (next h (next t end)))))) = (
+    level-means L (not-false (levelFits L) l) .1,
+    record {
+      sizes-fit = sizes-mean sixteen n k (not-false (sizesFit sixteen n k) s);
+      low = ltb-false 150 G g;
+      full = eqb-true (length r) (16 * n) (not-false _ e);
+      room = ltb-false rows (16 * k) h;
+      spare = ltb-false scores 16 t;
+    },
+  )

@@ -1,13 +1,14 @@
 -- What the inner list leaves, of a matrix held by value.
 -- Assumes nothing.
-use mathlib.Core.List.{List}
+use mathlib.Core.List.{List, [], _∷_}
 use mathlib.Core.Path.{_≡_}
 use Prim.Native.Nat.{ℕ, _*_, _≤_}
 use lib.ListN.{length}
-use Rattle.definitions.specs.Answers.{rowsOnto, scoresOnto}
+use Rattle.definitions.specs.Answers.{Answer, refused, counted, rowsOnto, scoresOnto}
 use Rattle.definitions.specs.Field.{sixteen}
 use Rattle.definitions.specs.Limits.{greatestRows}
 use Rattle.definitions.specs.Listing.{listOf}
+use Rattle.definitions.specs.Refusals.{Line, tried, costWithin}
 use Rattle.weights.specs.Matrix.{matrixOf}
 
 -- the matrix was loaded from the bytes of n positions
@@ -24,3 +25,16 @@ pub record Lists (n k : ℕ) (m rows scores : List ℕ) (count : ℕ) (rowsAfter
 abbrev pub ListsOf : List (List ℕ) → ℕ → ℕ → List ℕ → List ℕ → ℕ → List ℕ → List ℕ → Type 0
 ListsOf a n k rows scores count rowsAfter scoresAfter =
     (m : List ℕ) → length m ≡ 16 * n → a ≡ matrixOf m n → Lists n k m rows scores count rowsAfter scoresAfter
+
+-- what a table makes of the list: the answer and both memories, refused or listed
+module _ (table : List Line) (n k : ℕ) (m rows scores : List ℕ) where
+  abbrev pub Answered : Answer → List ℕ → List ℕ → Type 0
+  Answered answer rowsAfter scoresAfter =
+      (answer ≡ tried table refused (counted (length (listOf sixteen n k m))))
+      × ((rowsAfter ≡ tried table (λ _ _. rows) (rowsOnto sixteen k (listOf sixteen n k m) rows))
+      × ((scoresAfter ≡ tried table (λ _ _. scores) (scoresOnto sixteen n m (listOf sixteen n k m) scores)) × (answer .count ≤ greatestRows)))
+
+-- the last line of both tables, the cost
+abbrev pub PricedOf : List (List ℕ) → ℕ → ℕ → ℕ → List ℕ → List ℕ → Answer → List ℕ → List ℕ → Type 0
+PricedOf a n k G rows scores answer rowsAfter scoresAfter =
+    (m : List ℕ) → length m ≡ 16 * n → a ≡ matrixOf m n → Answered (costWithin G m ∷ []) n k m rows scores answer rowsAfter scoresAfter

@@ -2,8 +2,15 @@
 ghost use mathlib.Core.Path.{_≡_};
 ghost use Prim.Native.Nat.{_*_, _≤_, _<_};
 ghost use lib.ListN.{length};
-ghost use Rattle.list.specs.Within.{Loaded, ListsOf};
+ghost use Rattle.list.specs.Within.{Loaded, ListsOf, PricedOf};
+ghost use Rattle.refusals.specs.Counted.{toldCounted};
+ghost use Rattle.definitions.specs.Field.{sixteen};
+ghost use Rattle.definitions.specs.Refusals.{columns};
+ghost use Rattle.refusals.specs.Checked.{orLine, toldChecked};
 ghost use Rattle.weights.specs.Matrix.{matrixCost};
+use refusals::Counted;
+use refusals::Refusal;
+use refusals::Checked;
 
 const COEFFICIENTS: usize = 160;
 
@@ -37,4 +44,42 @@ pub fn list_within(
     let mut found = [0u8; FOUND];
     let many = roots::inside::roots_into(bound, k, &polynomial[..count], &mut found);
     ranking::inside::ranked(matrix, n, k, narrow(bound), &found, many, rows, scores)
+}
+
+// The list, where the matrix costs no more than the limit.
+pub fn list_priced(
+    matrix: &[[u8; 16]; 15],
+    n: usize,
+    k: usize,
+    limit: usize,
+    rows: &mut [u8],
+    scores: &mut [u16],
+) -> Counted
+    requires { ⌜ (2 ≤ k) × (k ≤ n) × (n ≤ 15) × (limit ≤ 150) ⌝ }
+    requires { ⌜ (16 * k ≤ length (now rows)) × (16 ≤ length (now scores)) ⌝ }
+    requires { ⌜ Loaded (now matrix) n ⌝ }
+    ensures { λ r. ⌜ PricedOf (now (matrix .entry)) n k limit (now (rows .entry)) (now (scores .entry)) (toldCounted r) (now (rows .exit)) (now (scores .exit)) ⌝ }
+{
+    let cost = weights::inside::cost(matrix);
+    if limit < cost {
+        return Counted::Refused(Refusal::Cost);
+    }
+    Counted::Count(list_within(matrix, n, k, cost, rows, scores))
+}
+
+pub fn columns_checked(checked: Checked, reliabilities: &[u16], n: usize) -> Checked
+    requires { ⌜ (checked ≡ Checked.Passed → (n ≤ 15) × (16 * n ≤ length (now reliabilities))) ⌝ }
+    ensures { λ r. ⌜ toldChecked r ≡ orLine (toldChecked checked) (columns sixteen n (now (reliabilities .entry))) ⌝ }
+{
+    match checked {
+        Checked::Refused(r) => Checked::Refused(r),
+        Checked::Passed => {
+            let bad = weights::inside::first_bad_column(reliabilities, n);
+            if bad < n {
+                Checked::Refused(Refusal::Column(bad))
+            } else {
+                Checked::Passed
+            }
+        }
+    }
 }

@@ -1,17 +1,18 @@
 // The list: every message whose codeword's score is above the bound, and no other.
 ghost use mathlib.Core.Path.{_≡_};
 ghost use Prim.Native.Nat.{_≤_};
-ghost use Rattle.code.specs.Told.{toldCounted};
+ghost use Rattle.refusals.specs.Counted.{toldCounted};
 ghost use Rattle.definitions.specs.Answers.{listAnswer, listRows, listScores, readAnswer, readRows, readScores};
 ghost use Rattle.definitions.specs.Field.{sixteen};
 ghost use Rattle.definitions.specs.Limits.{greatestRows};
 
 pub mod inside;
 
-use code::Counted;
-use field::Refusal;
+use refusals::Counted;
+use refusals::Refusal;
 use interpolation::GREATEST_LIMIT;
 use ranking::inside::ROWS;
+use refusals::Checked;
 use weights::inside::SYMBOLS;
 
 const ENTRIES: usize = 240;
@@ -29,31 +30,17 @@ pub fn list_of_multiplicities(
     ensures { λ _. ⌜ now (scores .exit) ≡ listScores sixteen n k limit (now (matrix .entry)) (now (rows .entry)) (now (scores .entry)) ⌝ }
     ensures { λ r. ⌜ toldCounted r .count ≤ greatestRows ⌝ }
 {
-    if !code::inside::sizes_fit(n, k) {
-        return Counted::Refused(Refusal::Sizes);
-    }
-    if GREATEST_LIMIT < limit {
-        return Counted::Refused(Refusal::Setting);
-    }
-    if matrix.len() != SYMBOLS * n {
-        return Counted::Refused(Refusal::Length);
-    }
-    if rows.len() < ROWS * k {
-        return Counted::Refused(Refusal::Room);
-    }
-    if scores.len() < ROWS {
-        return Counted::Refused(Refusal::Room);
-    }
-    let bad = code::inside::first_above(weights::GREATEST_ENTRY, matrix);
-    if bad < matrix.len() {
-        return Counted::Refused(Refusal::Symbol(bad));
+    let checked = Checked::sizes(n, k)
+        .or(GREATEST_LIMIT < limit, Refusal::Setting)
+        .length(matrix.len(), SYMBOLS, n)
+        .room(rows.len(), ROWS, k)
+        .room(scores.len(), ROWS, 1)
+        .symbols(weights::GREATEST_ENTRY, matrix);
+    if let Checked::Refused(r) = checked {
+        return Counted::Refused(r);
     }
     let columns = weights::inside::load(matrix, n);
-    let cost = weights::inside::cost(&columns);
-    if limit < cost {
-        return Counted::Refused(Refusal::Cost);
-    }
-    Counted::Count(inside::list_within(&columns, n, k, cost, rows, scores))
+    inside::list_priced(&columns, n, k, limit, rows, scores)
 }
 
 pub fn list_of_reliabilities(
@@ -70,35 +57,19 @@ pub fn list_of_reliabilities(
     ensures { λ _. ⌜ now (scores .exit) ≡ readScores sixteen n k level limit (now (reliabilities .entry)) (now (rows .entry)) (now (scores .entry)) ⌝ }
     ensures { λ r. ⌜ toldCounted r .count ≤ greatestRows ⌝ }
 {
-    if !code::inside::sizes_fit(n, k) {
-        return Counted::Refused(Refusal::Sizes);
-    }
-    if !weights::inside::level_fits(level) {
-        return Counted::Refused(Refusal::Setting);
-    }
-    if GREATEST_LIMIT < limit {
-        return Counted::Refused(Refusal::Setting);
+    let settled = Checked::sizes(n, k)
+        .level(level)
+        .or(GREATEST_LIMIT < limit, Refusal::Setting)
+        .length(reliabilities.len(), SYMBOLS, n)
+        .room(rows.len(), ROWS, k)
+        .room(scores.len(), ROWS, 1);
+    let checked = inside::columns_checked(settled, reliabilities, n);
+    if let Checked::Refused(r) = checked {
+        return Counted::Refused(r);
     }
     let entries = SYMBOLS * n;
-    if reliabilities.len() != entries {
-        return Counted::Refused(Refusal::Length);
-    }
-    if rows.len() < ROWS * k {
-        return Counted::Refused(Refusal::Room);
-    }
-    if scores.len() < ROWS {
-        return Counted::Refused(Refusal::Room);
-    }
-    let bad = weights::inside::first_bad_column(reliabilities, n);
-    if bad < n {
-        return Counted::Refused(Refusal::Column(bad));
-    }
     let mut matrix = [0u8; ENTRIES];
     weights::inside::multiplicities_into(level, reliabilities, &mut matrix);
     let columns = weights::inside::load(&matrix[..entries], n);
-    let cost = weights::inside::cost(&columns);
-    if limit < cost {
-        return Counted::Refused(Refusal::Cost);
-    }
-    Counted::Count(inside::list_within(&columns, n, k, cost, rows, scores))
+    inside::list_priced(&columns, n, k, limit, rows, scores)
 }

@@ -24,9 +24,9 @@ use Rattle.definitions.specs.Refusals.{Line, tried, line, sizesFit, sizes, leve
 use Rattle.definitions.specs.Tools.{below, select}
 use Rattle.definitions.specs.Weights.{matrix, cost, score}
 use Rattle.field.proofs.Instance.{sixteen-field}
-use Rattle.field.specs.Told.{toldRefusal}
-use Rattle.field.specs.declared.Refusal.{Refusal}
-use Rattle.field.specs.declared.Refusal.the-variants.{Sizes, Setting, Length, Room, Symbol, Column, Cost, Zero}
+use Rattle.refusals.specs.Refusal.{toldRefusal}
+use Rattle.refusals.specs.declared.Refusal.{Refusal}
+use Rattle.refusals.specs.declared.Refusal.the-variants.{Sizes, Setting, Length, Room, Symbol, Column, Cost, Zero}
 use Rattle.ranking.proofs.Memory.{rows-read}
 use Rattle.ranking.proofs.Written.{Sized, length-flatten, flatten-append}
 use Rattle.ranking.specs.Rows.{rowAt, rowsOf}

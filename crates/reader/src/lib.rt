@@ -3,13 +3,13 @@ ghost use mathlib.Core.Path.{_≡_};
 ghost use mathlib.Core.List.{_++_};
 ghost use Prim.Native.Nat.{_+_, _*_, _≤_, _<_};
 ghost use lib.ListN.{length};
-ghost use Rattle.code.specs.Told.{toldCounted};
-ghost use Rattle.field.specs.Told.{toldRefusal};
+ghost use Rattle.refusals.specs.Counted.{toldCounted};
+ghost use Rattle.refusals.specs.Refusal.{toldRefusal};
 ghost use Rattle.io.specs.Counts.{Counts};
 ghost use Rattle.reader.specs.Program.{answerTo, output, answerText, Holds};
 ghost use Rattle.text.specs.Text.{listedLine, rowLines, Puts};
-use code::Counted;
-use field::Refusal;
+use refusals::Counted;
+use refusals::Refusal;
 use ranking::inside::ROWS;
 
 const HEADER: usize = 4;

@@ -1,13 +1,13 @@
 // The y-roots of a polynomial: all messages f with Q(x, f(x)) identically zero.
 ghost use mathlib.Core.Path.{_≡_};
-ghost use Rattle.code.specs.Told.{toldCounted};
+ghost use Rattle.refusals.specs.Counted.{toldCounted};
 ghost use Rattle.definitions.specs.Answers.{rootsAnswer, rootsOut};
 ghost use Rattle.definitions.specs.Field.{sixteen};
 
 pub mod inside;
 
-use code::Counted;
-use field::Refusal;
+use refusals::Counted;
+use refusals::Refusal;
 
 pub const GREATEST_COUNT: usize = 256;
 

@@ -1,4 +1,3 @@
 pub mod Laws
 pub mod Cost
-pub mod Order
 pub mod Unique

@@ -2,8 +2,8 @@
 -- Assumes nothing.
 use mathlib.Core.Path.{_≡_, refl}
 use Rattle.definitions.specs.Answers.{Answer}
-use Rattle.field.proofs.Unique.{same-told, answerOf, refused-back}
-use Rattle.weights.specs.Told.{toldCosted}
+use Rattle.refusals.proofs.Unique.{same-told, answerOf, refused-back}
+use Rattle.weights.specs.Costed.{toldCosted}
 use Rattle.weights.specs.declared.Costed.{Costed}
 use Rattle.weights.specs.declared.Costed.the-variants.{Of, Refused}
 

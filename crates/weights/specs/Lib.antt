@@ -1,2 +1,2 @@
 pub mod Matrix
-pub mod Told
+pub mod Costed

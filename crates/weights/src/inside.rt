@@ -6,34 +6,18 @@ ghost use Prim.Native.Nat.{_+_, _*_, _≤_, _<_};
 ghost use lib.ListN.{length, drop};
 ghost use Rattle.definitions.specs.Bound.{count, bound};
 ghost use Rattle.definitions.specs.Field.{sixteen};
-ghost use Rattle.definitions.specs.Refusals.{sizeFits, levelFits, badColumn};
+ghost use Rattle.definitions.specs.Limits.{greatestLevel};
+ghost use Rattle.definitions.specs.Refusals.{badColumn, columns};
 ghost use Rattle.definitions.specs.Tools.{smallest};
 ghost use Rattle.definitions.specs.Weights.{sumOfColumn, multiplicity, matrix};
+ghost use Rattle.refusals.specs.Checked.{orLine, toldChecked};
 ghost use Rattle.weights.specs.Matrix.{columnOf, matrixOf, columnCost, matrixCost};
 
-pub const SYMBOLS: usize = 16;
-
-const COLUMN_SUM: usize = 4096;
-
-const GREATEST_LEVEL: usize = 4;
-
-pub fn size_fits(n: usize) -> bool
-    ensures { λ r. ⌜ r ≡ sizeFits sixteen n ⌝ }
-{
-    if n < 2 {
-        return false;
-    }
-    n <= code::POSITIONS
-}
-
-pub fn level_fits(level: usize) -> bool
-    ensures { λ r. ⌜ r ≡ levelFits level ⌝ }
-{
-    if level < 1 {
-        return false;
-    }
-    level <= GREATEST_LEVEL
-}
+use refusals::Checked;
+use refusals::Refusal;
+use refusals::limits::COLUMN_SUM;
+use refusals::limits::POSITIONS;
+use refusals::limits::SYMBOLS;
 
 fn wide(x: u16) -> usize
     ensures { λ r. ⌜ (r ≡ x) × (r < 65536) ⌝ }
@@ -43,7 +27,7 @@ fn wide(x: u16) -> usize
 
 // The sixteen reliabilities of position i, summed: up to 16 times 65,535.
 fn column_sum(reliabilities: &[u16], i: usize) -> usize
-    requires { ⌜ (i < 15) × (16 * i + 16 ≤ length (now reliabilities)) ⌝ }
+    requires { ⌜ (i < sixteen .positions) × (sixteen .symbols * i + sixteen .symbols ≤ length (now reliabilities)) ⌝ }
     ensures { λ r. ⌜ r ≡ sumOfColumn sixteen (now (reliabilities .entry)) i ⌝ }
 {
     let mut total = 0;
@@ -56,8 +40,8 @@ fn column_sum(reliabilities: &[u16], i: usize) -> usize
 }
 
 // The first position whose reliabilities do not sum to 4,096, or n.
-pub fn first_bad_column(reliabilities: &[u16], n: usize) -> usize
-    requires { ⌜ (n ≤ 15) × (16 * n ≤ length (now reliabilities)) ⌝ }
+fn first_bad_column(reliabilities: &[u16], n: usize) -> usize
+    requires { ⌜ (n ≤ sixteen .positions) × (sixteen .symbols * n ≤ length (now reliabilities)) ⌝ }
     ensures { λ r. ⌜ r ≡ smallest (badColumn sixteen (now (reliabilities .entry))) n ⌝ }
 {
     let mut i = 0;
@@ -70,8 +54,25 @@ pub fn first_bad_column(reliabilities: &[u16], n: usize) -> usize
     i
 }
 
+pub fn columns_checked(checked: Checked, reliabilities: &[u16], n: usize) -> Checked
+    requires { ⌜ (checked ≡ Checked.Passed → (n ≤ sixteen .positions) × (sixteen .symbols * n ≤ length (now reliabilities))) ⌝ }
+    ensures { λ r. ⌜ toldChecked r ≡ orLine (toldChecked checked) (columns sixteen n (now (reliabilities .entry))) ⌝ }
+{
+    match checked {
+        Checked::Refused(r) => Checked::Refused(r),
+        Checked::Passed => {
+            let bad = first_bad_column(reliabilities, n);
+            if bad < n {
+                Checked::Refused(Refusal::Column(bad))
+            } else {
+                Checked::Passed
+            }
+        }
+    }
+}
+
 fn multiplicity_of(level: usize, reliability: u16) -> u8
-    requires { ⌜ level ≤ 4 ⌝ }
+    requires { ⌜ level ≤ greatestLevel ⌝ }
     ensures { λ r. ⌜ r ≡ multiplicity level reliability ⌝ }
 {
     (level * wide(reliability) / COLUMN_SUM) as u8
@@ -79,7 +80,7 @@ fn multiplicity_of(level: usize, reliability: u16) -> u8
 
 // The multiplicity of each reliability, to the front of out.
 pub fn multiplicities_into(level: usize, reliabilities: &[u16], out: &mut [u8])
-    requires { ⌜ (level ≤ 4) × (length (now reliabilities) ≤ length (now out)) ⌝ }
+    requires { ⌜ (level ≤ greatestLevel) × (length (now reliabilities) ≤ length (now out)) ⌝ }
     ensures { λ _. ⌜ now (out .exit) ≡ matrix level (now (reliabilities .entry)) ++ drop (length (now (reliabilities .entry))) (now (out .entry)) ⌝ }
 {
     let mut i = 0;
@@ -89,11 +90,11 @@ pub fn multiplicities_into(level: usize, reliabilities: &[u16], out: &mut [u8])
     }
 }
 
-fn column(matrix: &[u8], i: usize) -> [u8; 16]
-    requires { ⌜ (i < 15) × (16 * i + 16 ≤ length (now matrix)) ⌝ }
+fn column(matrix: &[u8], i: usize) -> [u8; SYMBOLS]
+    requires { ⌜ (i < sixteen .positions) × (sixteen .symbols * i + sixteen .symbols ≤ length (now matrix)) ⌝ }
     ensures { λ r. ⌜ r ≡ columnOf (now (matrix .entry)) i ⌝ }
 {
-    let mut col = [0u8; 16];
+    let mut col = [0u8; SYMBOLS];
     let mut b = 0;
     while b < SYMBOLS {
         col[b] = matrix[SYMBOLS * i + b];
@@ -103,11 +104,11 @@ fn column(matrix: &[u8], i: usize) -> [u8; 16]
 }
 
 // The matrix that is lent as bytes, by value.
-pub fn load(matrix: &[u8], n: usize) -> [[u8; 16]; 15]
-    requires { ⌜ (n ≤ 15) × (16 * n ≤ length (now matrix)) ⌝ }
+pub fn load(matrix: &[u8], n: usize) -> [[u8; SYMBOLS]; POSITIONS]
+    requires { ⌜ (n ≤ sixteen .positions) × (sixteen .symbols * n ≤ length (now matrix)) ⌝ }
     ensures { λ r. ⌜ r ≡ matrixOf (now (matrix .entry)) n ⌝ }
 {
-    let mut columns = [[0u8; 16]; 15];
+    let mut columns = [[0u8; SYMBOLS]; POSITIONS];
     let mut i = 0;
     while i < n {
         let col = column(matrix, i);
@@ -117,7 +118,7 @@ pub fn load(matrix: &[u8], n: usize) -> [[u8; 16]; 15]
     columns
 }
 
-fn column_cost(col: &[u8; 16]) -> usize
+fn column_cost(col: &[u8; SYMBOLS]) -> usize
     ensures { λ r. ⌜ (r ≡ columnCost (now (col .entry))) × (r < 1000000) ⌝ }
 {
     let mut total = 0;
@@ -130,12 +131,12 @@ fn column_cost(col: &[u8; 16]) -> usize
     total
 }
 
-pub fn cost(matrix: &[[u8; 16]; 15]) -> usize
+pub fn cost(matrix: &[[u8; SYMBOLS]; POSITIONS]) -> usize
     ensures { λ r. ⌜ r ≡ matrixCost (now (matrix .entry)) ⌝ }
 {
     let mut total = 0;
     let mut i = 0;
-    while i < code::POSITIONS {
+    while i < POSITIONS {
         total += column_cost(&matrix[i]);
         i += 1;
     }

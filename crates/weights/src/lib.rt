@@ -1,16 +1,17 @@
 // Weights to multiplicities, and a matrix's cost and bound.
 ghost use mathlib.Core.Path.{_≡_};
-ghost use Rattle.code.specs.Told.{toldCounted};
+ghost use Rattle.refusals.specs.Counted.{toldCounted};
 ghost use Rattle.definitions.specs.Answers.{multiplicitiesAnswer, multiplicitiesOut, costAnswer};
 ghost use Rattle.definitions.specs.Field.{sixteen};
-ghost use Rattle.weights.specs.Told.{toldCosted};
+ghost use Rattle.weights.specs.Costed.{toldCosted};
 
 pub mod inside;
 
-use code::Counted;
-use field::Refusal;
-
-pub const GREATEST_ENTRY: u8 = 4;
+use refusals::Checked;
+use refusals::Counted;
+use refusals::Refusal;
+use refusals::limits::GREATEST_ENTRY;
+use refusals::limits::SYMBOLS;
 
 pub enum Costed {
     Of { cost: usize, bound: usize },
@@ -21,39 +22,26 @@ pub fn multiplicities(n: usize, level: usize, reliabilities: &[u16], out: &mut [
     ensures { λ r. ⌜ toldCounted r ≡ multiplicitiesAnswer sixteen n level (now (reliabilities .entry)) (now (out .entry)) ⌝ }
     ensures { λ _. ⌜ now (out .exit) ≡ multiplicitiesOut sixteen n level (now (reliabilities .entry)) (now (out .entry)) ⌝ }
 {
-    if !inside::size_fits(n) {
-        return Counted::Refused(Refusal::Sizes);
-    }
-    if !inside::level_fits(level) {
-        return Counted::Refused(Refusal::Setting);
-    }
-    let entries = inside::SYMBOLS * n;
-    if reliabilities.len() != entries {
-        return Counted::Refused(Refusal::Length);
-    }
-    if out.len() < entries {
-        return Counted::Refused(Refusal::Room);
-    }
-    let bad = inside::first_bad_column(reliabilities, n);
-    if bad < n {
-        return Counted::Refused(Refusal::Column(bad));
+    let settled = Checked::size(n)
+        .level(level)
+        .length(reliabilities.len(), SYMBOLS, n)
+        .room(out.len(), SYMBOLS, n);
+    let checked = inside::columns_checked(settled, reliabilities, n);
+    if let Checked::Refused(r) = checked {
+        return Counted::Refused(r);
     }
     inside::multiplicities_into(level, reliabilities, out);
-    Counted::Count(entries)
+    Counted::Count(SYMBOLS * n)
 }
 
 pub fn cost_and_bound(n: usize, k: usize, matrix: &[u8]) -> Costed
     ensures { λ r. ⌜ toldCosted r ≡ costAnswer sixteen n k (now (matrix .entry)) ⌝ }
 {
-    if !code::inside::sizes_fit(n, k) {
-        return Costed::Refused(Refusal::Sizes);
-    }
-    if matrix.len() != inside::SYMBOLS * n {
-        return Costed::Refused(Refusal::Length);
-    }
-    let bad = code::inside::first_above(GREATEST_ENTRY, matrix);
-    if bad < matrix.len() {
-        return Costed::Refused(Refusal::Symbol(bad));
+    let checked = Checked::sizes(n, k)
+        .length(matrix.len(), SYMBOLS, n)
+        .symbols(GREATEST_ENTRY, matrix);
+    if let Checked::Refused(r) = checked {
+        return Costed::Refused(r);
     }
     let columns = inside::load(matrix, n);
     let cost = inside::cost(&columns);

@@ -1,72 +1,68 @@
-use mathlib.Core.Path.{_≡_, sym, _∙_, ap}
-use Prim.Native.Nat.{_<_}
+-- The chain tries the lines of the table; what it lets pass is encoded.
+use mathlib.Core.List.{List, [], _∷_}
+use mathlib.Core.Path.{_≡_, _∙_}
+use Prim.Native.Nat.{ℕ, _≤_}
 use native.Mathlib.Omega.{arith}
-use borrow.Author.Tests.{not-true, not-false}
 use lib.ListN.{length}
-use Rattle.code.proofs.Order.{refuses, at-sizes, at-length, at-room, at-symbol, accepted, all-symbols}
-use Rattle.definitions.proofs.Table.{accepts}
+use Rattle.definitions.proofs.Table.{Accepts, next, end, room-means, symbols-mean}
 use Rattle.definitions.specs.Answers.{refused, counted}
-use Rattle.definitions.specs.Refusals.{firstAbove}
+use Rattle.definitions.specs.Code.{Symbols}
+use Rattle.definitions.specs.Field.{sixteen}
+use Rattle.definitions.specs.Refusals.{Line, encodeTable}
+use Rattle.refusals.proofs.Chain.{Came, start, _▸_, accepted, answers, stops, goes-on}
+use Rattle.refusals.specs.Checked.{toldChecked}
 use borrow.Author.Needs.{needs}
 use Rattle.code.proofs.encode.Statement.{statement}
 use Rattle.code.proofs.encode.Tie as tie
 
-sizes-fit-requires : tie.Need-sizes-fit-requires
-sizes-fit-requires c κs = search needs
+abbrev entry : tie.After-symbols → tie.Start
+entry c = c .before .before .before .before .before .before
+
+abbrev table : tie.After-symbols → List Line
+table c = let a = entry c .args in encodeTable sixteen (a .n) (a .k) (a .message .now) (length (a .out .now))
+
+came : (c : tie.After-symbols) → Came (table c) [] (toldChecked (c .symbols .result))
+came c =
+    let room = c .before in
+    let given = room .before in
+    let sizes = given .before in
+    start ▸ sizes .sizes .ensures ▸ given .or .ensures ▸ room .or2 .ensures ▸ c .symbols .ensures
 
 returns : tie.Need-returns
 returns c =
-    let s = c .before .before .before .before in
-    refuses (s .args .n) (s .args .k) (s .args .message .now) (s .args .out .now) (at-sizes (s .args .n) (s .args .k) (s .args .message .now) (s .args .out .now) (sym (c .before .sizes-fit .ensures) ∙ not-true _ (c .if1 .taken)))
+    let w = c .before .before .before in
+    (answers (came w) [] _ (c .before .checked .given .1), stops (came w) [] (λ _ _. entry w .args .out .now) _ (c .before .checked .given .1))
+
+fits : (n k : ℕ) (f : List ℕ) (room : ℕ) → Accepts (encodeTable sixteen n k f room) → Symbols sixteen f × (n ≤ room)
+fits n k f room (next s (next l (next r (next a end)))) = (symbols-mean sixteen (omega arith) f a, room-means n room r)
+
+fit : (c : tie.After-enum-told) → (let a = entry (c .before .before) .args in Symbols sixteen (a .message .now) × (a .n ≤ length (a .out .now)))
+fit c =
+    let a = entry (c .before .before) .args in
+    fits (a .n) (a .k) (a .message .now) (length (a .out .now)) (accepted (came (c .before .before)) (c .enum-told .given .1))
+
+encode-into-requires : tie.Need-encode-into-requires
+encode-into-requires c κs = fit (c .before)
 
 returns-2 : tie.Need-returns-2
 returns-2 c =
-    let s = c .before .before .before .before .before in
-    let fit = sym (c .before .before .sizes-fit .ensures) ∙ not-false _ (c .before .if1 .left) in
-    refuses (s .args .n) (s .args .k) (s .args .message .now) (s .args .out .now) (at-length (s .args .n) (s .args .k) (s .args .message .now) (s .args .out .now) fit (c .if2 .taken))
-
-returns-3 : tie.Need-returns-3
-returns-3 c =
-    let s = c .before .before .before .before .before .before in
-    let fit = sym (c .before .before .before .sizes-fit .ensures) ∙ not-false _ (c .before .before .if1 .left) in
-    refuses (s .args .n) (s .args .k) (s .args .message .now) (s .args .out .now) (at-room (s .args .n) (s .args .k) (s .args .message .now) (s .args .out .now) fit (c .before .if2 .left) (c .if3 .taken))
-
-first-above-requires : tie.Need-first-above-requires
-first-above-requires c κs = search needs
-
-returns-4 : tie.Need-returns-4
-returns-4 c =
-    let s = c .before .before .before .before .before .before .before .before in
-    let fit = sym (c .before .before .before .before .before .sizes-fit .ensures) ∙ not-false _ (c .before .before .before .before .if1 .left) in
-    let bad : firstAbove 15 (s .args .message .now) < length (s .args .message .now) = omega arith in
-    let r = refuses (s .args .n) (s .args .k) (s .args .message .now) (s .args .out .now) (at-symbol (s .args .n) (s .args .k) (s .args .message .now) (s .args .out .now) fit (c .before .before .before .if2 .left) (c .before .before .if3 .left) bad) in
-    (ap (refused 5) (c .before .first-above .ensures) ∙ r .0, r .1)
-
-encode-into-requires : tie.Need-encode-into-requires
-encode-into-requires c κs =
-    let s = c .before .before .before .before .before .before .before .before .before in
-    (all-symbols (s .args .message .now) (omega arith), c .before .before .before .if3 .left)
-
-same-length : tie.Need-same-length
-same-length c = search needs
-
-returns-5 : tie.Need-returns-5
-returns-5 c =
-    let s = c .before .before .before .before .before .before .before .before .before .before .before .before in
-    let fit = sym (c .before .before .before .before .before .before .before .before .before .sizes-fit .ensures) ∙ not-false _ (c .before .before .before .before .before .before .before .before .if1 .left) in
-    let a = accepted (s .args .n) (s .args .k) (s .args .message .now) (s .args .out .now) fit (omega arith) (omega arith) (omega arith) in
-    (accepts refused (counted (s .args .n)) a, c .before .before .encode-into .ensures ∙ accepts (λ _ _. s .args .out .now) _ a)
+    let e = c .before .before in
+    let t = e .before .before in
+    let w = t .before .before in
+    let passed = t .enum-told .given .1 in
+    (goes-on (came w) [] refused (counted (entry w .args .n)) passed, e .encode-into .ensures ∙ goes-on (came w) [] (λ _ _. entry w .args .out .now) _ passed)
 
 pub encode-spec : {M : Type 1} → statement M
 encode-spec =
     tie.close
     (tie.spec
-    sizes-fit-requires
+    (λ c κs. search needs)
+    (λ c κs. search needs)
+    (λ c κs. search needs)
+    (λ c κs. search needs)
+    (λ c. search needs)
     returns
-    returns-2
-    returns-3
-    first-above-requires
-    returns-4
+    (λ c. search needs)
     encode-into-requires
-    same-length
-    returns-5)
+    (λ c. search needs)
+    returns-2)

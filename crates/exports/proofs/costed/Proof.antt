@@ -1,6 +1,6 @@
 use mathlib.Core.Path.{sym, _∙_, ap, ap₂}
 use Rattle.definitions.specs.Answers.{costed}
-use Rattle.weights.specs.Told.{toldCosted}
+use Rattle.weights.specs.Costed.{toldCosted}
 use borrow.Author.Needs.{needs}
 use Rattle.exports.proofs.costed.Statement.{statement}
 use Rattle.exports.proofs.costed.Tie as tie

@@ -1,5 +1,5 @@
 use mathlib.Core.Path.{sym, _∙_, ap}
-use Rattle.code.specs.Told.{toldCounted}
+use Rattle.refusals.specs.Counted.{toldCounted}
 use Rattle.definitions.specs.Answers.{counted}
 use borrow.Author.Needs.{needs}
 use Rattle.exports.proofs.counted.Statement.{statement}

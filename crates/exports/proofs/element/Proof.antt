@@ -1,5 +1,5 @@
 use mathlib.Core.Path.{sym, _∙_, ap}
-use Rattle.field.specs.Told.{toldElement}
+use Rattle.field.specs.Element.{toldElement}
 use borrow.Author.Needs.{needs}
 use Rattle.exports.proofs.element.Statement.{statement}
 use Rattle.exports.proofs.element.Tie as tie

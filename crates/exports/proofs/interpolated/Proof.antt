@@ -1,6 +1,6 @@
 use mathlib.Core.Path.{sym, _∙_, ap, ap₂}
 use Rattle.definitions.specs.Answers.{interpolated}
-use Rattle.interpolation.specs.Told.{toldInterpolated}
+use Rattle.interpolation.specs.Interpolated.{toldInterpolated}
 use borrow.Author.Needs.{needs}
 use Rattle.exports.proofs.interpolated.Statement.{statement}
 use Rattle.exports.proofs.interpolated.Tie as tie

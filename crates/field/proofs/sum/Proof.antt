@@ -3,7 +3,7 @@ use native.Mathlib.Omega.{arith}
 use Rattle.definitions.proofs.Table.{gives, accepts}
 use Rattle.definitions.specs.Answers.{refused, valued}
 use Rattle.definitions.specs.Field.{sumOf}
-use Rattle.field.proofs.Order.{operand-refused, operands-accepted}
+use Rattle.field.proofs.Operands.{operand-refused, operands-accepted}
 use borrow.Author.Needs.{needs}
 use Rattle.field.proofs.sum.Statement.{statement}
 use Rattle.field.proofs.sum.Tie as tie

@@ -3,7 +3,7 @@ use mathlib.Core.Path.{_≡_, subst}
 use Prim.Native.Nat.{ℕ}
 use lib.ListN.{replicate, length-replicate}
 use native.Mathlib.Omega.{arith}
-use Rattle.code.specs.Told.{toldCounted}
+use Rattle.refusals.specs.Counted.{toldCounted}
 use Rattle.reader.proofs.Laws.{holds, text-is}
 use Rattle.text.specs.Text.{Puts}
 use borrow.Author.Needs.{needs}

@@ -1,98 +1,88 @@
-use mathlib.Core.Path.{_≡_, sym, _∙_, ap, ap₂}
-use Prim.Native.Nat.{ℕ, _*_, _-_, _≤_, _<_}
+-- The chain tries the lines of the table; the cost and the bound of the columns of what passes are those of its bytes.
+use mathlib.Core.List.{List, [], _∷_}
+use mathlib.Core.Path.{_≡_, _∙_, ap, ap₂}
+use Prim.Native.Nat.{ℕ, _*_, _-_, _≤_}
 use native.Mathlib.Omega.{arith}
-use borrow.Author.Tests.{not-true, not-false}
-use lib.ListN.{length}
-use Rattle.definitions.proofs.Refusals.{none-above}
-use Rattle.definitions.proofs.Table.{gives, accepts, sizes-mean}
+use lib.ListN.{length, getD}
+use Rattle.definitions.proofs.Table.{Accepts, next, end, sizes-mean, entries-mean, above-means}
 use Rattle.definitions.specs.Answers.{refused, costed}
 use Rattle.definitions.specs.Bound.{bound}
 use Rattle.definitions.specs.Field.{sixteen}
-use Rattle.definitions.specs.Refusals.{firstAbove}
+use Rattle.definitions.specs.Limits.{greatestLevel}
+use Rattle.definitions.specs.Refusals.{Line, costTable}
 use Rattle.definitions.specs.Weights.{cost}
+use Rattle.refusals.proofs.Chain.{Came, start, _▸_, accepted, answers, goes-on}
+use Rattle.refusals.specs.Checked.{toldChecked}
 use Rattle.weights.proofs.Cost.{loaded-cost, cost-small}
-use Rattle.weights.proofs.Order.{cost-at-sizes, cost-at-length, cost-at-entry, cost-accepted}
 use borrow.Author.Needs.{needs}
 use Rattle.weights.proofs.cost_and_bound.Statement.{statement}
 use Rattle.weights.proofs.cost_and_bound.Tie as tie
 
-sizes-fit-requires : tie.Need-sizes-fit-requires
-sizes-fit-requires c κs = search needs
+record Fit (n k : ℕ) (m : List ℕ) : Type 0 where
+  sized : (2 ≤ k) × (k ≤ n) × (n ≤ sixteen .positions)
+  full : length m ≡ sixteen .symbols * n
+  low : (j : ℕ) → getD m j 0 ≤ greatestLevel
+
+fits : (n k : ℕ) (m : List ℕ) → Accepts (costTable sixteen n k m) → Fit n k m
+fits n k m (next s (next e (next a end))) = record { sized = sizes-mean sixteen n k s; full = entries-mean _ m e; low = above-means greatestLevel m a }
+
+abbrev entry : tie.After-symbols → tie.Start
+entry c = c .before .before .before .before
+
+came : (c : tie.After-symbols)
+    → (let a = entry c .args in Came (costTable sixteen (a .n) (a .k) (a .matrix .now)) [] (toldChecked (c .symbols .result)))
+came c = start ▸ c .before .before .sizes .ensures ▸ c .before .length .ensures ▸ c .symbols .ensures
 
 returns : tie.Need-returns
-returns c =
-    let s = c .before .before .before in
-    gives refused _ (cost-at-sizes (s .args .n) (s .args .k) (s .args .matrix .now) (sym (c .before .sizes-fit .ensures) ∙ not-true _ (c .if1 .taken)))
+returns c = answers (came (c .before .before .before)) [] _ (c .before .checked .given .1)
 
-mul-if2 : tie.Need-mul-if2
-mul-if2 c =
-    let s = c .before .before .before in
-    let sizes = sizes-mean sixteen (s .args .n) (s .args .k) (sym (c .before .sizes-fit .ensures) ∙ not-false _ (c .if1 .left)) in
-    omega arith
-
-returns-2 : tie.Need-returns-2
-returns-2 c =
-    let s = c .before .before .before .before in
-    gives refused _ (cost-at-length (s .args .n) (s .args .k) (s .args .matrix .now) (sym (c .before .before .sizes-fit .ensures) ∙ not-false _ (c .before .if1 .left)) (c .if2 .taken))
-
-first-above-requires : tie.Need-first-above-requires
-first-above-requires c κs = search needs
-
-returns-3 : tie.Need-returns-3
-returns-3 c =
-    let s = c .before .before .before .before .before .before in
-    let bad : firstAbove 4 (s .args .matrix .now) < length (s .args .matrix .now) = omega arith in
-    ap (refused 5) (c .before .first-above .ensures) ∙ gives refused _ (cost-at-entry (s .args .n) (s .args .k) (s .args .matrix .now) (sym (c .before .before .before .before .sizes-fit .ensures) ∙ not-false _ (c .before .before .before .if1 .left)) (c .before .before .if2 .left) bad)
+fit : (c : tie.After-enum-told) → (let a = entry (c .before .before) .args in Fit (a .n) (a .k) (a .matrix .now))
+fit c =
+    let a = entry (c .before .before) .args in
+    fits (a .n) (a .k) (a .matrix .now) (accepted (came (c .before .before)) (c .enum-told .given .1))
 
 load-requires : tie.Need-load-requires
-load-requires c κs =
-    let s = c .before .before .before .before .before .before in
-    let sizes = sizes-mean sixteen (s .args .n) (s .args .k) (sym (c .before .before .before .before .sizes-fit .ensures) ∙ not-false _ (c .before .before .before .if1 .left)) in
-    omega arith
+load-requires c κs = let f = fit c in (f .sized .2, omega arith)
 
-cost-requires : tie.Need-cost-requires
-cost-requires c κs = search needs
+paid : (c : tie.After-cost) → c .cost .result ≡ cost (entry (c .before .before .before .before .before) .args .matrix .now)
+paid c =
+    let l = c .before .before in
+    let a = entry (l .before .before .before) .args in
+    let f = fit (l .before) in
+    loaded-cost (a .matrix .now) (a .n) (f .sized .2) (f .full) (l .load .result) (c .cost .result) (l .load .ensures) (c .cost .ensures)
 
 sub-bound : tie.Need-sub-bound
-sub-bound c =
-    let s = c .before .before .before .before .before .before .before .before .before in
-    let sizes = sizes-mean sixteen (s .args .n) (s .args .k) (sym (c .before .before .before .before .before .before .before .sizes-fit .ensures) ∙ not-false _ (c .before .before .before .before .before .before .if1 .left)) in
-    omega arith
+sub-bound c = let s = fit (c .before .before .before) .sized in omega arith
 
 bound-requires : tie.Need-bound-requires
 bound-requires c κs =
-    let s = c .before .before .before .before .before .before .before .before .before in
-    let m = s .args .matrix .now in
-    let sizes = sizes-mean sixteen (s .args .n) (s .args .k) (sym (c .before .before .before .before .before .before .before .sizes-fit .ensures) ∙ not-false _ (c .before .before .before .before .before .before .if1 .left)) in
-    let full : length m ≡ 16 * s .args .n = omega arith in
-    let none : length m ≤ firstAbove 4 m = omega arith in
-    let paid : c .cost .result ≡ cost m = loaded-cost m (s .args .n) (sizes .2) full (c .before .before .load .result) (c .cost .result) (c .before .before .load .ensures) (c .cost .ensures) in
-    let small = cost-small m (s .args .n) (sizes .2) full (none-above 4 m none) in
+    let t = c .before .before .before in
+    let a = entry (t .before .before) .args in
+    let f = fit t in
+    let s = f .sized in
+    let e = paid c in
+    let small = cost-small (a .matrix .now) (a .n) (s .2) (f .full) (f .low) in
     (omega arith, omega arith)
 
-returns-4 : tie.Need-returns-4
-returns-4 c =
-    let s = c .before .before .before .before .before .before .before .before .before .before in
-    let m = s .args .matrix .now in
-    let sizes = sizes-mean sixteen (s .args .n) (s .args .k) (sym (c .before .before .before .before .before .before .before .before .sizes-fit .ensures) ∙ not-false _ (c .before .before .before .before .before .before .before .if1 .left)) in
-    let full : length m ≡ 16 * s .args .n = omega arith in
-    let none : length m ≤ firstAbove 4 m = omega arith in
-    let paid : c .before .cost .result ≡ cost m = loaded-cost m (s .args .n) (sizes .2) full (c .before .before .before .load .result) (c .before .cost .result) (c .before .before .before .load .ensures) (c .before .cost .ensures) in
-    ap₂ costed paid (c .bound .ensures ∙ ap (bound (s .args .k - 1)) paid)
-    ∙ accepts refused (costed (cost m) (bound (s .args .k - 1) (cost m))) (cost-accepted (s .args .n) (s .args .k) (s .args .matrix .now) (sym (c .before .before .before .before .before .before .before .before .sizes-fit .ensures) ∙ not-false _ (c .before .before .before .before .before .before .before .if1 .left)) full none)
+returns-2 : tie.Need-returns-2
+returns-2 c =
+    let t = c .before .before .before .before in
+    let a = entry (t .before .before) .args in
+    let e = paid (c .before) in
+    ap₂ costed e (c .bound .ensures ∙ ap (bound (a .k - 1)) e) ∙ goes-on (came (t .before .before)) [] refused _ (t .enum-told .given .1)
 
 pub cost-and-bound-spec : {M : Type 1} → statement M
 cost-and-bound-spec =
     tie.close
     (tie.spec
-    sizes-fit-requires
+    (λ c κs. search needs)
+    (λ c κs. search needs)
+    (λ c κs. search needs)
+    (λ c. search needs)
     returns
-    mul-if2
-    returns-2
-    first-above-requires
-    returns-3
+    (λ c. search needs)
     load-requires
-    cost-requires
+    (λ c κs. search needs)
     sub-bound
     bound-requires
-    returns-4)
+    returns-2)

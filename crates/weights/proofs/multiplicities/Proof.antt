@@ -1,103 +1,104 @@
-use mathlib.Core.List.{_++_}
-use mathlib.Core.Path.{_≡_, sym, _∙_, ap}
-use Prim.Native.Nat.{ℕ, _*_, _<_}
+-- The chain tries the lines of the table, the columns last, which need what the lines before them say; what passes is weighed.
+use mathlib.Core.List.{List, [], _∷_, _++_}
+use mathlib.Core.Path.{_≡_, _∙_, ap}
+use Prim.Native.Nat.{ℕ, _*_, _≤_}
 use native.Mathlib.Omega.{arith}
-use borrow.Author.Tests.{not-true, not-false}
 use lib.ListN.{length, drop}
-use Rattle.definitions.proofs.Table.{accepts, size-means, level-means}
+use Rattle.definitions.proofs.Table.{Accepts, next, end, size-means, level-means, entries-mean, room-means}
 use Rattle.definitions.specs.Answers.{refused, counted}
 use Rattle.definitions.specs.Field.{sixteen}
-use Rattle.definitions.specs.Refusals.{badColumn}
-use Rattle.definitions.specs.Tools.{smallest}
+use Rattle.definitions.specs.Limits.{greatestLevel}
+use Rattle.definitions.specs.Refusals.{Line, size, level, entries, room, columns, multiplicitiesTable}
 use Rattle.definitions.specs.Weights.{matrix}
-use Rattle.weights.proofs.Order.{refuses, at-size, at-level, at-length, at-room, at-column, accepted}
+use Rattle.refusals.proofs.Chain.{Came, start, _▸_, further, accepts-front, accepted, answers, stops, goes-on}
+use Rattle.refusals.specs.Checked.{toldChecked}
 use borrow.Author.Needs.{needs}
 use Rattle.weights.proofs.multiplicities.Statement.{statement}
 use Rattle.weights.proofs.multiplicities.Tie as tie
 
-size-fits-requires : tie.Need-size-fits-requires
-size-fits-requires c κs = search needs
+module _ (n L : ℕ) (r : List ℕ) (space : ℕ) where
+  abbrev settling : List Line
+  settling = size sixteen n ∷ level L ∷ entries (sixteen .symbols * n) r ∷ room (sixteen .symbols * n) space ∷ []
+
+  record Fit : Type 0 where
+    small : n ≤ sixteen .positions
+    low : L ≤ greatestLevel
+    full : length r ≡ sixteen .symbols * n
+    spacious : sixteen .symbols * n ≤ space
+
+  fits : Accepts settling → Fit
+  fits (next s (next l (next e (next h end)))) = record {
+    small = size-means sixteen n s .1;
+    low = level-means L l .1;
+    full = entries-mean _ r e;
+    spacious = room-means _ space h;
+  }
+
+abbrev entry : tie.After-room → tie.Start
+entry c = c .before .before .before .before .before .before
+
+settled : (c : tie.After-room)
+    → (let a = entry c .args in Came (settling (a .n) (a .level) (a .reliabilities .now) (length (a .out .now))) [] (toldChecked (c .room .result)))
+settled c =
+    let given = c .before in
+    let level = given .before in
+    let size = level .before in
+    start ▸ size .size .ensures ▸ level .level .ensures ▸ given .length .ensures ▸ c .room .ensures
+
+came : (c : tie.After-columns-checked)
+    → (let a = entry (c .before) .args in
+    Came (multiplicitiesTable sixteen (a .n) (a .level) (a .reliabilities .now) (length (a .out .now))) [] (toldChecked (c .columns-checked .result)))
+came c =
+    let a = entry (c .before) .args in
+    further (columns sixteen (a .n) (a .reliabilities .now) ∷ []) (settled (c .before)) ▸ c .columns-checked .ensures
+
+columns-checked-requires : tie.Need-columns-checked-requires
+columns-checked-requires c κs e =
+    let a = entry c .args in
+    let f = fits (a .n) (a .level) (a .reliabilities .now) (length (a .out .now)) (accepted (settled c) e) in
+    (f .small, omega arith)
 
 returns : tie.Need-returns
 returns c =
-    let s = c .before .before .before .before in
-    refuses (s .args .n) (s .args .level) (s .args .reliabilities .now) (s .args .out .now) (at-size (s .args .n) (s .args .level) (s .args .reliabilities .now) (s .args .out .now) (sym (c .before .size-fits .ensures) ∙ not-true _ (c .if1 .taken)))
+    let w = c .before .before .before in
+    (answers (came w) [] _ (c .before .checked .given .1), stops (came w) [] (λ _ _. entry (w .before) .args .out .now) _ (c .before .checked .given .1))
 
-level-fits-requires : tie.Need-level-fits-requires
-level-fits-requires c κs = search needs
+fit : (c : tie.After-enum-told) → (let a = entry (c .before .before .before) .args in Fit (a .n) (a .level) (a .reliabilities .now) (length (a .out .now)))
+fit c =
+    let a = entry (c .before .before .before) .args in
+    fits (a .n) (a .level) (a .reliabilities .now) (length (a .out .now)) (accepts-front _ (columns sixteen (a .n) (a .reliabilities .now) ∷ []) (accepted (came (c .before .before)) (c .enum-told .given .1)))
+
+multiplicities-into-requires : tie.Need-multiplicities-into-requires
+multiplicities-into-requires c κs = let f = fit (c .before) in (f .low, omega arith)
+
+mul-t11 : tie.Need-mul-t11
+mul-t11 c = let f = fit (c .before .before .before .before) in omega arith
 
 returns-2 : tie.Need-returns-2
 returns-2 c =
-    let s = c .before .before .before .before .before .before in
-    let fit = sym (c .before .before .before .size-fits .ensures) ∙ not-false _ (c .before .before .if1 .left) in
-    refuses (s .args .n) (s .args .level) (s .args .reliabilities .now) (s .args .out .now) (at-level (s .args .n) (s .args .level) (s .args .reliabilities .now) (s .args .out .now) fit (sym (c .before .level-fits .ensures) ∙ not-true _ (c .if2 .taken)))
-
-mul-entries : tie.Need-mul-entries
-mul-entries c =
-    let size = size-means sixteen (c .before .before .before .before .before .before .args .n) (sym (c .before .before .before .size-fits .ensures) ∙ not-false _ (c .before .before .if1 .left)) in
-    omega arith
-
-returns-3 : tie.Need-returns-3
-returns-3 c =
-    let s = c .before .before .before .before .before .before .before in
-    let fit = sym (c .before .before .before .before .size-fits .ensures) ∙ not-false _ (c .before .before .before .if1 .left) in
-    let level = sym (c .before .before .level-fits .ensures) ∙ not-false _ (c .before .if2 .left) in
-    refuses (s .args .n) (s .args .level) (s .args .reliabilities .now) (s .args .out .now) (at-length (s .args .n) (s .args .level) (s .args .reliabilities .now) (s .args .out .now) fit level (c .if3 .taken))
-
-returns-4 : tie.Need-returns-4
-returns-4 c =
-    let s = c .before .before .before .before .before .before .before .before in
-    let fit = sym (c .before .before .before .before .before .size-fits .ensures) ∙ not-false _ (c .before .before .before .before .if1 .left) in
-    let level = sym (c .before .before .before .level-fits .ensures) ∙ not-false _ (c .before .before .if2 .left) in
-    refuses (s .args .n) (s .args .level) (s .args .reliabilities .now) (s .args .out .now) (at-room (s .args .n) (s .args .level) (s .args .reliabilities .now) (s .args .out .now) fit level (c .before .if3 .left) (c .if4 .taken))
-
-first-bad-column-requires : tie.Need-first-bad-column-requires
-first-bad-column-requires c κs =
-    let size = size-means sixteen (c .before .before .before .before .before .before .before .before .args .n) (sym (c .before .before .before .before .before .size-fits .ensures) ∙ not-false _ (c .before .before .before .before .if1 .left)) in
-    omega arith
-
-returns-5 : tie.Need-returns-5
-returns-5 c =
-    let s = c .before .before .before .before .before .before .before .before .before .before in
-    let fit = sym (c .before .before .before .before .before .before .before .size-fits .ensures) ∙ not-false _ (c .before .before .before .before .before .before .if1 .left) in
-    let level = sym (c .before .before .before .before .before .level-fits .ensures) ∙ not-false _ (c .before .before .before .before .if2 .left) in
-    let bad : smallest (badColumn sixteen (s .args .reliabilities .now)) (s .args .n) < s .args .n = omega arith in
-    let r = refuses (s .args .n) (s .args .level) (s .args .reliabilities .now) (s .args .out .now) (at-column (s .args .n) (s .args .level) (s .args .reliabilities .now) (s .args .out .now) fit level (c .before .before .before .if3 .left) (c .before .before .if4 .left) bad) in
-    (ap (refused 6) (c .before .first-bad-column .ensures) ∙ r .0, r .1)
-
-multiplicities-into-requires : tie.Need-multiplicities-into-requires
-multiplicities-into-requires c κs =
-    let level = level-means (c .before .before .before .before .before .before .before .before .before .before .before .args .level) (sym (c .before .before .before .before .before .before .level-fits .ensures) ∙ not-false _ (c .before .before .before .before .before .if2 .left)) in
-    omega arith
-
-same-length : tie.Need-same-length
-same-length c = search needs
-
-returns-6 : tie.Need-returns-6
-returns-6 c =
-    let s = c .before .before .before .before .before .before .before .before .before .before .before .before .before .before in
-    let fit = sym (c .before .before .before .before .before .before .before .before .before .before .before .size-fits .ensures) ∙ not-false _ (c .before .before .before .before .before .before .before .before .before .before .if1 .left) in
-    let level = sym (c .before .before .before .before .before .before .before .before .before .level-fits .ensures) ∙ not-false _ (c .before .before .before .before .before .before .before .before .if2 .left) in
-    let full : length (s .args .reliabilities .now) ≡ 16 * s .args .n = omega arith in
-    let a = accepted (s .args .n) (s .args .level) (s .args .reliabilities .now) (s .args .out .now) fit level full (omega arith) (omega arith) in (
-      accepts refused (counted (16 * s .args .n)) a,
-      c .before .before .multiplicities-into .ensures
-          ∙ ap (λ (j : ℕ). matrix (s .args .level) (s .args .reliabilities .now) ++ drop j (s .args .out .now)) full ∙ accepts (λ _ _. s .args .out .now) _ a,
+    let m = c .before .before in
+    let t = m .before .before in
+    let w = t .before .before in
+    let a = entry (w .before) .args in
+    let passed = t .enum-told .given .1 in (
+      goes-on (came w) [] refused (counted (sixteen .symbols * a .n)) passed,
+      m .multiplicities-into .ensures ∙ ap (λ (j : ℕ). matrix (a .level) (a .reliabilities .now) ++ drop j (a .out .now)) (fit t .full)
+          ∙ goes-on (came w) [] (λ _ _. a .out .now) _ passed,
     )
 
 pub multiplicities-spec : {M : Type 1} → statement M
 multiplicities-spec =
     tie.close
     (tie.spec
-    size-fits-requires
+    (λ c κs. search needs)
+    (λ c κs. search needs)
+    (λ c κs. search needs)
+    (λ c κs. search needs)
+    columns-checked-requires
+    (λ c. search needs)
     returns
-    level-fits-requires
-    returns-2
-    mul-entries
-    returns-3
-    returns-4
-    first-bad-column-requires
-    returns-5
+    (λ c. search needs)
     multiplicities-into-requires
-    same-length
-    returns-6)
+    mul-t11
+    (λ c. search needs)
+    returns-2)

@@ -1,4 +1,4 @@
-use Rattle.field.proofs.Order.{first-is-bad, second-is-bad, none-is-bad}
+use Rattle.field.proofs.Operands.{first-is-bad, second-is-bad, none-is-bad}
 use Rattle.field.proofs.inside.first_bad.Statement.{statement}
 use Rattle.field.proofs.inside.first_bad.Tie as tie
 

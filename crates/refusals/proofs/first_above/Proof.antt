@@ -4,8 +4,8 @@ use native.Mathlib.Omega.{arith}
 use lib.ListN.{length, drop}
 use Rattle.definitions.proofs.Refusals.{firstAbove-stop, firstAbove-step, firstAbove-end}
 use Rattle.definitions.specs.Refusals.{firstAbove}
-use Rattle.code.proofs.inside.first_above.Statement.{statement}
-use Rattle.code.proofs.inside.first_above.Tie as tie
+use Rattle.refusals.proofs.first_above.Statement.{statement}
+use Rattle.refusals.proofs.first_above.Tie as tie
 
 abbrev Inv-loop : tie.InvT-loop
 Inv-loop greatest list i₀ i = (i ≤ length list) × (firstAbove greatest list ≡ i + firstAbove greatest (drop i list))

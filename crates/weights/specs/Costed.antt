@@ -1,7 +1,7 @@
 -- The numbers that document 01 gives to each case of the answer of cost and bound.
 -- Assumes nothing.
 use Rattle.definitions.specs.Answers.{Answer, costed}
-use Rattle.field.specs.Told.{toldRefusal}
+use Rattle.refusals.specs.Refusal.{toldRefusal}
 use Rattle.weights.specs.declared.Costed.{Costed}
 use Rattle.weights.specs.declared.Costed.the-variants.{Of, Refused}
 

@@ -1,0 +1,4 @@
+pub mod Tests
+pub mod Lines
+pub mod Chain
+pub mod Unique

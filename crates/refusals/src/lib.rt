@@ -1,0 +1,170 @@
+// Refusals, and the checks that give them: an entry chains its checks as its table has its lines, and the first that is given is the refusal.
+ghost use mathlib.Core.Bool.{not, _&&_};
+ghost use mathlib.Core.Path.{_≡_};
+ghost use Prim.Native.Nat.{_*_, _<_};
+ghost use lib.Dec.{eqb, leb};
+ghost use Rattle.definitions.specs.Field.{sixteen};
+ghost use Rattle.definitions.specs.Refusals.{line, sizes, size, level, room, firstAbove, noneAbove};
+ghost use Rattle.refusals.specs.Checked.{passed, orLine, lineOf, toldChecked};
+ghost use Rattle.refusals.specs.Refusal.{toldRefusal};
+
+pub mod limits;
+
+use limits::GREATEST_LEVEL;
+use limits::POSITIONS;
+
+// The lines of the table.
+pub enum Refusal {
+    Sizes,
+    Setting,
+    Length,
+    Room,
+    Symbol(usize),
+    Column(usize),
+    Cost,
+    Zero,
+}
+
+// The answer of an entry that writes: how much it wrote.
+pub enum Counted {
+    Count(usize),
+    Refused(Refusal),
+}
+
+// What the lines so far give.
+pub enum Checked {
+    Passed,
+    Refused(Refusal),
+}
+
+impl Refusal {
+    pub fn number(self) -> usize
+        ensures { λ n. ⌜ (n ≡ toldRefusal self .number) × (n < 256) ⌝ }
+    {
+        match self {
+            Refusal::Sizes => 1,
+            Refusal::Setting => 2,
+            Refusal::Length => 3,
+            Refusal::Room => 4,
+            Refusal::Symbol(_) => 5,
+            Refusal::Column(_) => 6,
+            Refusal::Cost => 7,
+            Refusal::Zero => 8,
+        }
+    }
+
+    pub fn place(self) -> usize
+        ensures { λ p. ⌜ p ≡ toldRefusal self .place ⌝ }
+    {
+        match self {
+            Refusal::Sizes => 0,
+            Refusal::Setting => 0,
+            Refusal::Length => 0,
+            Refusal::Room => 0,
+            Refusal::Symbol(place) => place,
+            Refusal::Column(place) => place,
+            Refusal::Cost => 0,
+            Refusal::Zero => 0,
+        }
+    }
+}
+
+// The first place of a number above the greatest, or the length.
+fn first_above(greatest: u8, list: &[u8]) -> usize
+    ensures { λ r. ⌜ r ≡ firstAbove greatest (now (list .entry)) ⌝ }
+{
+    let mut i = 0;
+    while i < list.len() {
+        if greatest < list[i] {
+            return i;
+        }
+        i += 1;
+    }
+    i
+}
+
+// No product is made, so no number is too large.
+fn is_product(given: usize, each: usize, many: usize) -> bool
+    requires { ⌜ 0 < each ⌝ }
+    ensures { λ r. ⌜ r ≡ eqb given (each * many) ⌝ }
+{
+    if given % each != 0 {
+        return false;
+    }
+    given / each == many
+}
+
+impl Checked {
+    pub fn or(self, bad: bool, refusal: Refusal) -> Checked
+        ensures { λ r. ⌜ toldChecked r ≡ orLine (toldChecked self) (lineOf bad refusal) ⌝ }
+    {
+        match self {
+            Checked::Refused(r) => Checked::Refused(r),
+            Checked::Passed => {
+                if bad {
+                    Checked::Refused(refusal)
+                } else {
+                    Checked::Passed
+                }
+            }
+        }
+    }
+
+    pub fn within(self, least: usize, x: usize, greatest: usize, refusal: Refusal) -> Checked
+        ensures { λ r. ⌜ toldChecked r ≡ orLine (toldChecked self) (lineOf (not (leb least x && leb x greatest)) refusal) ⌝ }
+    {
+        self.or(x < least, refusal).or(greatest < x, refusal)
+    }
+
+    pub fn sizes(n: usize, k: usize) -> Checked
+        ensures { λ r. ⌜ toldChecked r ≡ orLine passed (sizes sixteen n k) ⌝ }
+    {
+        Checked::Passed
+            .or(k < 2, Refusal::Sizes)
+            .within(k, n, POSITIONS, Refusal::Sizes)
+    }
+
+    pub fn size(n: usize) -> Checked
+        ensures { λ r. ⌜ toldChecked r ≡ orLine passed (size sixteen n) ⌝ }
+    {
+        Checked::Passed.within(2, n, POSITIONS, Refusal::Sizes)
+    }
+
+    pub fn level(self, l: usize) -> Checked
+        ensures { λ r. ⌜ toldChecked r ≡ orLine (toldChecked self) (level l) ⌝ }
+    {
+        self.within(1, l, GREATEST_LEVEL, Refusal::Setting)
+    }
+
+    // Exactly many times each.
+    pub fn length(self, given: usize, each: usize, many: usize) -> Checked
+        requires { ⌜ 0 < each ⌝ }
+        ensures { λ r. ⌜ toldChecked r ≡ orLine (toldChecked self) (line 3 (not (eqb given (each * many)))) ⌝ }
+    {
+        self.or(!is_product(given, each, many), Refusal::Length)
+    }
+
+    // At least many times each.
+    pub fn room(self, given: usize, each: usize, many: usize) -> Checked
+        requires { ⌜ 0 < each ⌝ }
+        ensures { λ r. ⌜ toldChecked r ≡ orLine (toldChecked self) (room (each * many) given) ⌝ }
+    {
+        self.or(given / each < many, Refusal::Room)
+    }
+
+    pub fn symbols(self, greatest: u8, list: &[u8]) -> Checked
+        ensures { λ r. ⌜ toldChecked r ≡ orLine (toldChecked self) (noneAbove greatest (now (list .entry))) ⌝ }
+    {
+        match self {
+            Checked::Refused(r) => Checked::Refused(r),
+            Checked::Passed => {
+                let bad = first_above(greatest, list);
+                if bad < list.len() {
+                    Checked::Refused(Refusal::Symbol(bad))
+                } else {
+                    Checked::Passed
+                }
+            }
+        }
+    }
+}

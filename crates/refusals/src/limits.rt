@@ -1,0 +1,22 @@
+// The limits, each named once: the numbers are those of definitions/specs/Limits and of `sixteen`.
+pub const SYMBOLS: usize = 16;
+
+pub const GREATEST_SYMBOL: u8 = SYMBOLS as u8 - 1;
+
+pub const POSITIONS: usize = 15;
+
+pub const ENTRIES: usize = SYMBOLS * POSITIONS;
+
+pub const COLUMN_SUM: usize = 4096;
+
+pub const GREATEST_LEVEL: usize = 4;
+
+pub const GREATEST_ENTRY: u8 = GREATEST_LEVEL as u8;
+
+pub const GREATEST_LIMIT: usize = 150;
+
+pub const GREATEST_COUNT: usize = 256;
+
+pub const COEFFICIENT_ROOM: usize = 167;
+
+pub const GREATEST_ROWS: usize = 16;
