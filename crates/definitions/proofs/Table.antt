@@ -1,14 +1,14 @@
 -- How a call comes through its table: line after line is passed, and one is given or none is. Whatever the call makes of that, its answer
 -- or its memory, is then known.
 -- Assumes nothing.
-use mathlib.Core.Bool.{Bool, true, false, not, _&&_, false≢true}
+use mathlib.Core.Bool.{true, false, not, _&&_}
 use mathlib.Core.List.{List, [], _∷_}
 use mathlib.Core.Path.{_≡_, refl, ap}
 use Prim.Native.Nat.{ℕ, _≤_, _<_}
 use borrow.Author.Tests.{lt-ltb, le-ltb, eq-eqb, ne-eqb, leb-true}
 use lib.Dec.{leb}
 use lib.ListN.{length}
-use Rattle.definitions.proofs.Tools.{split}
+use Rattle.definitions.proofs.Tools.{split, both}
 use Rattle.definitions.specs.Field.{Code}
 use Rattle.definitions.specs.Limits.{greatestLevel}
 use Rattle.definitions.specs.Refusals.{Line, tried, sizesFit, sizes, sizeFits, size, levelFits, level, entries, room, firstAbove, noneAbove, badColumn, columns}
@@ -84,10 +84,6 @@ module _ (C : Code) (n : ℕ) (r : List ℕ) where
   columns-passed h = le-ltb (smallest (badColumn C r) n) n h
 
 -- what the tests say of the numbers that pass them
-both : (a b : Bool) → (a && b) ≡ true → (a ≡ true) × (b ≡ true)
-both true b e = (refl, e)
-both false b e = absurd (false≢true e)
-
 pub sizes-mean : (C : Code) (n k : ℕ) → sizesFit C n k ≡ true → (2 ≤ k) × (k ≤ n) × (n ≤ C .positions)
 sizes-mean C n k e =
     let low = both (leb 2 k) (leb k n && leb n (C .positions)) e in
