@@ -5,7 +5,7 @@ use mathlib.Core.Logic.{_⊎_, inl, inr, ⊎-elim}
 use mathlib.Core.Path.{_≡_, sym, _∙_, ap}
 use Prim.Native.Nat.{ℕ, zero, suc, _+_, _-_, _*_, _/_, _≤_, _<_}
 use native.Mathlib.Decide.{decLt}
-use native.Mathlib.Nat.{le-div-iff-mul-le, zero-div, mul-div-le, mul-le-mul-left}
+use native.Mathlib.Nat.{le-div-iff-mul-le, zero-div, mul-div-le, div-mul-le-self, mul-le-mul-left}
 use native.Mathlib.Numerals.{add-one}
 use native.Mathlib.Omega.{arith}
 use lib.ListN.{length, getD, length-append}
@@ -44,6 +44,10 @@ earlier-irreflexive v m e = ⊎-elim (λ h. let z : ⊥ = omega arith in z) (λ 
 -- up to w / v a power of y is within the weighted degree w
 pub power-within : (v w b : ℕ) → b ≤ w / v → v * b ≤ w
 power-within v w b h = let m = mul-le-mul-left v h in omega (arith, mul-div-le w v)
+
+-- a greater weighted degree, as great a power of y
+pub degree-grows : (v d D : ℕ) → 0 < v → d ≤ D → d / v ≤ D / v
+degree-grows v d D pos l = let e = div-mul-le-self d v in (le-div-iff-mul-le pos) .1 (omega arith)
 
 module _ (v : ℕ) where
   -- those of weighted degree w: their number

@@ -1,6 +1,5 @@
 -- What each function of the elimination does to the rows.
 -- Assumes nothing.
-use mathlib.Core.Bool.{_&&_, _||_}
 use mathlib.Core.List.{List, []}
 use mathlib.Core.Logic.{_≢_}
 use mathlib.Core.Path.{_≡_, refl, sym, _∙_, ap, ap₂, subst}
@@ -8,15 +7,12 @@ use Prim.Native.Nat.{ℕ, _+_, _≤_, _<_}
 use native.Mathlib.Decide.{ℕ-discrete}
 use native.Mathlib.Numerals.{add-one}
 use native.Mathlib.Omega.{arith}
-use borrow.Author.Tests.{ne-eqb}
-use lib.Dec.{T, eqb, ltb, eqb→eq, ltb→lt}
 use lib.ListN.{getD, set, length-set}
 use lib.Seq.{getD-set-same, getD-set-other}
-use Rattle.algebra.proofs.Tests.{every, every-at, first-passes, second-passes}
+use Rattle.algebra.proofs.Elements.{times-turned, inverse-symbol, times-inverse}
 use Rattle.definitions.specs.Answers.{Answer, refused, valued, inverseAnswer}
 use Rattle.definitions.specs.Code.{Symbols}
-use Rattle.definitions.specs.Field.{numbers, sixteen, sumOf, double, shifted, inverseOf}
-use Rattle.definitions.specs.Tools.{smallest}
+use Rattle.definitions.specs.Field.{numbers, sixteen, inverseOf}
 use Rattle.elimination.proofs.Pivot.{Pivoted}
 use Rattle.elimination.proofs.Symbols.{plus-nothing, step-solutions, step-units}
 use Rattle.elimination.specs.Rows.{entryOf, SameSolutions, Units}
@@ -107,18 +103,12 @@ cleared-more j n o m b c r = record {
 
 -- ---- the pivot
 
--- the inverse of a symbol
-inverts : T (every 16 (λ a. eqb a 0 || (ltb (inverseOf sixteen a) 16 && eqb (sixteen .times (inverseOf sixteen a) a) 1)))
-unfolding every smallest sumOf double shifted
-inverts = tt
-
 -- what the inverse answers
 pub inverse-law : (a u : ℕ) → a < 16 → a ≢ 0 → valued u ≡ inverseAnswer sixteen a → (u < 16) × (sixteen .times u a ≡ 1)
 inverse-law a u h n e =
     let is : u ≡ inverseOf sixteen a = ap (λ (x : Answer). x .value) (e ∙ sym (nonzero-symbol a refused (valued (inverseOf sixteen a)) (omega arith) n)) in
-    let test = rw (ne-eqb a 0 n) at (every-at 16 (λ a. eqb a 0 || (ltb (inverseOf sixteen a) 16 && eqb (sixteen .times (inverseOf sixteen a) a) 1)) inverts a h) in
-    let small = ltb→lt (inverseOf sixteen a) 16 (first-passes (ltb (inverseOf sixteen a) 16) (eqb (sixteen .times (inverseOf sixteen a) a) 1) test) in
-    let one = eqb→eq (sixteen .times (inverseOf sixteen a) a) 1 (second-passes (ltb (inverseOf sixteen a) 16) (eqb (sixteen .times (inverseOf sixteen a) a) 1) test) in
+    let small = inverse-symbol sixteen sixteen-field a h n in
+    let one = times-turned sixteen sixteen-field (inverseOf sixteen a) a small h ∙ times-inverse sixteen sixteen-field a h n in
     (subst (λ (x : ℕ). x < 16) (sym is) small, ap (λ (x : ℕ). sixteen .times x a) is ∙ one)
 
 -- no refusal has the number 0

@@ -8,7 +8,8 @@ use Rattle.definitions.specs.Bound.{bound}
 use Rattle.definitions.specs.Field.{sixteen}
 use Rattle.definitions.specs.Roots.{rootsOf}
 use Rattle.list.proofs.Facts.{degree-small, count-small, cost-cheap, bound-of-cost, interpolating, prefix, length-after}
-use Rattle.list.proofs.Laws.{few-roots, found-symbols, zeros-symbols, lists, length-found, rows-fit}
+use Rattle.list.proofs.Laws.{few-roots, found-symbols, lists, length-found, rows-fit}
+use Rattle.definitions.proofs.Symbols.{replicate-symbols}
 use Rattle.weights.specs.Matrix.{matrixCost}
 use borrow.Author.Needs.{needs}
 use Rattle.list.proofs.inside.list_within.Statement.{statement}
@@ -119,7 +120,7 @@ ranked-requires c κs =
     let fits = rows-fit (s .args .k) count (omega arith) (few .0) in
     let long = length-found d (s .args .k) (p .ensures .coefficients) (replicate 240 0) (r .last .1 .1 .1 .0) fits rows in
     let taken : s .args .k * r .result ≤ 240 = rw many fits in
-    (found-symbols d (s .args .k) (p .ensures .coefficients) (replicate 240 0) (r .last .1 .1 .1 .0) (zeros-symbols 240) rows, ((z .2, omega arith, rw many (few .0), omega arith), s .pre .1 .0))
+    (found-symbols d (s .args .k) (p .ensures .coefficients) (replicate 240 0) (r .last .1 .1 .1 .0) (replicate-symbols sixteen 240 0 (omega arith)) rows, ((z .2, omega arith, rw many (few .0), omega arith), s .pre .1 .0))
 
 same-length : tie.Need-same-length
 same-length c = search needs
