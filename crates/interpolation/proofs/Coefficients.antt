@@ -21,9 +21,10 @@ use Rattle.definitions.specs.Code.{Symbols}
 use Rattle.definitions.specs.Field.{sixteen}
 use Rattle.definitions.specs.Polynomial.{Interpolates, Through, isZero, leading}
 use Rattle.definitions.specs.Tools.{below}
+use Rattle.algebra.specs.Grid.{entryOf}
 use Rattle.elimination.proofs.Leading.{isZero-false, zero-after, leading-is}
 use Rattle.elimination.proofs.Symbols.{reduced-solves, reduced-least}
-use Rattle.elimination.specs.Rows.{entryOf, Solves, SameSolutions, Reduced}
+use Rattle.elimination.specs.Rows.{Solves, SameSolutions, Reduced}
 use Rattle.field.proofs.Instance.{sixteen-field}
 use Rattle.interpolation.proofs.Conditions.{length-conditions, condition-of, condition-symbols, system-sets, through-solves, solves-through}
 use Rattle.interpolation.proofs.Width.{width-fits}

@@ -26,6 +26,7 @@ use Rattle.definitions.specs.Field.{numbers, sixteen, sumOf, double, shifted}
 use Rattle.definitions.specs.Polynomial.{Through, hasse, terms, monomials}
 use Rattle.definitions.specs.Tools.{below, sum}
 use Rattle.definitions.specs.Weights.{entry, entryCost}
+use Rattle.algebra.specs.Grid.{entryOf}
 use Rattle.elimination.specs.Rows.{Solves}
 use Rattle.field.proofs.Instance.{sixteen-field}
 use Rattle.dependence.proofs.Steps.{system-set}
@@ -38,7 +39,7 @@ use Rattle.conditions.proofs.Walk.{product-entry}
 use Rattle.conditions.specs.Conditions.{walked, derivativesRow, productRow, pointRows, columnRows, positionRows}
 use Rattle.rows.specs.Row.{width}
 use Rattle.weights.proofs.Cost.{matrix-entry}
-use Rattle.weights.specs.Matrix.{matrixOf, cell, columnCost, matrixCost}
+use Rattle.weights.specs.Matrix.{matrixOf, columnCost, matrixCost}
 
 -- ---- how many
 
@@ -106,7 +107,7 @@ pub record Condition (v d w : ℕ) (a : List (List ℕ)) (ρ : List ℕ) : Type 
   pub t : ℕ
   pub position : i < 15
   pub symbol : b < 16
-  pub order : s + t < cell a i b
+  pub order : s + t < entryOf a i b
   pub is-row : productRow v w (derivativesRow (d + 1) (point sixteen i) s) (derivativesRow (d / v + 1) b t) ≡ ρ
 
 module _ (v d w : ℕ) (a : List (List ℕ)) where
@@ -114,9 +115,9 @@ module _ (v d w : ℕ) (a : List (List ℕ)) where
   pub condition-of : (ρ : List ℕ) → List·Memᴰ ρ (positionRows v d w a 15) → Condition v d w a ρ
   condition-of ρ h =
       let x = member-join (λ i. columnRows v d w (point sixteen i) (getD a i [])) (below 15) ρ h in
-      let y = member-join (λ b. pointRows v d w (point sixteen (x .0)) b (cell a (x .0) b)) (below 16) ρ (x .2) in
-      let z = member-join (orders v d w (point sixteen (x .0)) (y .0) (cell a (x .0) (y .0))) (below (cell a (x .0) (y .0))) ρ (y .2) in
-      let u = Memᴰ·of-map (λ t. productRow v w (derivativesRow (d + 1) (point sixteen (x .0)) (z .0)) (derivativesRow (d / v + 1) (y .0) t)) (below (cell a (x .0) (y .0) - z .0)) (z .2) in
+      let y = member-join (λ b. pointRows v d w (point sixteen (x .0)) b (entryOf a (x .0) b)) (below 16) ρ (x .2) in
+      let z = member-join (orders v d w (point sixteen (x .0)) (y .0) (entryOf a (x .0) (y .0))) (below (entryOf a (x .0) (y .0))) ρ (y .2) in
+      let u = Memᴰ·of-map (λ t. productRow v w (derivativesRow (d + 1) (point sixteen (x .0)) (z .0)) (derivativesRow (d / v + 1) (y .0) t)) (below (entryOf a (x .0) (y .0) - z .0)) (z .2) in
       record {
         i = x .0;
         b = y .0;
@@ -124,7 +125,7 @@ module _ (v d w : ℕ) (a : List (List ℕ)) where
         t = u .0;
         position = member-below 15 (x .0) (x .1);
         symbol = member-below 16 (y .0) (y .1);
-        order = (let p = member-below (cell a (x .0) (y .0)) (z .0) (z .1) in let q = member-below (cell a (x .0) (y .0) - z .0) (u .0) (u .1) in omega arith);
+        order = (let p = member-below (entryOf a (x .0) (y .0)) (z .0) (z .1) in let q = member-below (entryOf a (x .0) (y .0) - z .0) (u .0) (u .1) in omega arith);
         is-row = u .2;
       }
 
@@ -132,12 +133,12 @@ module _ (v d w : ℕ) (a : List (List ℕ)) where
   pub member-of : (ρ : List ℕ) → Condition v d w a ρ → List·Memᴰ ρ (positionRows v d w a 15)
   member-of ρ c =
       join-member (λ i. columnRows v d w (point sixteen i) (getD a i [])) (below 15) (c .i) ρ (below-member 15 (c .i) (c .position))
-      (join-member (λ b. pointRows v d w (point sixteen (c .i)) b (cell a (c .i) b)) (below 16) (c .b) ρ (below-member 16 (c .b) (c .symbol))
-      (join-member (orders v d w (point sixteen (c .i)) (c .b) (cell a (c .i) (c .b))) (below (cell a (c .i) (c .b))) (c .s) ρ
-      (below-member (cell a (c .i) (c .b)) (c .s) (let o = c .order in omega arith))
-      (subst (λ (x : List ℕ). List·Memᴰ x (orders v d w (point sixteen (c .i)) (c .b) (cell a (c .i) (c .b)) (c .s))) (c .is-row)
+      (join-member (λ b. pointRows v d w (point sixteen (c .i)) b (entryOf a (c .i) b)) (below 16) (c .b) ρ (below-member 16 (c .b) (c .symbol))
+      (join-member (orders v d w (point sixteen (c .i)) (c .b) (entryOf a (c .i) (c .b))) (below (entryOf a (c .i) (c .b))) (c .s) ρ
+      (below-member (entryOf a (c .i) (c .b)) (c .s) (let o = c .order in omega arith))
+      (subst (λ (x : List ℕ). List·Memᴰ x (orders v d w (point sixteen (c .i)) (c .b) (entryOf a (c .i) (c .b)) (c .s))) (c .is-row)
       (Memᴰ·map (λ t. productRow v w (derivativesRow (d + 1) (point sixteen (c .i)) (c .s)) (derivativesRow (d / v + 1) (c .b) t))
-      (below-member (cell a (c .i) (c .b) - c .s) (c .t) (let o = c .order in omega arith))))))
+      (below-member (entryOf a (c .i) (c .b) - c .s) (c .t) (let o = c .order in omega arith))))))
 
   -- the row of a condition is a row of symbols
   pub condition-symbols : (ρ : List ℕ) → Condition v d w a ρ → Symbols sixteen ρ
@@ -228,8 +229,8 @@ module _ (m : List ℕ) (n v D : ℕ) (small : n ≤ 15) (size : length m ≡ 16
       ∙ sym (hasse-is-dot-of-numbers sixteen sixteen-field (monomials v D) q (c .s) (c .t) (point sixteen (c .i)) (c .b) sq (point-symbol sixteen sixteen-field (c .i)) (c .symbol))
 
   -- the entry of a condition is that of the bytes
-  cell-is : (i b : ℕ) → i < 15 → b < 16 → cell a i b ≡ entry sixteen m i b
-  cell-is i b hi hb = ap (λ (x : List (List ℕ)). cell x i b) loaded ∙ matrix-entry m n small size i b hi hb
+  cell-is : (i b : ℕ) → i < 15 → b < 16 → entryOf a i b ≡ entry sixteen m i b
+  cell-is i b hi hb = ap (λ (x : List (List ℕ)). entryOf x i b) loaded ∙ matrix-entry m n small size i b hi hb
 
   -- a position with a multiplicity is one of the n
   used : (i b : ℕ) → b < 16 → 0 < entry sixteen m i b → i < n

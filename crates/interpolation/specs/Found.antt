@@ -9,7 +9,7 @@ use lib.ListN.{length, drop}
 use Rattle.definitions.specs.Bound.{count}
 use Rattle.definitions.specs.Field.{sixteen}
 use Rattle.definitions.specs.Polynomial.{Interpolates, leading}
-use Rattle.elimination.specs.Rows.{entryOf}
+use Rattle.algebra.specs.Grid.{entryOf}
 use Rattle.weights.specs.Matrix.{matrixOf}
 
 -- the coefficient that the reduced rows show: column j, then 1, then 0
