@@ -52,3 +52,7 @@ columnRows v d count x column = flatMap (λ (b : ℕ). pointRows v d count x b (
 -- the rows of the first n positions of a matrix
 abbrev pub positionRows : ℕ → ℕ → ℕ → List (List ℕ) → ℕ → List (List ℕ)
 positionRows v d count a n = flatMap (λ (i : ℕ). columnRows v d count (point sixteen i) (getD a i [])) (below n)
+
+-- the rows of a whole matrix
+abbrev pub matrixRows : ℕ → ℕ → ℕ → List (List ℕ) → List (List ℕ)
+matrixRows v d count a = positionRows v d count a (sixteen .positions)

@@ -7,7 +7,7 @@ ghost use Rattle.definitions.specs.Code.{Symbols};
 ghost use Rattle.definitions.specs.Field.{sixteen};
 ghost use Rattle.definitions.specs.Limits.{greatestLimit};
 ghost use Rattle.field.specs.Table.{Products};
-ghost use Rattle.conditions.specs.Conditions.{stepped, productRow, orderRows, pointRows, columnRows, positionRows};
+ghost use Rattle.conditions.specs.Conditions.{stepped, productRow, orderRows, pointRows, columnRows, matrixRows};
 ghost use Rattle.rows.specs.Row.{width, filled};
 use field::inside::ALPHA;
 use refusals::limits::GREATEST_LIMIT;
@@ -168,9 +168,9 @@ pub fn matrix_rows(
 ) -> usize
     requires { ⌜ Products (now table) ⌝ }
     requires { ⌜ (0 < v) × (d < width) × (count ≤ width) ⌝ }
-    requires { ⌜ length (positionRows v d count (now matrix) (sixteen .positions)) ≤ greatestLimit ⌝ }
-    ensures { λ r. ⌜ r ≡ length (positionRows v d count (now (matrix .entry)) (sixteen .positions)) ⌝ }
-    ensures { λ _. ⌜ now (rows .exit) ≡ sets (now (rows .entry)) 0 (positionRows v d count (now (matrix .entry)) (sixteen .positions)) ⌝ }
+    requires { ⌜ length (matrixRows v d count (now matrix)) ≤ greatestLimit ⌝ }
+    ensures { λ r. ⌜ r ≡ length (matrixRows v d count (now (matrix .entry))) ⌝ }
+    ensures { λ _. ⌜ now (rows .exit) ≡ sets (now (rows .entry)) 0 (matrixRows v d count (now (matrix .entry))) ⌝ }
 {
     let mut next = 0;
     let mut a = 1u8;

@@ -19,7 +19,7 @@ coefficientOf j m k = cond (ltb k j) (entryOf m k j) (cond (eqb k j) 1 0)
 pub record Found (a : List (List ℕ)) (v D : ℕ) (before : List ℕ) (place : ℕ) (after : List ℕ) : Type 0 where
   pub coefficients : List ℕ
   -- they interpolate the bytes that the matrix was loaded from
-  pub interpolates : (m : List ℕ) (n : ℕ) → n ≤ 15 → length m ≡ 16 * n → a ≡ matrixOf m n → Interpolates sixteen n v D m coefficients
+  pub interpolates : (m : List ℕ) (n : ℕ) → n ≤ sixteen .positions → length m ≡ sixteen .symbols * n → a ≡ matrixOf m n → Interpolates sixteen n v D m coefficients
   pub size : length coefficients ≡ count v D
   pub leads : place ≡ leading coefficients
   pub written : after ≡ coefficients ++ drop (length coefficients) before

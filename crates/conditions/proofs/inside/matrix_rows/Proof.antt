@@ -11,7 +11,7 @@ use Rattle.definitions.specs.Field.{numbers, sixteen}
 use Rattle.definitions.specs.Tools.{below}
 use Rattle.field.proofs.Instance.{sixteen-field}
 use Rattle.conditions.proofs.Placed.{joined-none, none-counted, joined-more, count-more, joined-room}
-use Rattle.conditions.specs.Conditions.{columnRows, positionRows}
+use Rattle.conditions.specs.Conditions.{columnRows, matrixRows}
 use native.Mathlib.Omega.{arith}
 use Rattle.definitions.specs.Limits.{greatestLimit}
 use Rattle.conditions.proofs.inside.matrix_rows.Statement.{statement}
@@ -80,7 +80,7 @@ returns c =
     let l = c .before in
     let a = l .before .args in
     let e : l .loop .i ≡ sixteen .positions = omega arith in
-    let n : l .loop .next ≡ 0 + length (positionRows (a .v) (a .d) (a .count) (a .matrix .now) (sixteen .positions)) = rw e at (l .loop .inv .2) in
+    let n : l .loop .next ≡ 0 + length (matrixRows (a .v) (a .d) (a .count) (a .matrix .now)) = rw e at (l .loop .inv .2) in
     (omega arith, rw e at (l .loop .inv .3))
 
 pub matrix-rows-spec : {M : Type 1} → statement M
