@@ -5,13 +5,14 @@ use mathlib.Core.List.{List, [], _∷_, _++_, map, flatMap, append-assoc, append
 use mathlib.Core.Path.{_≡_, refl, sym, _∙_, ap, ap₂, subst}
 use Prim.Native.Nat.{ℕ, zero, suc, _+_, _-_, _*_, _≤_, _<_}
 use native.Mathlib.Decide.{decLt}
-use native.Mathlib.Nat.{add-zero, add-assoc, mul-le-mul-left}
+use native.Mathlib.Nat.{add-zero, mul-le-mul-left}
 use native.Mathlib.Numerals.{add-one}
 use native.Mathlib.Omega.{arith}
 use borrow.Author.Tests.{eq-eqb, ne-eqb}
-use lib.ListN.{length, take, drop, set, length-append, take-append-drop}
-use lib.Seq.{take-at, drop-drop, drop-append-add, length-take-le, take-suc-set, paste}
-use Rattle.definitions.proofs.Joined.{join-nil, join-cons, join-append, join-below}
+use lib.ListN.{length, take, set, length-append}
+use lib.Seq.{length-take-le, take-suc-set, paste}
+use Rattle.definitions.proofs.Joined.{join-nil, join-cons, join-append, join-below, joined-room}
+use Rattle.definitions.proofs.Loops.{over-none, over-more}
 use Rattle.definitions.proofs.Tools.{below-zero}
 use Rattle.definitions.specs.Code.{Symbols}
 use Rattle.definitions.specs.Field.{numbers, value, sixteen}
@@ -23,26 +24,6 @@ use Rattle.search.specs.Columns.{first, columns}
 use Rattle.search.specs.Tree.{constantsZero, begins, next, search}
 use Rattle.substitution.specs.Array.{polynomial, Handed}
 use Rattle.roots.specs.Rows.{DegreeWithin, rowsAfter, laidOver}
-
--- ---- a list laid over another
-
--- nothing laid
-laid-nothing : (d : List ℕ) (at : ℕ) → d ≡ laidOver d at []
-laid-nothing d at = sym (rw (add-zero, append-nil, take-append-drop))
-
--- one list laid behind another
-laid-after : (d : List ℕ) (at : ℕ) (l m : List ℕ) → at + length l ≤ length d → laidOver (laidOver d at l) (at + length l) m ≡ laidOver d at (l ++ m)
-laid-after d at l m h =
-    let n : length (take at d ++ l) ≡ at + length l = simp (length-append, length-take-le at d (omega arith)) in
-    let t : take (at + length l) (laidOver d at l) ≡ take at d ++ l = take-at (take at d ++ l) (drop (at + length l) d) (at + length l) n in
-    let u : drop (at + length l + length m) (laidOver d at l) ≡ drop (at + length (l ++ m)) d =
-    ap (λ (k : ℕ). drop (k + length m) (laidOver d at l)) (sym n)
-    ∙ drop-append-add (take at d ++ l) (drop (at + length l) d) (length m)
-    ∙ drop-drop (length m) (at + length l) d
-    ∙ ap (λ (k : ℕ). drop k d) (add-assoc at (length l) (length m) ∙ ap (λ (k : ℕ). at + k) (sym (length-append l m))) in
-    ap (λ (x : List ℕ). x ++ m ++ drop (at + length l + length m) (laidOver d at l)) t
-    ∙ ap (λ (x : List ℕ). take at d ++ l ++ m ++ x) u
-    ∙ ap (λ (x : List ℕ). x ++ drop (at + length (l ++ m)) d) (append-assoc (take at d) l m)
 
 -- ---- rows after a prefix
 
@@ -89,25 +70,6 @@ rows-all prefix left M h =
     ap (λ (n : ℕ). rowsAfter prefix (search sixteen n M)) e ∙ ap (rowsAfter prefix) (search-suc sixteen (left - 1) M)
     ∙ rows-joined prefix (branch sixteen (left - 1) M) 16
 
--- more symbols, more rows
-before-grows : (prefix : List ℕ) (n : ℕ) (M : List (List ℕ)) (g m : ℕ) → length (rowsBefore prefix n M g) ≤ length (rowsBefore prefix n M (m + g))
-before-grows prefix n M g zero = let e : zero + g ≡ g = omega arith in rw e (omega arith)
-before-grows prefix n M g (suc m) =
-    let e : suc m + g ≡ m + g + 1 = omega arith in
-    let a = before-grows prefix n M g m in
-    let b = ap length (before-more prefix n M (m + g)) ∙ length-append (rowsBefore prefix n M (m + g)) (rowsOf prefix n M (m + g)) in
-    rw e (omega arith)
-
--- the rows of symbol g have room behind those before it
-before-room : (prefix : List ℕ) (n : ℕ) (M : List (List ℕ)) (g : ℕ) → g < 16
-    → length (rowsBefore prefix n M g) + length (rowsOf prefix n M g) ≤ length (rowsBefore prefix n M 16)
-before-room prefix n M g h =
-    let e : 15 - g + (g + 1) ≡ 16 = omega arith in
-    let a : length (rowsBefore prefix n M (g + 1)) ≤ length (rowsBefore prefix n M 16) =
-    subst (λ (m : ℕ). length (rowsBefore prefix n M (g + 1)) ≤ length (rowsBefore prefix n M m)) e (before-grows prefix n M (g + 1) (15 - g)) in
-    let b = ap length (before-more prefix n M g) ∙ length-append (rowsBefore prefix n M g) (rowsOf prefix n M g) in
-    omega arith
-
 -- ---- the last level
 
 module _ (row : List ℕ) (k left : ℕ) (M : List (List ℕ)) (z : left ≡ 0) where
@@ -140,12 +102,12 @@ module _ (row : List ℕ) (k left : ℕ) (M : List (List ℕ)) (z : left ≡ 0) 
   -- so nothing is written
   pub leaf-nothing : false ≡ constantsZero M → (d : List ℕ) (at : ℕ)
       → (at ≡ at + length (rowsAfter (take (k - left) row) (search sixteen left M))) × (d ≡ laidOver d at (rowsAfter (take (k - left) row) (search sixteen left M)))
-  leaf-nothing e d at = (rw (leaf-none e) (sym (add-zero at)), rw (leaf-none e) (laid-nothing d at))
+  leaf-nothing e d at = (rw (leaf-none e) (sym (add-zero at)), rw (leaf-none e) (over-none d at))
 
 -- before the first symbol nothing is written
 pub before-nothing : (prefix : List ℕ) (n : ℕ) (M : List (List ℕ)) (d : List ℕ) (at : ℕ)
     → (at ≡ at + length (rowsBefore prefix n M 0)) × (d ≡ laidOver d at (rowsBefore prefix n M 0))
-before-nothing prefix n M d at = (rw (before-none prefix n M) (sym (add-zero at)), rw (before-none prefix n M) (laid-nothing d at))
+before-nothing prefix n M d at = (rw (before-none prefix n M) (sym (add-zero at)), rw (before-none prefix n M) (over-none d at))
 
 -- what is tried is a symbol
 pub symbol : (g n : ℕ) → g < n → n ≤ 16 → g < 16
@@ -258,7 +220,7 @@ module _ (k left D h : ℕ) (row p : List ℕ) (d : List ℕ) (at : ℕ) (out : 
     -- they have room
     pub handed-room : end + length (rowsAfter (take (k - (left - 1)) (set row (k - left) g)) (search sixteen (left - 1) (polynomial h (D + 1) r))) ≤ length d
     handed-room =
-        let a = before-room prefix (left - 1) M g hg in
+        let a = joined-room (rowsOf prefix (left - 1) M) 16 g hg in
         let c = ap length handed-rows in
         let f = all-room in
         omega arith
@@ -274,9 +236,9 @@ module _ (k left D h : ℕ) (row p : List ℕ) (d : List ℕ) (at : ℕ) (out : 
         before-more prefix (left - 1) M g ∙ ap (λ (l : List ℕ). rowsBefore prefix (left - 1) M g ++ l) handed-rows in
         let n : length (rowsBefore prefix (left - 1) M (g + 1)) ≡ length (rowsBefore prefix (left - 1) M g) + length rows =
         ap length f ∙ length-append (rowsBefore prefix (left - 1) M g) rows in
-        let a = before-room prefix (left - 1) M g hg in
+        let a = joined-room (rowsOf prefix (left - 1) M) 16 g hg in
         let w = all-room in (
           omega arith,
-          eo ∙ ap₂ (λ (x : List ℕ) (y : ℕ). laidOver x y rows) ho he ∙ laid-after d at (rowsBefore prefix (left - 1) M g) rows (omega arith)
+          eo ∙ ap₂ (λ (x : List ℕ) (y : ℕ). laidOver x y rows) ho he ∙ over-more d at (rowsBefore prefix (left - 1) M g) rows (omega arith)
               ∙ ap (laidOver d at) (sym f),
         )

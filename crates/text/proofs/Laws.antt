@@ -1,38 +1,32 @@
 -- Texts that are put one behind the other.
 -- Assumes nothing.
 use mathlib.Core.Bool.{Bool, cond}
-use mathlib.Core.List.{List, [], _∷_, _++_, map, append-assoc, append-nil}
+use mathlib.Core.List.{List, [], _∷_, _++_, map, append-assoc}
 use mathlib.Core.Path.{_≡_, refl, sym, _∙_, ap, subst}
 use Prim.Native.Nat.{ℕ, zero, suc, _+_, _*_, _-_, _/_, _%_, _≤_, _<_}
-use native.Mathlib.Nat.{add-zero, mul-suc, mul-le-mul-left}
 use native.Mathlib.Numerals.{add-one}
 use native.Mathlib.Omega.{arith}
 use borrow.Author.Tests.{eq-eqb, ne-eqb}
-use lib.ListN.{length, take, drop, getD, set, length-append, length-drop, length-map, take-append-drop}
-use lib.Seq.{length-take-le, take-at, take-suc, drop-append-add, drop-drop, drop-cons, set-at, append-snoc, take-length}
-use Rattle.definitions.proofs.Loops.{put-more}
-use Rattle.definitions.proofs.Tools.{below-zero, length-below, map-below}
+use lib.ListN.{length, take, drop, getD, set, length-append, length-drop, length-map}
+use lib.Seq.{length-take-le, take-suc, drop-cons, set-at, append-snoc, take-length}
+use Rattle.definitions.proofs.Loops.{put-more, map-more, over-none, length-over, over-more}
+use Rattle.definitions.proofs.Tools.{below-zero, length-map-below}
 use Rattle.definitions.proofs.Weights.{map-take}
 use Rattle.definitions.specs.Tools.{below}
 use Rattle.text.specs.Text.{laid, Puts, numberAt, numbersOf, rowLine, lineOf, rowLines}
-
--- what is before the end of the words has its length
-length-front : (out : List ℕ) (at : ℕ) (w : List ℕ) → at ≤ length out → length (take at out ++ w) ≡ at + length w
-length-front out at w h = length-append (take at out) w ∙ ap (λ (n : ℕ). n + length w) (length-take-le at out h)
 
 -- the memory keeps its length
 length-laid : (out : List ℕ) (at : ℕ) (w : List ℕ) → at + length w ≤ length out → length (laid out at w) ≡ length out
 unfolding laid
 length-laid out at w h =
-    let front = length-front out at w (omega arith) in
+    let front = length-over out at w (omega arith) in
     let rest = length-drop (at + length w) out in
     length-append (take at out ++ w) (drop (at + length w) out) ∙ omega arith
 
 -- nothing is put yet
 laid-none : (out : List ℕ) (at : ℕ) → out ≡ laid out at []
 unfolding laid
-laid-none out at =
-    sym (ap (λ (n : ℕ). take at out ++ [] ++ drop n out) (add-zero at) ∙ ap (λ (l : List ℕ). l ++ drop at out) (append-nil (take at out)) ∙ take-append-drop at out)
+laid-none out at = over-none out at
 
 -- one code more is put
 laid-more : (out : List ℕ) (at : ℕ) (w : List ℕ) (x : ℕ) → at + length w < length out → set (laid out at w) (at + length w) x ≡ laid out at (w ++ (x ∷ []))
@@ -40,24 +34,14 @@ unfolding laid
 laid-more out at w x h =
     let size : length (w ++ (x ∷ [])) ≡ length w + 1 = length-append w (x ∷ []) in
     let end : at + length w + 1 ≡ at + length (w ++ (x ∷ [])) = omega arith in
-    put-more 0 (take at out ++ w) out (at + length w) x (length-front out at w (omega arith)) h
+    put-more 0 (take at out ++ w) out (at + length w) x (length-over out at w (omega arith)) h
     ∙ ap (λ (l : List ℕ). l ++ drop (at + length w + 1) out) (append-assoc (take at out) w (x ∷ []))
     ∙ ap (λ (n : ℕ). take at out ++ (w ++ (x ∷ [])) ++ drop n out) end
 
 -- words behind words
 laid-laid : (out : List ℕ) (at : ℕ) (u w : List ℕ) → at ≤ length out → laid (laid out at u) (at + length u) w ≡ laid out at (u ++ w)
 unfolding laid
-laid-laid out at u w h =
-    let front : length (take at out ++ u) ≡ at + length u = length-front out at u h in
-    let both : length (u ++ w) ≡ length u + length w = length-append u w in
-    let end : at + length u + length w ≡ at + length (u ++ w) = omega arith in
-    let rest : drop (at + length u + length w) (take at out ++ u ++ drop (at + length u) out) ≡ drop (at + length (u ++ w)) out =
-    ap (λ (n : ℕ). drop (n + length w) (take at out ++ u ++ drop (at + length u) out)) (sym front)
-    ∙ drop-append-add (take at out ++ u) (drop (at + length u) out) (length w)
-    ∙ drop-drop (length w) (at + length u) out ∙ ap (λ (n : ℕ). drop n out) end in
-    ap (λ (l : List ℕ). l ++ w ++ drop (at + length u + length w) (take at out ++ u ++ drop (at + length u) out))
-    (take-at (take at out ++ u) (drop (at + length u) out) (at + length u) front)
-    ∙ ap (λ (l : List ℕ). take at out ++ u ++ w ++ l) rest ∙ ap (λ (l : List ℕ). l ++ drop (at + length (u ++ w)) out) (append-assoc (take at out) u w)
+laid-laid out at u w h = over-more out at u w h
 
 -- a loop that puts one code after the other: before it, a turn, and its end
 module _ (f : ℕ → ℕ) (out words : List ℕ) (at : ℕ) (fits : at + length words ≤ length out) where
@@ -90,11 +74,6 @@ puts-more out middle after u w at end last h p q =
       q .2 ∙ ap (λ (m : List ℕ). laid m end w) (p .2) ∙ ap (λ (n : ℕ). laid (laid out at u) n w) e ∙ laid-laid out at u w h,
     )
 
--- words as they are
-pub map-same : (w : List ℕ) → map (λ (x : ℕ). x) w ≡ w
-map-same [] = refl
-map-same (x ∷ w) = ap (λ (l : List ℕ). x ∷ l) (map-same w)
-
 -- a loop that reads one number after the other: bytes that give none, a turn, and its end
 module _ (bytes out : List ℕ) where
   pub none-read : (length bytes % 2 ≡ 0 → ⊥) → (0 ≡ length (numbersOf bytes)) × (out ≡ numbersOf bytes ++ drop (length (numbersOf bytes)) out)
@@ -107,18 +86,14 @@ module _ (bytes out : List ℕ) where
 
   pub read-turned : (now : List ℕ) (i x : ℕ) → i < length out → now ≡ map (numberAt bytes) (below i) ++ drop i out → x ≡ numberAt bytes i
       → set now i x ≡ map (numberAt bytes) (below (i + 1)) ++ drop (i + 1) out
-  read-turned now i x h e ex =
-      rw (e, ex)
-      (put-more 0 (map (numberAt bytes) (below i)) out i (numberAt bytes i) (length-map (below i) (numberAt bytes) ∙ length-below i) h
-      ∙ ap (λ (l : List ℕ). l ++ drop (i + 1) out)
-      (sym (map-below (numberAt bytes) i) ∙ ap (λ (n : ℕ). map (numberAt bytes) (below n)) (sym (add-one i))))
+  read-turned now i x h e ex = map-more (numberAt bytes) out now i x h e ex
 
   pub all-read : (now : List ℕ) (i : ℕ) → length bytes % 2 ≡ 0 → i ≡ length bytes / 2 → now ≡ map (numberAt bytes) (below i) ++ drop i out
       → (length bytes / 2 ≡ length (numbersOf bytes)) × (now ≡ numbersOf bytes ++ drop (length (numbersOf bytes)) out)
   all-read now i even ei e =
       let all : numbersOf bytes ≡ map (numberAt bytes) (below (length bytes / 2)) =
       ap (λ (b : Bool). cond b (map (numberAt bytes) (below (length bytes / 2))) []) (eq-eqb (length bytes % 2) 0 even) in
-      let size : length (map (numberAt bytes) (below (length bytes / 2))) ≡ length bytes / 2 = length-map (below (length bytes / 2)) (numberAt bytes) ∙ length-below (length bytes / 2) in
+      let size : length (map (numberAt bytes) (below (length bytes / 2))) ≡ length bytes / 2 = length-map-below (numberAt bytes) (length bytes / 2) in
       rw (all, size) (refl, e ∙ ap (λ (n : ℕ). map (numberAt bytes) (below n) ++ drop n out) ei)
 
 -- the lines of rows: no row, and one row more
@@ -153,15 +128,11 @@ module _ (k : ℕ) (rows scores : List ℕ) where
       let end-size : length (take (k * j + k - k * j) (drop (k * j) rows)) ≡ k = ap (λ (n : ℕ). length (take n (drop (k * j) rows))) size ∙ long in
       (subst (λ (w : List ℕ). Puts out at w end after) same p, omega arith)
 
--- a row of those that are there lies within the memory
-pub row-within : (k r many size : ℕ) → r < many → k * many ≤ size → k * r + k ≤ size
-row-within k r many size h l = let one-more = mul-le-mul-left k h in let grown = mul-suc k r in omega arith
-
 -- what is put ends within the memory
 laid-within : (out : List ℕ) (at : ℕ) (w : List ℕ) → at ≤ length out → at + length w ≤ length (laid out at w)
 unfolding laid
 laid-within out at w h =
-    let front = length-front out at w h in
+    let front = length-over out at w h in
     let size = length-append (take at out ++ w) (drop (at + length w) out) in
     omega arith
 

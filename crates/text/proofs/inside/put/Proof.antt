@@ -1,9 +1,9 @@
 use mathlib.Core.Path.{_≡_, refl, sym, _∙_, ap, subst}
 use Prim.Native.Nat.{ℕ, suc, _+_, _*_, _-_, _/_, _%_, _≤_, _<_}
-use mathlib.Core.List.{List, [], _∷_, _++_, map}
+use mathlib.Core.List.{List, [], _∷_, _++_, map, map-id}
 use lib.ListN.{length, take, drop, getD, length-set}
 use native.Mathlib.Omega.{arith}
-use Rattle.text.proofs.Laws.{begun, turned, ended, map-same}
+use Rattle.text.proofs.Laws.{begun, turned, ended}
 use Rattle.text.specs.Text.{hexDigit, laid, Puts}
 use Rattle.text.proofs.inside.put.Statement.{statement}
 use Rattle.text.proofs.inside.put.Tie as tie
@@ -55,7 +55,7 @@ returns c =
     let s = l .before in
     let e : l .loop .j ≡ length (s .args .words .now) = omega arith in
     let fits : s .args .at + length (s .args .words .now) ≤ length (s .args .out .now) = omega arith in
-    subst (λ (w : List ℕ). Puts (s .args .out .now) (s .args .at) w (s .args .at + length (s .args .words .now)) (l .loop .out)) (map-same (s .args .words .now))
+    subst (λ (w : List ℕ). Puts (s .args .out .now) (s .args .at) w (s .args .at + length (s .args .words .now)) (l .loop .out)) (map-id (s .args .words .now))
     (ended (λ (x : ℕ). x) (s .args .out .now) (s .args .words .now) (s .args .at) fits (l .loop .out) (l .loop .j) e (l .loop .inv .2))
 
 pub put-spec : {M : Type 1} → statement M
