@@ -6,7 +6,7 @@ use lib.ListN.{drop, getD, replicate}
 use Rattle.definitions.specs.Field.{sixteen}
 use Rattle.definitions.specs.Tools.{below}
 
--- the entries of a row: for a cost of at most 150 there are at most 160 monomials up to the bound
+-- the entries of a row: for a cost within the greatest limit there are at most so many monomials up to the bound
 abbrev pub width : ℕ
 width = 160
 
@@ -22,4 +22,4 @@ multipleRow c p = filled width (λ (k : ℕ). sixteen .times c (getD p k 0))
 
 -- the first n multiples of a row; zeros after them
 unfoldable pub multiplesTo : ℕ → List ℕ → List (List ℕ)
-multiplesTo n p = map (λ (c : ℕ). multipleRow c p) (below n) ++ drop n (replicate 16 (replicate width 0))
+multiplesTo n p = map (λ (c : ℕ). multipleRow c p) (below n) ++ drop n (replicate (sixteen .symbols) (replicate width 0))
