@@ -19,9 +19,6 @@ module _ (o : Outcome) (r : Refusal) where
   pub two-tests : (a b : Bool) → orLine (orLine o (lineOf (not a) r)) (lineOf (not b) r) ≡ orLine o (lineOf (not (a && b)) r)
   two-tests a b = by-cases o
     where
-      refused-first : (b : Bool) → orLine (orLine passed (lineOf true r)) (lineOf (not b) r) ≡ orLine passed (lineOf true r)
-      refused-first b = refl
-
       by-first : (a : Bool) → orLine (orLine passed (lineOf (not a) r)) (lineOf (not b) r) ≡ orLine passed (lineOf (not (a && b)) r)
       by-first true = refl
       by-first false = refl
