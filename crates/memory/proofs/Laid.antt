@@ -1,8 +1,8 @@
 -- Lists laid over memory: their length, one entry more, and one part behind another.
 -- Assumes nothing.
 use mathlib.Core.List.{List, [], _∷_, _++_, append-assoc, append-nil}
-use mathlib.Core.Path.{_≡_, refl, sym, _∙_, ap}
-use Prim.Native.Nat.{ℕ, suc, _+_, _≤_, _<_}
+use mathlib.Core.Path.{_≡_, sym, _∙_, ap}
+use Prim.Native.Nat.{ℕ, _+_, _≤_, _<_}
 use native.Mathlib.Nat.{add-zero}
 use native.Mathlib.Numerals.{add-one}
 use native.Mathlib.Omega.{arith}
@@ -56,7 +56,7 @@ laid-turned out part now at j x h l e ex =
     (ap (λ (n : ℕ). set (laid out at (take j part)) (at + n) (getD part j 0)) (sym size) ∙ laid-more out at (take j part) (getD part j 0) (omega arith))
 
 -- one part behind another
-pub laid-laid : (out : List ℕ) (at : ℕ) (u w : List ℕ) → at ≤ length out → laid (laid out at u) (at + length u) w ≡ laid out at (u ++ w)
+laid-laid : (out : List ℕ) (at : ℕ) (u w : List ℕ) → at ≤ length out → laid (laid out at u) (at + length u) w ≡ laid out at (u ++ w)
 unfolding laid
 laid-laid out at u w h =
     let front = length-front out at u h in
@@ -69,3 +69,11 @@ laid-laid out at u w h =
     ap (λ (l : List ℕ). l ++ w ++ drop (at + length u + length w) (take at out ++ u ++ drop (at + length u) out))
     (take-at (take at out ++ u) (drop (at + length u) out) (at + length u) front)
     ∙ ap (λ (l : List ℕ). take at out ++ u ++ w ++ l) rest ∙ ap (λ (l : List ℕ). l ++ drop (at + length (u ++ w)) out) (append-assoc (take at out) u w)
+
+pub laid-behind : (out : List ℕ) (at : ℕ) (u w : List ℕ) (end : ℕ) → at ≤ length out → end ≡ at + length u → laid (laid out at u) end w ≡ laid out at (u ++ w)
+laid-behind out at u w end h e = ap (λ (n : ℕ). laid (laid out at u) n w) e ∙ laid-laid out at u w h
+
+-- a part in front of the memory
+pub laid-front : (out part : List ℕ) (size : ℕ) → length part ≡ size → laid out 0 part ≡ part ++ drop size out
+unfolding laid
+laid-front out part size e = let whole : 0 + length part ≡ size = omega arith in ap (λ (n : ℕ). part ++ drop n out) whole

@@ -14,7 +14,7 @@ use Rattle.definitions.proofs.Loops.{put-more}
 use Rattle.definitions.proofs.Tools.{below-zero, length-below, map-at, map-below}
 use Rattle.definitions.specs.Field.{sixteen}
 use Rattle.definitions.specs.Tools.{below}
-use Rattle.memory.proofs.Laid.{length-laid, laid-none, laid-turned, laid-laid, laid-within}
+use Rattle.memory.proofs.Laid.{length-laid, laid-none, laid-turned, laid-behind, laid-within}
 use Rattle.memory.specs.Laid.{laid}
 use Rattle.text.specs.Rooms.{rowRoom, longestRowRoom}
 use Rattle.text.specs.Text.{Puts, numberAt, numbersOf, hexDigit, rowLine, lineOf, rowLines}
@@ -46,7 +46,7 @@ puts-more out middle after u w at end last h p q =
     let l : last ≡ end + length w = q .0 in (
       omega arith,
       q .1 ∙ p .1,
-      q .2 ∙ ap (λ (m : List ℕ). laid m end w) (p .2) ∙ ap (λ (n : ℕ). laid (laid out at u) n w) e ∙ laid-laid out at u w h,
+      q .2 ∙ ap (λ (m : List ℕ). laid m end w) (p .2) ∙ laid-behind out at u w end h e,
     )
 
 -- a loop that reads one number after the other: bytes that give none, a turn, and its end
