@@ -26,7 +26,7 @@ unfolding sumOf
 value-more x f j y p h l ey ep = ap (λ (z : ℕ). sumOf (getD f (j - 1) 0) z) (ep ∙ ap (sixteen .times x) ey) ∙ sym (value-step (numbers sixteen) x f j h l)
 
 -- what Horner's rule has come to is a symbol
-pub value-so-far : (x : ℕ) (f : List ℕ) (j y : ℕ) → x < 16 → Symbols sixteen f → y ≡ value (numbers sixteen) x (drop j f) → y < 16
+pub value-so-far : (x : ℕ) (f : List ℕ) (j y : ℕ) → x < sixteen .symbols → Symbols sixteen f → y ≡ value (numbers sixteen) x (drop j f) → y < sixteen .symbols
 value-so-far x f j y h s e =
     rw e (value-symbol sixteen sixteen-field x (drop j f) h (λ (i : ℕ). rw (getD-drop j f i 0) (s (j + i))))
 
@@ -34,10 +34,10 @@ value-so-far x f j y h s e =
 pub first-point : 1 ≡ point sixteen 0
 first-point = sym (power-zero (numbers sixteen) (sixteen .α))
 
-pub next-point : (i x y : ℕ) → x ≡ point sixteen i → y ≡ sixteen .times 2 x → y ≡ point sixteen (i + 1)
-next-point i x y ex ey = ey ∙ ap (sixteen .times 2) ex ∙ sym (power-suc (numbers sixteen) 2 i) ∙ ap (point sixteen) (sym (add-one i))
+pub next-point : (i x y : ℕ) → x ≡ point sixteen i → y ≡ sixteen .times (sixteen .α) x → y ≡ point sixteen (i + 1)
+next-point i x y ex ey = ey ∙ ap (sixteen .times (sixteen .α)) ex ∙ sym (power-suc (numbers sixteen) (sixteen .α) i) ∙ ap (point sixteen) (sym (add-one i))
 
-pub point-so-far : (i x : ℕ) → x ≡ point sixteen i → x < 16
+pub point-so-far : (i x : ℕ) → x ≡ point sixteen i → x < sixteen .symbols
 point-so-far i x e = rw e (point-symbol sixteen sixteen-field i)
 
 -- no symbol of a codeword is written yet

@@ -7,13 +7,13 @@ ghost use Rattle.definitions.specs.Code.{Symbols, codeword};
 ghost use Rattle.definitions.specs.Field.{numbers, value, sixteen};
 ghost use Rattle.field.specs.Table.{Products};
 
-pub const ALPHA: u8 = 2;
+pub const ALPHA: u8 = field::inside::ALPHA;
 
 // The value of the polynomial f at x.
 pub fn value_at(table: &[u8; 256], f: &[u8], x: u8) -> u8
     requires { ⌜ Products (now table) ⌝ }
     requires { ⌜ Symbols sixteen (now f) ⌝ }
-    requires { ⌜ x < 16 ⌝ }
+    requires { ⌜ x < sixteen .symbols ⌝ }
     ensures { λ r. ⌜ r ≡ value (numbers sixteen) x (now (f .entry)) ⌝ }
 {
     let mut y = 0u8;

@@ -60,7 +60,7 @@ lead zero = 1
 lead (suc s) = 0
 
 -- it is a symbol
-pub lead-symbol : (s : ℕ) → lead s < 16
+pub lead-symbol : (s : ℕ) → lead s < sixteen .symbols
 lead-symbol zero = omega arith
 lead-symbol (suc s) = omega arith
 
@@ -91,9 +91,9 @@ stepped-more x first before e next product en ep =
     ap (λ (p : ℕ). sixteen .plus p (getD before e 0)) (ep ∙ ap (sixteen .times x) en) ∙ sym (stepped-suc x first before e)
     ∙ ap (stepped x first before) (sym (add-one e))
 
-module _ (x : ℕ) (h : x < 16) where
+module _ (x : ℕ) (h : x < sixteen .symbols) where
   -- from symbols only symbols come
-  pub stepped-symbol : (first : ℕ) (before : List ℕ) → first < 16 → Symbols sixteen before → (e : ℕ) → stepped x first before e < 16
+  pub stepped-symbol : (first : ℕ) (before : List ℕ) → first < sixteen .symbols → Symbols sixteen before → (e : ℕ) → stepped x first before e < sixteen .symbols
   stepped-symbol first before hf sb zero = rw (stepped-zero x first before) hf
   stepped-symbol first before hf sb (suc e) =
       rw (stepped-suc x first before e)

@@ -47,8 +47,12 @@ pointRows v d count x y m = flatMap (λ (s : ℕ). orderRows v (d / v + 1) count
 
 -- the rows of a position
 abbrev pub columnRows : ℕ → ℕ → ℕ → ℕ → List ℕ → List (List ℕ)
-columnRows v d count x column = flatMap (λ (b : ℕ). pointRows v d count x b (getD column b 0)) (below 16)
+columnRows v d count x column = flatMap (λ (b : ℕ). pointRows v d count x b (getD column b 0)) (below (sixteen .symbols))
 
 -- the rows of the first n positions of a matrix
 abbrev pub positionRows : ℕ → ℕ → ℕ → List (List ℕ) → ℕ → List (List ℕ)
 positionRows v d count a n = flatMap (λ (i : ℕ). columnRows v d count (point sixteen i) (getD a i [])) (below n)
+
+-- the rows of a whole matrix
+abbrev pub matrixRows : ℕ → ℕ → ℕ → List (List ℕ) → List (List ℕ)
+matrixRows v d count a = positionRows v d count a (sixteen .positions)

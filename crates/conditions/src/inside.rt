@@ -7,22 +7,20 @@ ghost use Rattle.definitions.specs.Code.{Symbols};
 ghost use Rattle.definitions.specs.Field.{sixteen};
 ghost use Rattle.definitions.specs.Limits.{greatestLimit};
 ghost use Rattle.field.specs.Table.{Products};
-ghost use Rattle.conditions.specs.Conditions.{stepped, productRow, orderRows, pointRows, columnRows, positionRows};
+ghost use Rattle.conditions.specs.Conditions.{stepped, productRow, orderRows, pointRows, columnRows, matrixRows};
 ghost use Rattle.rows.specs.Row.{width, filled};
-use rows::ROWS;
+use field::inside::ALPHA;
+use refusals::limits::GREATEST_LIMIT;
+use refusals::limits::GREATEST_SYMBOL;
+use refusals::limits::POSITIONS;
+use refusals::limits::SYMBOLS;
 use rows::WIDTH;
-
-const POSITIONS: usize = 15;
-
-const ALPHA: u8 = 2;
-
-const SYMBOLS: u8 = 16;
 
 // The derivatives of one order of the powers of x below n, at x, from those of the order before.
 fn derivatives(table: &[u8; 256], x: u8, first: u8, before: &[u8; WIDTH], n: usize) -> [u8; WIDTH]
     requires { ⌜ Products (now table) ⌝ }
     requires { ⌜ Symbols sixteen (now before) ⌝ }
-    requires { ⌜ (x < 16) × (first < 16) × (n ≤ width) ⌝ }
+    requires { ⌜ (x < sixteen .symbols) × (first < sixteen .symbols) × (n ≤ width) ⌝ }
     ensures { λ r. ⌜ r ≡ filled n (stepped x first (now (before .entry))) ⌝ }
 {
     let mut row = [0u8; WIDTH];
@@ -72,7 +70,7 @@ fn condition(
 
 // The conditions of one order by x: the orders by y below m.
 fn order_rows(
-    rows: &mut [[u8; WIDTH]; ROWS],
+    rows: &mut [[u8; WIDTH]; GREATEST_LIMIT],
     table: &[u8; 256],
     at: usize,
     hx: &[u8; WIDTH],
@@ -84,7 +82,7 @@ fn order_rows(
 )
     requires { ⌜ Products (now table) ⌝ }
     requires { ⌜ Symbols sixteen (now hx) ⌝ }
-    requires { ⌜ (b < 16) × (0 < v) × (n ≤ width) × (count ≤ width) × (at + m ≤ greatestLimit) ⌝ }
+    requires { ⌜ (b < sixteen .symbols) × (0 < v) × (n ≤ width) × (count ≤ width) × (at + m ≤ greatestLimit) ⌝ }
     ensures { λ _. ⌜ now (rows .exit) ≡ sets (now (rows .entry)) at (orderRows v n count (now (hx .entry)) b m) ⌝ }
 {
     let mut hy = [0u8; WIDTH];
@@ -101,7 +99,7 @@ fn order_rows(
 
 // The conditions of one point: the orders by x below m. Answers the place after them.
 fn point_rows(
-    rows: &mut [[u8; WIDTH]; ROWS],
+    rows: &mut [[u8; WIDTH]; GREATEST_LIMIT],
     table: &[u8; 256],
     at: usize,
     a: u8,
@@ -112,7 +110,7 @@ fn point_rows(
     count: usize,
 ) -> usize
     requires { ⌜ Products (now table) ⌝ }
-    requires { ⌜ (a < 16) × (b < 16) × (0 < v) × (d < width) × (count ≤ width) ⌝ }
+    requires { ⌜ (a < sixteen .symbols) × (b < sixteen .symbols) × (0 < v) × (d < width) × (count ≤ width) ⌝ }
     requires { ⌜ at + length (pointRows v d count a b m) ≤ greatestLimit ⌝ }
     ensures { λ r. ⌜ r ≡ at + length (pointRows v d count a b m) ⌝ }
     ensures { λ _. ⌜ now (rows .exit) ≡ sets (now (rows .entry)) at (pointRows v d count a b m) ⌝ }
@@ -133,24 +131,24 @@ fn point_rows(
 
 // The conditions of one position.
 fn column_rows(
-    rows: &mut [[u8; WIDTH]; ROWS],
+    rows: &mut [[u8; WIDTH]; GREATEST_LIMIT],
     table: &[u8; 256],
     at: usize,
     a: u8,
-    column: &[u8; 16],
+    column: &[u8; SYMBOLS],
     v: usize,
     d: usize,
     count: usize,
 ) -> usize
     requires { ⌜ Products (now table) ⌝ }
-    requires { ⌜ (a < 16) × (0 < v) × (d < width) × (count ≤ width) ⌝ }
+    requires { ⌜ (a < sixteen .symbols) × (0 < v) × (d < width) × (count ≤ width) ⌝ }
     requires { ⌜ at + length (columnRows v d count a (now column)) ≤ greatestLimit ⌝ }
     ensures { λ r. ⌜ r ≡ at + length (columnRows v d count a (now (column .entry))) ⌝ }
     ensures { λ _. ⌜ now (rows .exit) ≡ sets (now (rows .entry)) at (columnRows v d count a (now (column .entry))) ⌝ }
 {
     let mut next = at;
     let mut symbol = 0u8;
-    while symbol < SYMBOLS {
+    while symbol <= GREATEST_SYMBOL {
         let b = field::inside::wide(symbol);
         let m = field::inside::wide(column[b]);
         next = point_rows(rows, table, next, a, symbol, m, v, d, count);
@@ -161,18 +159,18 @@ fn column_rows(
 
 // The conditions of a whole matrix, from the first row on. Answers how many there are.
 pub fn matrix_rows(
-    rows: &mut [[u8; WIDTH]; ROWS],
+    rows: &mut [[u8; WIDTH]; GREATEST_LIMIT],
     table: &[u8; 256],
-    matrix: &[[u8; 16]; 15],
+    matrix: &[[u8; SYMBOLS]; POSITIONS],
     v: usize,
     d: usize,
     count: usize,
 ) -> usize
     requires { ⌜ Products (now table) ⌝ }
     requires { ⌜ (0 < v) × (d < width) × (count ≤ width) ⌝ }
-    requires { ⌜ length (positionRows v d count (now matrix) 15) ≤ greatestLimit ⌝ }
-    ensures { λ r. ⌜ r ≡ length (positionRows v d count (now (matrix .entry)) 15) ⌝ }
-    ensures { λ _. ⌜ now (rows .exit) ≡ sets (now (rows .entry)) 0 (positionRows v d count (now (matrix .entry)) 15) ⌝ }
+    requires { ⌜ length (matrixRows v d count (now matrix)) ≤ greatestLimit ⌝ }
+    ensures { λ r. ⌜ r ≡ length (matrixRows v d count (now (matrix .entry))) ⌝ }
+    ensures { λ _. ⌜ now (rows .exit) ≡ sets (now (rows .entry)) 0 (matrixRows v d count (now (matrix .entry))) ⌝ }
 {
     let mut next = 0;
     let mut a = 1u8;

@@ -17,10 +17,12 @@ use Rattle.definitions.proofs.Table.{accepts}
 use Rattle.definitions.specs.Answers.{Answer, refused, valued, inverseAnswer}
 use Rattle.definitions.specs.Code.{Symbols}
 use Rattle.definitions.specs.Field.{numbers, sixteen, sumOf, double, shifted, inverseOf}
+use Rattle.definitions.specs.Limits.{greatestLimit}
 use Rattle.definitions.specs.Tools.{smallest}
+use Rattle.algebra.specs.Grid.{entryOf}
 use Rattle.elimination.proofs.Pivot.{Pivoted}
 use Rattle.elimination.proofs.Symbols.{plus-nothing, step-solutions, step-units}
-use Rattle.elimination.specs.Rows.{entryOf, SameSolutions, Units}
+use Rattle.elimination.specs.Rows.{SameSolutions, Units}
 use Rattle.field.proofs.Instance.{sixteen-field}
 use Rattle.field.proofs.Operands.{inverse-accepts}
 use Rattle.refusals.proofs.Unique.{refusal-number}
@@ -31,7 +33,7 @@ use Rattle.rows.proofs.Filled.{filled-at, summed-symbols, multiple-symbols, mul
 use Rattle.rows.specs.Row.{width, summedRow, multipleRow, multiplesTo}
 
 -- a row of symbols is put in
-pub system-set : (m : List (List ℕ)) (t : ℕ) (row : List ℕ) → System m → t < 150 → Symbols sixteen row → System (set m t row)
+pub system-set : (m : List (List ℕ)) (t : ℕ) (row : List ℕ) → System m → t < greatestLimit → Symbols sixteen row → System (set m t row)
 system-set m t row s h sr = record {
   size = length-set m t row ∙ s .size;
   symbols = λ r. elim (ℕ-discrete r t) [
@@ -57,11 +59,11 @@ module _ (m : List (List ℕ)) (s : System m) (j t : ℕ) where
   }
 
   -- an entry is a symbol
-  pub entry-small : (c : ℕ) → c ≡ entryOf m t j → c < 16
-  entry-small c e = subst (λ (x : ℕ). x < 16) (sym e) (s .symbols t j)
+  pub entry-small : (c : ℕ) → c ≡ entryOf m t j → c < sixteen .symbols
+  entry-small c e = subst (λ (x : ℕ). x < sixteen .symbols) (sym e) (s .symbols t j)
 
   -- the multiple that clears is added
-  pub clears-row : (c : ℕ) (times : List (List ℕ)) (row : List ℕ) → t < 150 → t ≢ j → c ≡ entryOf m t j → times ≡ multiplesTo 16 (getD m j [])
+  pub clears-row : (c : ℕ) (times : List (List ℕ)) (row : List ℕ) → t < greatestLimit → t ≢ j → c ≡ entryOf m t j → times ≡ multiplesTo (sixteen .symbols) (getD m j [])
       → row ≡ summedRow (getD m t []) (getD times c []) → ClearedRow j t m (set m t row)
   clears-row c times row h u ec et er = record {
     system = system-set m t row s h (subst (Symbols sixteen) (sym is-row) (summed-symbols (getD m t []) (multipleRow c p) (s .symbols t) (multiple-symbols c p small (s .symbols j))));
@@ -76,11 +78,11 @@ module _ (m : List (List ℕ)) (s : System m) (j t : ℕ) where
       p : List ℕ
       p = getD m j []
 
-      small : c < 16
+      small : c < sixteen .symbols
       small = entry-small c ec
 
       is-row : row ≡ summedRow (getD m t []) (multipleRow c p)
-      is-row = er ∙ ap (summedRow (getD m t [])) (ap (λ (l : List (List ℕ)). getD l c []) et ∙ multiple-at p (s .symbols j) 16 c small)
+      is-row = er ∙ ap (summedRow (getD m t [])) (ap (λ (l : List (List ℕ)). getD l c []) et ∙ multiple-at p (s .symbols j) (sixteen .symbols) c small)
 
 -- ---- the loop over the rows
 
@@ -109,22 +111,22 @@ cleared-more j n o m b c r = record {
 -- ---- the pivot
 
 -- what the inverse answers
-pub inverse-law : (a u : ℕ) → a < 16 → a ≢ 0 → valued u ≡ inverseAnswer sixteen a → (u < 16) × (sixteen .times u a ≡ 1)
+pub inverse-law : (a u : ℕ) → a < sixteen .symbols → a ≢ 0 → valued u ≡ inverseAnswer sixteen a → (u < sixteen .symbols) × (sixteen .times u a ≡ 1)
 inverse-law a u h n e =
     let is : u ≡ inverseOf sixteen a = ap (λ (x : Answer). x .value) (e ∙ sym (accepts refused (valued (inverseOf sixteen a)) (inverse-accepts a (omega arith) n))) in
     let small = inverse-symbol sixteen sixteen-field a h n in
-    (subst (λ (x : ℕ). x < 16) (sym is) small, ap (λ (x : ℕ). sixteen .times x a) is ∙ times-either sixteen sixteen-field (inverseOf sixteen a) a small h ∙ times-inverse sixteen sixteen-field a h n)
+    (subst (λ (x : ℕ). x < sixteen .symbols) (sym is) small, ap (λ (x : ℕ). sixteen .times x a) is ∙ times-either sixteen sixteen-field (inverseOf sixteen a) a small h ∙ times-inverse sixteen sixteen-field a h n)
 
 -- a symbol that is not zero is not refused
-pub not-refused : (a : ℕ) (r : Refusal) → a < 16 → a ≢ 0 → toldRefusal r ≡ inverseAnswer sixteen a → ⊥
+pub not-refused : (a : ℕ) (r : Refusal) → a < sixteen .symbols → a ≢ 0 → toldRefusal r ≡ inverseAnswer sixteen a → ⊥
 not-refused a r h n e =
     refusal-number r (ap (λ (x : Answer). x .number) (e ∙ sym (accepts refused (valued (inverseOf sixteen a)) (inverse-accepts a (omega arith) n))))
 
 -- a multiple of a row of symbols, whatever the multiple
-pub scaled-symbols : (m : List (List ℕ)) → System m → (r : ℕ) {u : ℕ} {first : List ℕ} → u < 16 → first ≡ multipleRow u (getD m r []) → Symbols sixteen first
+pub scaled-symbols : (m : List (List ℕ)) → System m → (r : ℕ) {u : ℕ} {first : List ℕ} → u < sixteen .symbols → first ≡ multipleRow u (getD m r []) → Symbols sixteen first
 scaled-symbols m s r {u} h e = subst (Symbols sixteen) (sym e) (multiple-symbols u (getD m r []) h (s .symbols r))
 
-module _ (m : List (List ℕ)) (s : System m) (r j rows : ℕ) (first : List ℕ) (low : j ≤ r) (hr : r < rows) (hrows : rows ≤ 150) where
+module _ (m : List (List ℕ)) (s : System m) (r j rows : ℕ) (first : List ℕ) (low : j ≤ r) (hr : r < rows) (hrows : rows ≤ greatestLimit) where
   -- the rows with the pivot row in its place
   abbrev pub brought : List (List ℕ)
   brought = set (set m r (getD m j [])) j first
@@ -145,7 +147,7 @@ module _ (m : List (List ℕ)) (s : System m) (r j rows : ℕ) (first : List ℕ
   brought-other : (t : ℕ) → t ≢ j → t ≢ r → getD brought t [] ≡ getD m t []
   brought-other t n f = getD-set-other (set m r (getD m j [])) j t first [] n ∙ getD-set-other m r t (getD m j []) [] f
 
-  module _ (b : List (List ℕ)) (c : Cleared j rows brought b) (u : ℕ) (hu : u < 16) (is-first : first ≡ multipleRow u (getD m r [])) where
+  module _ (b : List (List ℕ)) (c : Cleared j rows brought b) (u : ℕ) (hu : u < sixteen .symbols) (is-first : first ≡ multipleRow u (getD m r [])) where
     -- an entry of the pivot row
     pivot-entry : (k : ℕ) → k < width → entryOf b j k ≡ sixteen .times u (entryOf m r k)
     pivot-entry k h = ap (λ (x : List ℕ). getD x k 0) (c .pivot ∙ brought-pivot ∙ is-first) ∙ filled-at _ width k h

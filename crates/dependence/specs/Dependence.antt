@@ -7,7 +7,8 @@ use Prim.Native.Nat.{ℕ, suc, _≤_, _<_}
 use lib.ListN.{length, getD}
 use Rattle.definitions.specs.Field.{sixteen}
 use Rattle.definitions.specs.Limits.{greatestLimit}
-use Rattle.elimination.specs.Rows.{entryOf, SymbolRows, SameSolutions, Units}
+use Rattle.algebra.specs.Grid.{entryOf}
+use Rattle.elimination.specs.Rows.{SymbolRows, SameSolutions, Units}
 use Rattle.rows.specs.Row.{width}
 
 -- all the rows that there is room for, of symbols

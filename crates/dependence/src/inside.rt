@@ -6,20 +6,26 @@ ghost use Prim.Native.Nat.{_≤_, _<_};
 ghost use lib.ListN.{getD};
 ghost use Rattle.definitions.specs.Field.{sixteen};
 ghost use Rattle.definitions.specs.Limits.{greatestLimit};
-ghost use Rattle.elimination.specs.Rows.{entryOf, SameSolutions, Reduced};
+ghost use Rattle.algebra.specs.Grid.{entryOf};
+ghost use Rattle.elimination.specs.Rows.{SameSolutions, Reduced};
 ghost use Rattle.field.specs.Table.{Products};
 ghost use Rattle.rows.specs.Row.{width, multiplesTo};
 ghost use Rattle.dependence.specs.Dependence.{System, ClearedRow, Cleared, Step};
 use field::Element;
-use rows::ROWS;
-use rows::SYMBOLS;
+use refusals::limits::GREATEST_LIMIT;
+use refusals::limits::SYMBOLS;
 use rows::WIDTH;
 
 // Takes from row t as much of row j as clears its column j.
-fn clear_row(system: &mut [[u8; WIDTH]; ROWS], times: &[[u8; WIDTH]; SYMBOLS], t: usize, j: usize)
+fn clear_row(
+    system: &mut [[u8; WIDTH]; GREATEST_LIMIT],
+    times: &[[u8; WIDTH]; SYMBOLS],
+    t: usize,
+    j: usize,
+)
     requires { ⌜ System (now system) ⌝ }
     requires { ⌜ (t < greatestLimit) × (j < greatestLimit) ⌝ }
-    requires { ⌜ now times ≡ multiplesTo 16 (getD (now system) j []) ⌝ }
+    requires { ⌜ now times ≡ multiplesTo (sixteen .symbols) (getD (now system) j []) ⌝ }
     ensures { λ _. ⌜ ClearedRow j t (now (system .entry)) (now (system .exit)) ⌝ }
 {
     if t == j {
@@ -34,10 +40,15 @@ fn clear_row(system: &mut [[u8; WIDTH]; ROWS], times: &[[u8; WIDTH]; SYMBOLS], t
 }
 
 // Clears column j in every row but j.
-fn clear(system: &mut [[u8; WIDTH]; ROWS], times: &[[u8; WIDTH]; SYMBOLS], j: usize, rows: usize)
+fn clear(
+    system: &mut [[u8; WIDTH]; GREATEST_LIMIT],
+    times: &[[u8; WIDTH]; SYMBOLS],
+    j: usize,
+    rows: usize,
+)
     requires { ⌜ System (now system) ⌝ }
     requires { ⌜ (rows ≤ greatestLimit) × (j < greatestLimit) ⌝ }
-    requires { ⌜ now times ≡ multiplesTo 16 (getD (now system) j []) ⌝ }
+    requires { ⌜ now times ≡ multiplesTo (sixteen .symbols) (getD (now system) j []) ⌝ }
     ensures { λ _. ⌜ Cleared j rows (now (system .entry)) (now (system .exit)) ⌝ }
 {
     let mut t = 0;
@@ -48,7 +59,13 @@ fn clear(system: &mut [[u8; WIDTH]; ROWS], times: &[[u8; WIDTH]; SYMBOLS], j: us
 }
 
 // Row r, scaled to 1 in column j, changes places with row j, and column j is cleared in the others.
-fn pivot(system: &mut [[u8; WIDTH]; ROWS], table: &[u8; 256], r: usize, j: usize, rows: usize)
+fn pivot(
+    system: &mut [[u8; WIDTH]; GREATEST_LIMIT],
+    table: &[u8; 256],
+    r: usize,
+    j: usize,
+    rows: usize,
+)
     requires { ⌜ System (now system) ⌝ }
     requires { ⌜ Products (now table) ⌝ }
     requires { ⌜ (j ≤ r) × (r < rows) × (rows ≤ greatestLimit) ⌝ }
@@ -67,7 +84,11 @@ fn pivot(system: &mut [[u8; WIDTH]; ROWS], table: &[u8; 256], r: usize, j: usize
 }
 
 // Reduces the rows until a column depends on those before it, and answers that column.
-pub fn first_dependent(system: &mut [[u8; WIDTH]; ROWS], table: &[u8; 256], rows: usize) -> usize
+pub fn first_dependent(
+    system: &mut [[u8; WIDTH]; GREATEST_LIMIT],
+    table: &[u8; 256],
+    rows: usize,
+) -> usize
     requires { ⌜ System (now system) ⌝ }
     requires { ⌜ Products (now table) ⌝ }
     requires { ⌜ rows ≤ greatestLimit ⌝ }

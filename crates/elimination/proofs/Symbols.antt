@@ -13,8 +13,9 @@ use Rattle.algebra.proofs.RingLaws.{plus-self, plus-zero, zero-times, equal-of-
 use Rattle.algebra.specs.FieldOf.{FieldOf}
 use Rattle.definitions.specs.Code.{Symbols}
 use Rattle.definitions.specs.Field.{Ops, Code, numbers}
+use Rattle.algebra.specs.Grid.{entryOf}
 use Rattle.elimination.proofs.Pivot.{Sol, UnitColumns, Pivoted, solves-after, solves-before, units-after, column-solves, ends-before}
-use Rattle.elimination.specs.Rows.{entryOf, SymbolRows, Solves, SameSolutions, Units, Reduced}
+use Rattle.elimination.specs.Rows.{SymbolRows, Solves, SameSolutions, Units, Reduced}
 
 module _ (C : Code) (F : FieldOf C) where
   -- the operations on elements

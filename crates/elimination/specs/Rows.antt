@@ -8,10 +8,7 @@ use lib.ListN.{getD}
 use Rattle.algebra.proofs.Linear.{dot}
 use Rattle.definitions.specs.Code.{Symbols}
 use Rattle.definitions.specs.Field.{Code, numbers}
-
--- the entry of row r in column k
-abbrev pub entryOf : List (List ℕ) → ℕ → ℕ → ℕ
-entryOf m r k = getD (getD m r []) k 0
+use Rattle.algebra.specs.Grid.{entryOf}
 
 module _ (C : Code) where
   -- every entry of every row is a symbol

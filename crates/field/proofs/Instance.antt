@@ -18,7 +18,7 @@ use Rattle.algebra.proofs.Score as Score
 use Rattle.algebra.proofs.Tests.{every}
 
 -- what is computed of sixteen symbols: at most 256 pairs
-sixteen-tested : Tested 4 19 15
+sixteen-tested : Tested 4 19 (sixteen .positions)
 unfolding every sumOf double shifted smallest power
 sixteen-tested =
     record {
@@ -34,9 +34,9 @@ sixteen-tested =
 
 -- the numbers below 16, with the sum and the product of document 01, are a field whose fifteen points differ
 pub sixteen-field : FieldOf sixteen
-sixteen-field = finite 4 19 15 sixteen-tested
+sixteen-field = finite 4 19 (sixteen .positions) sixteen-tested
 
 -- every message of score above D is a y-root of every polynomial of weighted degree at most D that passes, whoever made it
-pub score-above-degree-is-root : (n v D : ℕ) (m q f : List ℕ) → n ≤ 15 → Symbols sixteen q → Through sixteen n v D m q
+pub score-above-degree-is-root : (n v D : ℕ) (m q f : List ℕ) → n ≤ sixteen .positions → Symbols sixteen q → Through sixteen n v D m q
     → Symbols sixteen f → length f ≤ suc v → D < score sixteen n m f → isRoot sixteen v D q f ≡ true
 score-above-degree-is-root = Score.score-above-degree-is-root sixteen sixteen-field

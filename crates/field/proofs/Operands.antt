@@ -3,7 +3,7 @@
 use mathlib.Core.Bool.{Bool, true, false, cond, _&&_, true≢false}
 use mathlib.Core.List.{[], _∷_}
 use mathlib.Core.Path.{_≡_, refl, sym, _∙_, ap}
-use Prim.Native.Nat.{ℕ, _≤_, _<_}
+use Prim.Native.Nat.{ℕ, _-_, _≤_, _<_}
 use native.Mathlib.Omega.{arith}
 use borrow.Author.Tests.{lt-ltb, le-ltb, eq-eqb, ne-eqb}
 use lib.Dec.{eqb, ltb}
@@ -15,36 +15,40 @@ use Rattle.definitions.specs.Refusals.{firstAbove, symbols, zeroes, fieldTable,
 use Rattle.refusals.specs.Checked.{Outcome, passed, refusedAt, orLine, lineOf}
 use Rattle.refusals.specs.declared.Refusal.the-variants.{Symbol, Zero}
 
+-- the greatest symbol
+abbrev greatest : ℕ
+greatest = sixteen .symbols - 1
+
 module _ (a b : ℕ) where
   -- which operand is no symbol
-  pub first-is-bad : 15 < a → 0 ≡ firstAbove 15 (a ∷ b ∷ [])
+  pub first-is-bad : greatest < a → 0 ≡ firstAbove greatest (a ∷ b ∷ [])
   unfolding firstAbove
-  first-is-bad h = simp (lt-ltb 15 a h)
+  first-is-bad h = simp (lt-ltb greatest a h)
 
-  pub second-is-bad : a ≤ 15 → 15 < b → 1 ≡ firstAbove 15 (a ∷ b ∷ [])
+  pub second-is-bad : a ≤ greatest → greatest < b → 1 ≡ firstAbove greatest (a ∷ b ∷ [])
   unfolding firstAbove
-  second-is-bad ha hb = simp (le-ltb 15 a ha, lt-ltb 15 b hb)
+  second-is-bad ha hb = simp (le-ltb greatest a ha, lt-ltb greatest b hb)
 
-  pub none-is-bad : a ≤ 15 → b ≤ 15 → 2 ≡ firstAbove 15 (a ∷ b ∷ [])
+  pub none-is-bad : a ≤ greatest → b ≤ greatest → 2 ≡ firstAbove greatest (a ∷ b ∷ [])
   unfolding firstAbove
-  none-is-bad ha hb = simp (le-ltb 15 a ha, le-ltb 15 b hb)
+  none-is-bad ha hb = simp (le-ltb greatest a ha, le-ltb greatest b hb)
 
   -- an operand is refused
-  pub operand-refused : firstAbove 15 (a ∷ b ∷ []) < 2 → Gives (fieldTable sixteen a b) 5 (firstAbove 15 (a ∷ b ∷ []))
+  pub operand-refused : firstAbove greatest (a ∷ b ∷ []) < 2 → Gives (fieldTable sixteen a b) 5 (firstAbove greatest (a ∷ b ∷ []))
   operand-refused h = stop (lt-ltb _ _ h)
 
-  pub operands-accepted : 2 ≤ firstAbove 15 (a ∷ b ∷ []) → Accepts (fieldTable sixteen a b)
+  pub operands-accepted : 2 ≤ firstAbove greatest (a ∷ b ∷ []) → Accepts (fieldTable sixteen a b)
   operands-accepted h = next (le-ltb _ _ h) end
 
   -- so both are symbols
-  pub operands-symbols : 2 ≤ firstAbove 15 (a ∷ b ∷ []) → (a < 16) × (b < 16)
-  operands-symbols h = let first = none-above 15 (a ∷ b ∷ []) h 0 in let second = none-above 15 (a ∷ b ∷ []) h 1 in (omega arith, omega arith)
+  pub operands-symbols : 2 ≤ firstAbove greatest (a ∷ b ∷ []) → (a < sixteen .symbols) × (b < sixteen .symbols)
+  operands-symbols h = let first = none-above greatest (a ∷ b ∷ []) h 0 in let second = none-above greatest (a ∷ b ∷ []) h 1 in (omega arith, omega arith)
 
 -- the one operand of the inverse: no symbol, or zero
 module _ (o : Outcome) (a : ℕ) where
-  pub symbol-line : orLine o (lineOf (ltb 15 a) (Symbol 0)) ≡ orLine o (symbols sixteen (a ∷ []))
+  pub symbol-line : orLine o (lineOf (ltb greatest a) (Symbol 0)) ≡ orLine o (symbols sixteen (a ∷ []))
   unfolding firstAbove
-  symbol-line = by-test o (ltb 15 a)
+  symbol-line = by-test o (ltb greatest a)
     where
       by-test : (o : Outcome) (b : Bool) → orLine o (lineOf b (Symbol 0)) ≡ orLine o (record { number = 5; given = ltb (cond b 0 1) 1; place = cond b 0 1 })
       by-test (refusedAt number place) b = refl
@@ -60,11 +64,13 @@ module _ (o : Outcome) (a : ℕ) where
       and-true false = refl
 
 -- an operand that passes both
-pub nonzero-symbol : (a : ℕ) → Accepts (inverseTable sixteen a) → (a ≤ 15) × (a ≡ 0 → ⊥)
+pub nonzero-symbol : (a : ℕ) → Accepts (inverseTable sixteen a) → (a < sixteen .symbols) × (a ≡ 0 → ⊥)
 unfolding isZero
-nonzero-symbol a (next s (next z end)) = (above-means 15 (a ∷ []) s 0, λ e. true≢false (sym (ap (λ (b : Bool). b && true) (eq-eqb a 0 e)) ∙ z))
+nonzero-symbol a (next s (next z end)) =
+    let h = above-means greatest (a ∷ []) s 0 in
+    (omega arith, λ e. true≢false (sym (ap (λ (b : Bool). b && true) (eq-eqb a 0 e)) ∙ z))
 
-pub inverse-accepts : (a : ℕ) → a ≤ 15 → (a ≡ 0 → ⊥) → Accepts (inverseTable sixteen a)
+pub inverse-accepts : (a : ℕ) → a ≤ greatest → (a ≡ 0 → ⊥) → Accepts (inverseTable sixteen a)
 unfolding firstAbove isZero
 inverse-accepts a h n =
-    next (ap (λ (b : Bool). ltb (cond b 0 1) 1) (le-ltb 15 a h)) (next (ap (λ (b : Bool). b && true) (ne-eqb a 0 n)) end)
+    next (ap (λ (b : Bool). ltb (cond b 0 1) 1) (le-ltb greatest a h)) (next (ap (λ (b : Bool). b && true) (ne-eqb a 0 n)) end)

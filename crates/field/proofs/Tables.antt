@@ -12,17 +12,17 @@ use Rattle.field.specs.Table.{Products, Inverses}
 
 -- each of the 256 entries is the product of its row and its column
 abbrev pub productsRight : List ℕ → Bool
-productsRight t = everyPair 16 (λ a b. eqb (getD t (a * 16 + b) 0) (sixteen .times a b))
+productsRight t = everyPair (sixteen .symbols) (λ a b. eqb (getD t (a * sixteen .symbols + b) 0) (sixteen .times a b))
 
 pub products-right : (t : List ℕ) → T (productsRight t) → Products t
 unfolding Products
-products-right t right a b ha hb = eqb→eq _ _ (everyPair-at 16 (λ a b. eqb (getD t (a * 16 + b) 0) (sixteen .times a b)) right a b ha hb)
+products-right t right a b ha hb = eqb→eq _ _ (everyPair-at (sixteen .symbols) (λ a b. eqb (getD t (a * sixteen .symbols + b) 0) (sixteen .times a b)) right a b ha hb)
 
 -- each of the 16 entries but the first is the inverse of its place
 abbrev pub inversesRight : List ℕ → Bool
-inversesRight t = every 16 (λ a. eqb a 0 || eqb (getD t a 0) (inverseOf sixteen a))
+inversesRight t = every (sixteen .symbols) (λ a. eqb a 0 || eqb (getD t a 0) (inverseOf sixteen a))
 
 pub inverses-right : (t : List ℕ) → T (inversesRight t) → Inverses t
 unfolding Inverses
 inverses-right t right a h nonzero =
-    eqb→eq _ _ (rw (ne-eqb a 0 nonzero) at (every-at 16 (λ a. eqb a 0 || eqb (getD t a 0) (inverseOf sixteen a)) right a h))
+    eqb→eq _ _ (rw (ne-eqb a 0 nonzero) at (every-at (sixteen .symbols) (λ a. eqb a 0 || eqb (getD t a 0) (inverseOf sixteen a)) right a h))

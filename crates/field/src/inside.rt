@@ -1,11 +1,15 @@
 // The table of all products and the readers of it, for inner use: what they are given is within limits already.
 ghost use mathlib.Core.List.{[], _∷_};
 ghost use mathlib.Core.Path.{_≡_};
-ghost use Prim.Native.Nat.{_<_};
+ghost use Prim.Native.Nat.{_-_, _<_};
 ghost use Rattle.definitions.specs.Field.{sixteen};
 ghost use Rattle.definitions.specs.Refusals.{firstAbove};
 ghost use Rattle.field.specs.Table.{Products, Inverses};
 use refusals::limits::GREATEST_SYMBOL;
+use refusals::limits::SYMBOLS;
+
+// The α of the code, a root of x⁴+x+1.
+pub const ALPHA: u8 = 2;
 
 pub fn wide(x: u8) -> usize
     ensures { λ r. ⌜ (r ≡ x) × (r < 256) ⌝ }
@@ -15,7 +19,7 @@ pub fn wide(x: u8) -> usize
 
 // The place of the first operand that is no symbol, or 2.
 pub fn first_bad(a: u8, b: u8) -> usize
-    ensures { λ r. ⌜ r ≡ firstAbove 15 (a ∷ b ∷ []) ⌝ }
+    ensures { λ r. ⌜ r ≡ firstAbove (sixteen .symbols - 1) (a ∷ b ∷ []) ⌝ }
 {
     if GREATEST_SYMBOL < a {
         return 0;
@@ -294,15 +298,15 @@ pub fn products() -> [u8; 256]
 
 pub fn look(table: &[u8; 256], a: u8, b: u8) -> u8
     requires { ⌜ Products (now table) ⌝ }
-    requires { ⌜ (a < 16) × (b < 16) ⌝ }
+    requires { ⌜ (a < sixteen .symbols) × (b < sixteen .symbols) ⌝ }
     ensures { λ r. ⌜ r ≡ sixteen .times a b ⌝ }
 {
-    table[wide(a) * 16 + wide(b)]
+    table[wide(a) * SYMBOLS + wide(b)]
 }
 
-const INVERSES: [u8; 16] = [0, 1, 9, 14, 13, 11, 7, 6, 15, 2, 12, 5, 10, 4, 3, 8];
+const INVERSES: [u8; SYMBOLS] = [0, 1, 9, 14, 13, 11, 7, 6, 15, 2, 12, 5, 10, 4, 3, 8];
 
-pub fn inverses() -> [u8; 16]
+pub fn inverses() -> [u8; SYMBOLS]
     ensures { λ r. ⌜ Inverses r ⌝ }
 {
     INVERSES

@@ -19,18 +19,20 @@ use Rattle.definitions.proofs.Tools.{below-zero, length-below, map-below, map-b
 use Rattle.definitions.specs.Bound.{count, bound}
 use Rattle.definitions.specs.Code.{Symbols}
 use Rattle.definitions.specs.Field.{sixteen}
+use Rattle.definitions.specs.Limits.{greatestLimit}
 use Rattle.definitions.specs.Polynomial.{Interpolates, Through, isZero, leading}
 use Rattle.definitions.specs.Tools.{below}
+use Rattle.algebra.specs.Grid.{entryOf}
 use Rattle.elimination.proofs.Leading.{isZero-false, zero-after, leading-is}
 use Rattle.elimination.proofs.Symbols.{reduced-solves, reduced-least}
-use Rattle.elimination.specs.Rows.{entryOf, Solves, SameSolutions, Reduced}
+use Rattle.elimination.specs.Rows.{Solves, SameSolutions, Reduced}
 use Rattle.field.proofs.Instance.{sixteen-field}
 use Rattle.interpolation.proofs.Conditions.{length-conditions, condition-of, condition-symbols, system-sets, through-solves, solves-through}
 use Rattle.interpolation.proofs.Width.{width-fits}
 use Rattle.interpolation.specs.Found.{Found}
 use Rattle.dependence.specs.Dependence.{System}
 use Rattle.interpolation.specs.Found.{coefficientOf}
-use Rattle.conditions.specs.Conditions.{positionRows}
+use Rattle.conditions.specs.Conditions.{matrixRows}
 use Rattle.rows.specs.Row.{width}
 use Rattle.weights.specs.Matrix.{matrixOf, matrixCost}
 
@@ -61,13 +63,13 @@ written-more f out now k x h e ex =
     ∙ ap (λ (l : List ℕ). l ++ drop (k + 1) out) (sym (map-below f k) ∙ ap (λ (n : ℕ). map f (below n)) (sym (add-one k))))
 
 -- the rows of a matrix within limits are a system
-pub conditions-system : (v d w : ℕ) (a o : List (List ℕ)) → System o → matrixCost a ≤ 150 → System (sets o 0 (positionRows v d w a 15))
+pub conditions-system : (v d w : ℕ) (a o : List (List ℕ)) → System o → matrixCost a ≤ greatestLimit → System (sets o 0 (matrixRows v d w a))
 conditions-system v d w a o so h =
-    system-sets o 0 (positionRows v d w a 15) so (let e = length-conditions v d w a in omega arith) (λ ρ m. condition-symbols v d w a ρ (condition-of v d w a ρ m))
+    system-sets o 0 (matrixRows v d w a) so (let e = length-conditions v d w a in omega arith) (λ ρ m. condition-symbols v d w a ρ (condition-of v d w a ρ m))
 
-module _ (v D : ℕ) (a o b : List (List ℕ)) (pos : 0 < v) (hv : v < 15) (cheap : matrixCost a ≤ 150) (is-bound : D ≡ bound v (matrixCost a))
-    (so : System o) (sb : System b) (rows j : ℕ) (is-rows : rows ≡ length (positionRows v D (count v D) a 15)) (low : j ≤ rows)
-    (same : SameSolutions sixteen rows width (sets o 0 (positionRows v D (count v D) a 15)) b) (reduced : Reduced rows j b) where
+module _ (v D : ℕ) (a o b : List (List ℕ)) (pos : 0 < v) (hv : v < sixteen .positions) (cheap : matrixCost a ≤ greatestLimit) (is-bound : D ≡ bound v (matrixCost a))
+    (so : System o) (sb : System b) (rows j : ℕ) (is-rows : rows ≡ length (matrixRows v D (count v D) a)) (low : j ≤ rows)
+    (same : SameSolutions sixteen rows width (sets o 0 (matrixRows v D (count v D) a)) b) (reduced : Reduced rows j b) where
   -- the coefficients
   q : List ℕ
   q = map (coefficientOf j b) (below (count v D))
@@ -79,7 +81,7 @@ module _ (v D : ℕ) (a o b : List (List ℕ)) (pos : 0 < v) (hv : v < 15) (chea
 
   -- which fit into a row
   fits : count v D ≤ width
-  fits = subst (λ (d : ℕ). count v d ≤ 160) (sym is-bound) (width-fits v (matrixCost a) pos hv cheap)
+  fits = subst (λ (d : ℕ). count v d ≤ width) (sym is-bound) (width-fits v (matrixCost a) pos hv cheap)
 
   -- there are more monomials than conditions
   more : rows < count v D
@@ -117,10 +119,10 @@ module _ (v D : ℕ) (a o b : List (List ℕ)) (pos : 0 < v) (hv : v < 15) (chea
   symbols : Symbols sixteen q
   symbols k =
       elim (decLt k j) [
-        | yes h ↦ subst (λ (x : ℕ). x < 16) (sym (column k h)) (sb .symbols k j)
+        | yes h ↦ subst (λ (x : ℕ). x < sixteen .symbols) (sym (column k h)) (sb .symbols k j)
         | no n ↦
             elim (ℕ-discrete k j) [
-              | yes e ↦ subst (λ (x : ℕ). getD q x 0 < 16) (sym e) (let f = one in omega arith)
+              | yes e ↦ subst (λ (x : ℕ). getD q x 0 < sixteen .symbols) (sym e) (let f = one in omega arith)
               | no f ↦ let g = ends k (omega arith) in omega arith
             ]
       ]
@@ -137,16 +139,16 @@ module _ (v D : ℕ) (a o b : List (List ℕ)) (pos : 0 < v) (hv : v < 15) (chea
   inside : j < width
   inside = let m = more in let f = fits in omega arith
 
-  module _ (m : List ℕ) (n : ℕ) (small : n ≤ 15) (full : length m ≡ 16 * n) (loaded : a ≡ matrixOf m n) where
+  module _ (m : List ℕ) (n : ℕ) (small : n ≤ sixteen .positions) (full : length m ≡ sixteen .symbols * n) (loaded : a ≡ matrixOf m n) where
     -- there is room for the conditions
-    room : length (positionRows v D (count v D) a 15) ≤ 150
+    room : length (matrixRows v D (count v D) a) ≤ greatestLimit
     room = let e = length-conditions v D (count v D) a in omega arith
 
     -- they pass
     passes : Through sixteen n v D m q
     passes =
         solves-through m n v D small full pos fits a loaded q symbols size o so room
-        (subst (λ (r : ℕ). Solves sixteen r width (sets o 0 (positionRows v D (count v D) a 15)) q) is-rows
+        (subst (λ (r : ℕ). Solves sixteen r width (sets o 0 (matrixRows v D (count v D) a)) q) is-rows
         (same q symbols .1 (reduced-solves sixteen sixteen-field rows width b j (sb .symbols) inside low reduced q symbols column one (λ k l _. ends k l))))
 
     -- what passes and ends earlier is zero
@@ -157,7 +159,7 @@ module _ (v D : ℕ) (a o b : List (List ℕ)) (pos : 0 < v) (hv : v < 15) (chea
           | yes l ↦
               reduced-least sixteen sixteen-field rows width b j (sb .symbols) inside low reduced p sp
               (same p sp .0
-              (subst (λ (r : ℕ). Solves sixteen r width (sets o 0 (positionRows v D (count v D) a 15)) p) (sym is-rows)
+              (subst (λ (r : ℕ). Solves sixteen r width (sets o 0 (matrixRows v D (count v D) a)) p) (sym is-rows)
               (through-solves m n v D small full pos fits a loaded p sp e o so room through)))
               (λ i low _. zero-after p i (omega arith)) k l
           | no l ↦ List·getD-eq-default p 0 {n = k} (let f = fits in omega arith)
@@ -187,30 +189,30 @@ module _ (v D : ℕ) (a o b : List (List ℕ)) (pos : 0 < v) (hv : v < 15) (chea
     written = e ∙ ap (λ (n : ℕ). q ++ drop n before) (sym size);
   }
 
-module _ (v D w : ℕ) (a : List (List ℕ)) (pos : 0 < v) (hv : v < 15) (cheap : matrixCost a ≤ 150) (is-bound : D ≡ bound v (matrixCost a)) (is-count : w ≡ count v D) where
+module _ (v D w : ℕ) (a : List (List ℕ)) (pos : 0 < v) (hv : v < sixteen .positions) (cheap : matrixCost a ≤ greatestLimit) (is-bound : D ≡ bound v (matrixCost a)) (is-count : w ≡ count v D) where
   -- what the functions are called with is within their limits
-  pub degree-small : D < 160
+  pub degree-small : D < width
   degree-small = let b = bound-le v pos (matrixCost a) in omega arith
 
   -- so is the count
-  pub count-small : w ≤ 160
-  count-small = let f = subst (λ (d : ℕ). count v d ≤ 160) (sym is-bound) (width-fits v (matrixCost a) pos hv cheap) in omega arith
+  pub count-small : w ≤ width
+  count-small = let f = subst (λ (d : ℕ). count v d ≤ width) (sym is-bound) (width-fits v (matrixCost a) pos hv cheap) in omega arith
 
   -- and so are the conditions
-  pub rows-small : length (positionRows v D w a 15) ≤ 150
+  pub rows-small : length (matrixRows v D w a) ≤ greatestLimit
   rows-small = let e = length-conditions v D w a in omega arith
 
-  module _ {o start : List (List ℕ)} (so : System o) (is-start : start ≡ sets o 0 (positionRows v D w a 15)) where
+  module _ {o start : List (List ℕ)} (so : System o) (is-start : start ≡ sets o 0 (matrixRows v D w a)) where
     -- the conditions are a system
     pub start-system : System start
     start-system = subst System (sym is-start) (conditions-system v D w a o so cheap)
 
     -- the function's answer
-    pub polynomial-found : (b : List (List ℕ)) → System b → (rows j : ℕ) → rows ≡ length (positionRows v D w a 15) → j ≤ rows
+    pub polynomial-found : (b : List (List ℕ)) → System b → (rows j : ℕ) → rows ≡ length (matrixRows v D w a) → j ≤ rows
         → SameSolutions sixteen rows width start b → Reduced rows j b → (before after : List ℕ)
         → after ≡ map (coefficientOf j b) (below w) ++ drop w before → Found a v D before j after
     polynomial-found b sb rows j is-rows low same reduced before after e =
-        found v D a o b pos hv cheap is-bound so sb rows j (subst (λ (n : ℕ). rows ≡ length (positionRows v D n a 15)) is-count is-rows) low
-        (subst (λ (n : ℕ). SameSolutions sixteen rows width (sets o 0 (positionRows v D n a 15)) b) is-count
+        found v D a o b pos hv cheap is-bound so sb rows j (subst (λ (n : ℕ). rows ≡ length (matrixRows v D n a)) is-count is-rows) low
+        (subst (λ (n : ℕ). SameSolutions sixteen rows width (sets o 0 (matrixRows v D n a)) b) is-count
         (subst (λ (m : List (List ℕ)). SameSolutions sixteen rows width m b) is-start same)) reduced before after
         (subst (λ (n : ℕ). after ≡ map (coefficientOf j b) (below n) ++ drop n before) is-count e)

@@ -23,9 +23,11 @@ use Rattle.definitions.proofs.Tools.{below-zero, below-member, member-below, su
 use Rattle.definitions.specs.Bound.{count}
 use Rattle.definitions.specs.Code.{Symbols, point}
 use Rattle.definitions.specs.Field.{numbers, sixteen, sumOf, double, shifted}
+use Rattle.definitions.specs.Limits.{greatestLimit}
 use Rattle.definitions.specs.Polynomial.{Through, hasse, terms, monomials}
 use Rattle.definitions.specs.Tools.{below, sum}
 use Rattle.definitions.specs.Weights.{entry, entryCost}
+use Rattle.algebra.specs.Grid.{entryOf}
 use Rattle.elimination.specs.Rows.{Solves}
 use Rattle.field.proofs.Instance.{sixteen-field}
 use Rattle.dependence.proofs.Steps.{system-set}
@@ -35,10 +37,10 @@ use Rattle.conditions.proofs.Derivatives.{derivatives-symbols}
 use Rattle.rows.proofs.Filled.{filled-symbols}
 use Rattle.conditions.proofs.Placed.{joined-count}
 use Rattle.conditions.proofs.Walk.{product-entry}
-use Rattle.conditions.specs.Conditions.{walked, derivativesRow, productRow, pointRows, columnRows, positionRows}
+use Rattle.conditions.specs.Conditions.{walked, derivativesRow, productRow, pointRows, columnRows, matrixRows}
 use Rattle.rows.specs.Row.{width}
 use Rattle.weights.proofs.Cost.{matrix-entry}
-use Rattle.weights.specs.Matrix.{matrixOf, cell, columnCost, matrixCost}
+use Rattle.weights.specs.Matrix.{matrixOf, columnCost, matrixCost}
 
 -- ---- how many
 
@@ -81,14 +83,14 @@ module _ (v d w : ℕ) where
   -- of a position
   length-column : (x : ℕ) (column : List ℕ) → length (columnRows v d w x column) ≡ columnCost column
   length-column x column =
-      length-joined (λ b. pointRows v d w x b (getD column b 0)) 16
-      ∙ sum-ext 16 _ (λ b. entryCost (getD column b 0)) (λ b h. length-point x b (getD column b 0))
+      length-joined (λ b. pointRows v d w x b (getD column b 0)) (sixteen .symbols)
+      ∙ sum-ext (sixteen .symbols) _ (λ b. entryCost (getD column b 0)) (λ b h. length-point x b (getD column b 0))
 
   -- there are as many conditions as the matrix costs
-  pub length-conditions : (a : List (List ℕ)) → length (positionRows v d w a 15) ≡ matrixCost a
+  pub length-conditions : (a : List (List ℕ)) → length (matrixRows v d w a) ≡ matrixCost a
   length-conditions a =
-      length-joined (λ i. columnRows v d w (point sixteen i) (getD a i [])) 15
-      ∙ sum-ext 15 _ (λ i. columnCost (getD a i [])) (λ i h. length-column (point sixteen i) (getD a i []))
+      length-joined (λ i. columnRows v d w (point sixteen i) (getD a i [])) (sixteen .positions)
+      ∙ sum-ext (sixteen .positions) _ (λ i. columnCost (getD a i [])) (λ i h. length-column (point sixteen i) (getD a i []))
 
 -- ---- which
 
@@ -104,40 +106,40 @@ pub record Condition (v d w : ℕ) (a : List (List ℕ)) (ρ : List ℕ) : Type 
   pub b : ℕ
   pub s : ℕ
   pub t : ℕ
-  pub position : i < 15
-  pub symbol : b < 16
-  pub order : s + t < cell a i b
+  pub position : i < sixteen .positions
+  pub symbol : b < sixteen .symbols
+  pub order : s + t < entryOf a i b
   pub is-row : productRow v w (derivativesRow (d + 1) (point sixteen i) s) (derivativesRow (d / v + 1) b t) ≡ ρ
 
 module _ (v d w : ℕ) (a : List (List ℕ)) where
   -- every row is one
-  pub condition-of : (ρ : List ℕ) → List·Memᴰ ρ (positionRows v d w a 15) → Condition v d w a ρ
+  pub condition-of : (ρ : List ℕ) → List·Memᴰ ρ (matrixRows v d w a) → Condition v d w a ρ
   condition-of ρ h =
-      let x = member-join (λ i. columnRows v d w (point sixteen i) (getD a i [])) (below 15) ρ h in
-      let y = member-join (λ b. pointRows v d w (point sixteen (x .0)) b (cell a (x .0) b)) (below 16) ρ (x .2) in
-      let z = member-join (orders v d w (point sixteen (x .0)) (y .0) (cell a (x .0) (y .0))) (below (cell a (x .0) (y .0))) ρ (y .2) in
-      let u = Memᴰ·of-map (λ t. productRow v w (derivativesRow (d + 1) (point sixteen (x .0)) (z .0)) (derivativesRow (d / v + 1) (y .0) t)) (below (cell a (x .0) (y .0) - z .0)) (z .2) in
+      let x = member-join (λ i. columnRows v d w (point sixteen i) (getD a i [])) (below (sixteen .positions)) ρ h in
+      let y = member-join (λ b. pointRows v d w (point sixteen (x .0)) b (entryOf a (x .0) b)) (below (sixteen .symbols)) ρ (x .2) in
+      let z = member-join (orders v d w (point sixteen (x .0)) (y .0) (entryOf a (x .0) (y .0))) (below (entryOf a (x .0) (y .0))) ρ (y .2) in
+      let u = Memᴰ·of-map (λ t. productRow v w (derivativesRow (d + 1) (point sixteen (x .0)) (z .0)) (derivativesRow (d / v + 1) (y .0) t)) (below (entryOf a (x .0) (y .0) - z .0)) (z .2) in
       record {
         i = x .0;
         b = y .0;
         s = z .0;
         t = u .0;
-        position = member-below 15 (x .0) (x .1);
-        symbol = member-below 16 (y .0) (y .1);
-        order = (let p = member-below (cell a (x .0) (y .0)) (z .0) (z .1) in let q = member-below (cell a (x .0) (y .0) - z .0) (u .0) (u .1) in omega arith);
+        position = member-below (sixteen .positions) (x .0) (x .1);
+        symbol = member-below (sixteen .symbols) (y .0) (y .1);
+        order = (let p = member-below (entryOf a (x .0) (y .0)) (z .0) (z .1) in let q = member-below (entryOf a (x .0) (y .0) - z .0) (u .0) (u .1) in omega arith);
         is-row = u .2;
       }
 
   -- and every one is a row
-  pub member-of : (ρ : List ℕ) → Condition v d w a ρ → List·Memᴰ ρ (positionRows v d w a 15)
+  pub member-of : (ρ : List ℕ) → Condition v d w a ρ → List·Memᴰ ρ (matrixRows v d w a)
   member-of ρ c =
-      join-member (λ i. columnRows v d w (point sixteen i) (getD a i [])) (below 15) (c .i) ρ (below-member 15 (c .i) (c .position))
-      (join-member (λ b. pointRows v d w (point sixteen (c .i)) b (cell a (c .i) b)) (below 16) (c .b) ρ (below-member 16 (c .b) (c .symbol))
-      (join-member (orders v d w (point sixteen (c .i)) (c .b) (cell a (c .i) (c .b))) (below (cell a (c .i) (c .b))) (c .s) ρ
-      (below-member (cell a (c .i) (c .b)) (c .s) (let o = c .order in omega arith))
-      (subst (λ (x : List ℕ). List·Memᴰ x (orders v d w (point sixteen (c .i)) (c .b) (cell a (c .i) (c .b)) (c .s))) (c .is-row)
+      join-member (λ i. columnRows v d w (point sixteen i) (getD a i [])) (below (sixteen .positions)) (c .i) ρ (below-member (sixteen .positions) (c .i) (c .position))
+      (join-member (λ b. pointRows v d w (point sixteen (c .i)) b (entryOf a (c .i) b)) (below (sixteen .symbols)) (c .b) ρ (below-member (sixteen .symbols) (c .b) (c .symbol))
+      (join-member (orders v d w (point sixteen (c .i)) (c .b) (entryOf a (c .i) (c .b))) (below (entryOf a (c .i) (c .b))) (c .s) ρ
+      (below-member (entryOf a (c .i) (c .b)) (c .s) (let o = c .order in omega arith))
+      (subst (λ (x : List ℕ). List·Memᴰ x (orders v d w (point sixteen (c .i)) (c .b) (entryOf a (c .i) (c .b)) (c .s))) (c .is-row)
       (Memᴰ·map (λ t. productRow v w (derivativesRow (d + 1) (point sixteen (c .i)) (c .s)) (derivativesRow (d / v + 1) (c .b) t))
-      (below-member (cell a (c .i) (c .b) - c .s) (c .t) (let o = c .order in omega arith))))))
+      (below-member (entryOf a (c .i) (c .b) - c .s) (c .t) (let o = c .order in omega arith))))))
 
   -- the row of a condition is a row of symbols
   pub condition-symbols : (ρ : List ℕ) → Condition v d w a ρ → Symbols sixteen ρ
@@ -154,23 +156,23 @@ module _ (v d w : ℕ) (a : List (List ℕ)) where
 zero-rows : (n c : ℕ) → (r : ℕ) → Symbols sixteen (getD (replicate n (replicate c 0)) r [])
 zero-rows n c r k =
     elim (decLt r n) [
-      | yes h ↦ subst (λ (l : List ℕ). getD l k 0 < 16) (sym (getD-replicate n r (replicate c 0) [] h)) (zero-entries c k)
-      | no l ↦ subst (λ (l : List ℕ). getD l k 0 < 16) (sym (List·getD-eq-default (replicate n (replicate c 0)) [] {n = r} (rw (length-replicate n (replicate {A = ℕ} c 0)) (omega arith)))) (omega arith)
+      | yes h ↦ subst (λ (l : List ℕ). getD l k 0 < sixteen .symbols) (sym (getD-replicate n r (replicate c 0) [] h)) (zero-entries c k)
+      | no l ↦ subst (λ (l : List ℕ). getD l k 0 < sixteen .symbols) (sym (List·getD-eq-default (replicate n (replicate c 0)) [] {n = r} (rw (length-replicate n (replicate {A = ℕ} c 0)) (omega arith)))) (omega arith)
     ]
   where
-    zero-entries : (c k : ℕ) → getD (replicate c 0) k 0 < 16
+    zero-entries : (c k : ℕ) → getD (replicate c 0) k 0 < sixteen .symbols
     zero-entries c k =
         elim (decLt k c) [
-          | yes h ↦ subst (λ (x : ℕ). x < 16) (sym (getD-replicate c k 0 0 h)) (omega arith)
-          | no l ↦ subst (λ (x : ℕ). x < 16) (sym (List·getD-eq-default (replicate c 0) 0 {n = k} (rw (length-replicate {A = ℕ} c 0) (omega arith)))) (omega arith)
+          | yes h ↦ subst (λ (x : ℕ). x < sixteen .symbols) (sym (getD-replicate c k 0 0 h)) (omega arith)
+          | no l ↦ subst (λ (x : ℕ). x < sixteen .symbols) (sym (List·getD-eq-default (replicate c 0) 0 {n = k} (rw (length-replicate {A = ℕ} c 0) (omega arith)))) (omega arith)
         ]
 
 -- a system of zeros
-pub empty-system : (n c : ℕ) → n ≡ 150 → System (replicate n (replicate c 0))
+pub empty-system : (n c : ℕ) → n ≡ greatestLimit → System (replicate n (replicate c 0))
 empty-system n c e = record { size = length-replicate n (replicate {A = ℕ} c 0) ∙ e; symbols = zero-rows n c }
 
 -- rows of symbols are put into a system
-pub system-sets : (o : List (List ℕ)) (at : ℕ) (l : List (List ℕ)) → System o → at + length l ≤ 150 → ((ρ : List ℕ) → List·Memᴰ ρ l → Symbols sixteen ρ)
+pub system-sets : (o : List (List ℕ)) (at : ℕ) (l : List (List ℕ)) → System o → at + length l ≤ greatestLimit → ((ρ : List ℕ) → List·Memᴰ ρ l → Symbols sixteen ρ)
     → System (sets o at l)
 system-sets o at [] s h f = s
 system-sets o at (ρ ∷ l) s h f =
@@ -184,13 +186,13 @@ placed-at o l r h k =
 -- ---- what solves passes, and what passes solves
 
 -- computed of sixteen symbols
-vanishes : T (every 16 (λ x. eqb (sixteen .times x 0) 0))
+vanishes : T (every (sixteen .symbols) (λ x. eqb (sixteen .times x 0) 0))
 unfolding every sumOf double shifted
 vanishes = tt
 
 -- a product with zero
-times-zero : (x : ℕ) → x < 16 → sixteen .times x 0 ≡ 0
-times-zero x h = eqb→eq _ _ (every-at 16 (λ x. eqb (sixteen .times x 0) 0) vanishes x h)
+times-zero : (x : ℕ) → x < sixteen .symbols → sixteen .times x 0 ≡ 0
+times-zero x h = eqb→eq _ _ (every-at (sixteen .symbols) (λ x. eqb (sixteen .times x 0) 0) vanishes x h)
 
 -- a sum with zero
 plus-zero : (x : ℕ) → sixteen .plus x 0 ≡ x
@@ -203,7 +205,7 @@ unfolding dot
 dot-suc n ρ q = refl
 
 -- where q has ended the row does not matter
-dot-ended : (n w : ℕ) (ρ q : ℕ → ℕ) → w ≤ n → ((k : ℕ) → ρ k < 16) → ((k : ℕ) → w ≤ k → q k ≡ 0) → dot (numbers sixteen) n ρ q ≡ dot (numbers sixteen) w ρ q
+dot-ended : (n w : ℕ) (ρ q : ℕ → ℕ) → w ≤ n → ((k : ℕ) → ρ k < sixteen .symbols) → ((k : ℕ) → w ≤ k → q k ≡ 0) → dot (numbers sixteen) n ρ q ≡ dot (numbers sixteen) w ρ q
 dot-ended zero w ρ q h sr e = let z : w ≡ 0 = omega arith in ap (λ (n : ℕ). dot (numbers sixteen) n ρ q) (sym z)
 dot-ended (suc n) w ρ q h sr e =
     elim (ℕ-discrete w (suc n)) [
@@ -214,7 +216,7 @@ dot-ended (suc n) w ρ q h sr e =
           ∙ plus-zero (dot (numbers sixteen) n ρ q) ∙ dot-ended n w ρ q (omega arith) sr e
     ]
 
-module _ (m : List ℕ) (n v D : ℕ) (small : n ≤ 15) (size : length m ≡ 16 * n) (pos : 0 < v) (fits : count v D ≤ width) (a : List (List ℕ)) (loaded : a ≡ matrixOf m n)
+module _ (m : List ℕ) (n v D : ℕ) (small : n ≤ sixteen .positions) (size : length m ≡ sixteen .symbols * n) (pos : 0 < v) (fits : count v D ≤ width) (a : List (List ℕ)) (loaded : a ≡ matrixOf m n)
     (q : List ℕ) (sq : Symbols sixteen q) (ended : length q ≡ count v D) where
   -- the row of a condition times q is the derivative
   row-is-hasse : (ρ : List ℕ) (c : Condition v D (count v D) a ρ)
@@ -228,42 +230,42 @@ module _ (m : List ℕ) (n v D : ℕ) (small : n ≤ 15) (size : length m ≡ 16
       ∙ sym (hasse-is-dot-of-numbers sixteen sixteen-field (monomials v D) q (c .s) (c .t) (point sixteen (c .i)) (c .b) sq (point-symbol sixteen sixteen-field (c .i)) (c .symbol))
 
   -- the entry of a condition is that of the bytes
-  cell-is : (i b : ℕ) → i < 15 → b < 16 → cell a i b ≡ entry sixteen m i b
-  cell-is i b hi hb = ap (λ (x : List (List ℕ)). cell x i b) loaded ∙ matrix-entry m n small size i b hi hb
+  entry-is : (i b : ℕ) → i < sixteen .positions → b < sixteen .symbols → entryOf a i b ≡ entry sixteen m i b
+  entry-is i b hi hb = ap (λ (x : List (List ℕ)). entryOf x i b) loaded ∙ matrix-entry m n small size i b hi hb
 
   -- a position with a multiplicity is one of the n
-  used : (i b : ℕ) → b < 16 → 0 < entry sixteen m i b → i < n
+  used : (i b : ℕ) → b < sixteen .symbols → 0 < entry sixteen m i b → i < n
   used i b hb h =
       elim (decLt i n) [
         | yes l ↦ l
-        | no l ↦ let z = List·getD-eq-default m 0 {n = 16 * i + b} (omega arith) in let y : ⊥ = omega arith in absurd y
+        | no l ↦ let z = List·getD-eq-default m 0 {n = sixteen .symbols * i + b} (omega arith) in let y : ⊥ = omega arith in absurd y
       ]
 
-  module _ (o : List (List ℕ)) (so : System o) (room : length (positionRows v D (count v D) a 15) ≤ 150) where
+  module _ (o : List (List ℕ)) (so : System o) (room : length (matrixRows v D (count v D) a) ≤ greatestLimit) where
     -- row r of the system is condition r
-    stands : (r : ℕ) → r < length (positionRows v D (count v D) a 15)
-        → getD (sets o 0 (positionRows v D (count v D) a 15)) r [] ≡ getD (positionRows v D (count v D) a 15) r []
-    stands r h = placed-at o (positionRows v D (count v D) a 15) r (let e = so .size in omega arith) h
+    stands : (r : ℕ) → r < length (matrixRows v D (count v D) a)
+        → getD (sets o 0 (matrixRows v D (count v D) a)) r [] ≡ getD (matrixRows v D (count v D) a) r []
+    stands r h = placed-at o (matrixRows v D (count v D) a) r (let e = so .size in omega arith) h
 
     -- what passes solves
     pub through-solves : Through sixteen n v D m q
-        → Solves sixteen (length (positionRows v D (count v D) a 15)) width (sets o 0 (positionRows v D (count v D) a 15)) q
+        → Solves sixteen (length (matrixRows v D (count v D) a)) width (sets o 0 (matrixRows v D (count v D) a)) q
     through-solves passes r h =
-        let ρ = getD (positionRows v D (count v D) a 15) r [] in
-        let c = condition-of v D (count v D) a ρ (member-at (positionRows v D (count v D) a 15) r [] h) in
-        let e = cell-is (c .i) (c .b) (c .position) (c .symbol) in
+        let ρ = getD (matrixRows v D (count v D) a) r [] in
+        let c = condition-of v D (count v D) a ρ (member-at (matrixRows v D (count v D) a) r [] h) in
+        let e = entry-is (c .i) (c .b) (c .position) (c .symbol) in
         let below : c .s + c .t < entry sixteen m (c .i) (c .b) = (let f = c .order in omega arith) in
         ap (λ (x : List ℕ). dot (numbers sixteen) width (λ k. getD x k 0) (λ k. getD q k 0)) (stands r h) ∙ row-is-hasse ρ c
         ∙ passes (c .i) (c .b) (used (c .i) (c .b) (c .symbol) (omega arith)) (c .symbol) (c .s) (c .t) below
 
     -- what solves passes
-    pub solves-through : Solves sixteen (length (positionRows v D (count v D) a 15)) width (sets o 0 (positionRows v D (count v D) a 15)) q
+    pub solves-through : Solves sixteen (length (matrixRows v D (count v D) a)) width (sets o 0 (matrixRows v D (count v D) a)) q
         → Through sixteen n v D m q
     solves-through solves i b hi hb s t h =
         let ρ = productRow v (count v D) (derivativesRow (D + 1) (point sixteen i) s) (derivativesRow (D / v + 1) b t) in
-        let e = cell-is i b (omega arith) hb in
+        let e = entry-is i b (omega arith) hb in
         let c : Condition v D (count v D) a ρ = record { i = i; b = b; s = s; t = t; position = omega arith; symbol = hb; order = omega arith; is-row = refl } in
-        let p = place-of (positionRows v D (count v D) a 15) ρ [] (member-of v D (count v D) a ρ c) in
+        let p = place-of (matrixRows v D (count v D) a) ρ [] (member-of v D (count v D) a ρ c) in
         sym (row-is-hasse ρ c)
         ∙ ap (λ (x : List ℕ). dot (numbers sixteen) width (λ k. getD x k 0) (λ k. getD q k 0)) (sym (stands (p .0) (p .1) ∙ p .2))
         ∙ solves (p .0) (p .1)

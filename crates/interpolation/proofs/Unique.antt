@@ -94,7 +94,7 @@ module _ (m : List ℕ) (none : (j : ℕ) → getD m j 0 ≡ 0) where
   one-interpolates n v pos = record {
     size = sym (count-zero v pos);
     symbols = one-symbols;
-    through = λ i b hi hb s t h. let z = none (16 * i + b) in let y : ⊥ = omega arith in absurd y;
+    through = λ i b hi hb s t h. let z = none (sixteen .symbols * i + b) in let y : ⊥ = omega arith in absurd y;
     nonzero = isZero-false (1 ∷ []) 0 not-zero;
     leads = ap (λ (k : ℕ). getD (1 ∷ []) k 0) leads-first;
     least = λ p e sp through nz. let f = leads-first in omega arith;

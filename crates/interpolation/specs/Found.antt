@@ -9,7 +9,7 @@ use lib.ListN.{length, drop}
 use Rattle.definitions.specs.Bound.{count}
 use Rattle.definitions.specs.Field.{sixteen}
 use Rattle.definitions.specs.Polynomial.{Interpolates, leading}
-use Rattle.elimination.specs.Rows.{entryOf}
+use Rattle.algebra.specs.Grid.{entryOf}
 use Rattle.weights.specs.Matrix.{matrixOf}
 
 -- the coefficient that the reduced rows show: column j, then 1, then 0
@@ -19,7 +19,7 @@ coefficientOf j m k = cond (ltb k j) (entryOf m k j) (cond (eqb k j) 1 0)
 pub record Found (a : List (List ℕ)) (v D : ℕ) (before : List ℕ) (place : ℕ) (after : List ℕ) : Type 0 where
   pub coefficients : List ℕ
   -- they interpolate the bytes that the matrix was loaded from
-  pub interpolates : (m : List ℕ) (n : ℕ) → n ≤ 15 → length m ≡ 16 * n → a ≡ matrixOf m n → Interpolates sixteen n v D m coefficients
+  pub interpolates : (m : List ℕ) (n : ℕ) → n ≤ sixteen .positions → length m ≡ sixteen .symbols * n → a ≡ matrixOf m n → Interpolates sixteen n v D m coefficients
   pub size : length coefficients ≡ count v D
   pub leads : place ≡ leading coefficients
   pub written : after ≡ coefficients ++ drop (length coefficients) before

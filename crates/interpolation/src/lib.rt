@@ -5,11 +5,12 @@ ghost use Rattle.interpolation.specs.Interpolated.{toldInterpolated};
 
 pub mod inside;
 
+use refusals::Checked;
 use refusals::Refusal;
-
-pub const GREATEST_LIMIT: usize = 150;
-
-pub const COEFFICIENT_ROOM: usize = 167;
+use refusals::limits::COEFFICIENT_ROOM;
+use refusals::limits::GREATEST_ENTRY;
+use refusals::limits::GREATEST_LIMIT;
+use refusals::limits::SYMBOLS;
 
 pub enum Interpolated {
     Of { bound: usize, count: usize },
@@ -19,29 +20,22 @@ pub enum Interpolated {
 pub fn interpolate(n: usize, k: usize, limit: usize, matrix: &[u8], out: &mut [u8]) -> Interpolated
     ensures { λ r. ⌜ InterpolationAnswers sixteen n k limit (now (matrix .entry)) (now (out .entry)) (toldInterpolated r) (now (out .exit)) ⌝ }
 {
-    if !code::inside::sizes_fit(n, k) {
-        return Interpolated::Refused(Refusal::Sizes);
-    }
-    if GREATEST_LIMIT < limit {
-        return Interpolated::Refused(Refusal::Setting);
-    }
-    if matrix.len() != weights::inside::SYMBOLS * n {
-        return Interpolated::Refused(Refusal::Length);
-    }
-    if out.len() < COEFFICIENT_ROOM {
-        return Interpolated::Refused(Refusal::Room);
-    }
-    let bad = code::inside::first_above(weights::GREATEST_ENTRY, matrix);
-    if bad < matrix.len() {
-        return Interpolated::Refused(Refusal::Symbol(bad));
+    let checked = Checked::sizes(n, k)
+        .or(GREATEST_LIMIT < limit, Refusal::Setting)
+        .length(matrix.len(), SYMBOLS, n)
+        .or(out.len() < COEFFICIENT_ROOM, Refusal::Room)
+        .symbols(GREATEST_ENTRY, matrix);
+    if let Checked::Refused(r) = checked {
+        return Interpolated::Refused(r);
     }
     let columns = weights::inside::load(matrix, n);
     let cost = weights::inside::cost(&columns);
     if limit < cost {
         return Interpolated::Refused(Refusal::Cost);
     }
-    let bound = weights::inside::bound(k - 1, cost);
-    let count = weights::inside::count(k - 1, bound);
-    inside::polynomial(&columns, k - 1, bound, count, out);
+    let v = k - 1;
+    let bound = weights::inside::bound(v, cost);
+    let count = weights::inside::count(v, bound);
+    inside::polynomial(&columns, v, bound, count, out);
     Interpolated::Of { bound, count }
 }

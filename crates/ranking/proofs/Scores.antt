@@ -11,14 +11,15 @@ use Rattle.definitions.proofs.Tools.{sum-ext}
 use Rattle.definitions.specs.Code.{Symbols, point, codeword}
 use Rattle.definitions.specs.Field.{numbers, value, sixteen}
 use Rattle.definitions.specs.Weights.{entry, score}
+use Rattle.algebra.specs.Grid.{entryOf}
 use Rattle.field.proofs.Instance.{sixteen-field}
 use Rattle.ranking.specs.Rows.{matrixScore}
 use Rattle.weights.proofs.Cost.{matrix-entry}
-use Rattle.weights.specs.Matrix.{matrixOf, cell}
+use Rattle.weights.specs.Matrix.{matrixOf}
 
 pub matrix-score : (m : List ℕ) (n : ℕ) → n ≤ sixteen .positions → length m ≡ sixteen .symbols * n → (f : List ℕ) → Symbols sixteen f → matrixScore (matrixOf m n) n f ≡ score sixteen n m f
 matrix-score m n small size f s =
-    sum-ext n (λ (i : ℕ). cell (matrixOf m n) i (value (numbers sixteen) (point sixteen i) f)) (λ (i : ℕ). entry sixteen m i (getD (codeword sixteen n f) i 0))
+    sum-ext n (λ (i : ℕ). entryOf (matrixOf m n) i (value (numbers sixteen) (point sixteen i) f)) (λ (i : ℕ). entry sixteen m i (getD (codeword sixteen n f) i 0))
     (λ i h.
     matrix-entry m n small size i (value (numbers sixteen) (point sixteen i) f) (omega arith) (value-symbol sixteen sixteen-field (point sixteen i) f (point-symbol sixteen sixteen-field i) s)
     ∙ ap (entry sixteen m i) (sym (codeword-at sixteen f n i h)))

@@ -74,7 +74,7 @@ module _ (f : ℕ → ℕ) where
       ∙ ap (λ (j : ℕ). getD (replicate width 0) j 0) g ∙ zeros k
 
   -- of symbols it is a row of symbols
-  pub filled-symbols : (n : ℕ) → ((k : ℕ) → k < n → f k < 16) → Symbols sixteen (filled n f)
+  pub filled-symbols : (n : ℕ) → ((k : ℕ) → k < n → f k < sixteen .symbols) → Symbols sixteen (filled n f)
   filled-symbols n s k =
       elim (decLt k n) [
         | yes h ↦ rw (filled-at n k h) (s k h)
@@ -104,7 +104,7 @@ summed-symbols a b sa sb =
     filled-symbols (λ k. sixteen .plus (getD a k 0) (getD b k 0)) width (λ k _. plus-symbol sixteen sixteen-field (getD a k 0) (getD b k 0) (sa k) (sb k))
 
 -- and so is a multiple
-pub multiple-symbols : (c : ℕ) (p : List ℕ) → c < 16 → Symbols sixteen p → Symbols sixteen (multipleRow c p)
+pub multiple-symbols : (c : ℕ) (p : List ℕ) → c < sixteen .symbols → Symbols sixteen p → Symbols sixteen (multipleRow c p)
 multiple-symbols c p h sp =
     filled-symbols (λ k. sixteen .times c (getD p k 0)) width (λ k _. times-symbol sixteen sixteen-field c (getD p k 0) h (sp k))
 
@@ -117,55 +117,55 @@ multipliesBy c x =
     (eqb (sixteen .times 2 (sixteen .times (c / 2) x)) (sixteen .times c x))
 
 -- computed of sixteen symbols
-multiplies : T (everyPair 16 multipliesBy)
+multiplies : T (everyPair (sixteen .symbols) multipliesBy)
 unfolding multipliesBy every sumOf double shifted
 multiplies = tt
 
 -- computed of sixteen symbols
-doubled : T (every 16 (λ x. eqb (double 4 19 x) (sixteen .times 2 x)))
+doubled : T (every (sixteen .symbols) (λ x. eqb (double 4 19 x) (sixteen .times 2 x)))
 unfolding every sumOf double shifted
 doubled = tt
 
 -- computed of sixteen symbols
-vanishes : T (every 16 (λ x. eqb (sixteen .times 0 x) 0))
+vanishes : T (every (sixteen .symbols) (λ x. eqb (sixteen .times 0 x) 0))
 unfolding every sumOf double shifted
 vanishes = tt
 
 -- twice a symbol, by shift and sum, is the table's product by 2
-pub double-is-product : (x : ℕ) → x < 16 → double 4 19 x ≡ sixteen .times 2 x
-double-is-product x h = eqb→eq _ _ (every-at 16 (λ x. eqb (double 4 19 x) (sixteen .times 2 x)) doubled x h)
+pub double-is-product : (x : ℕ) → x < sixteen .symbols → double 4 19 x ≡ sixteen .times 2 x
+double-is-product x h = eqb→eq _ _ (every-at (sixteen .symbols) (λ x. eqb (double 4 19 x) (sixteen .times 2 x)) doubled x h)
 
 -- below 8 nothing leaves
 pub twice-low : (x : ℕ) → x < 8 → x * 2 ≡ sixteen .times 2 x
 unfolding double
 twice-low x h =
-    sym (ap (λ (b : Bool). cond b (x * 2) (sumOf (x * 2) 19)) (lt-ltb (x * 2) 16 (omega arith))) ∙ double-is-product x (omega arith)
+    sym (ap (λ (b : Bool). cond b (x * 2) (sumOf (x * 2) 19)) (lt-ltb (x * 2) (sixteen .symbols) (omega arith))) ∙ double-is-product x (omega arith)
 
 -- from 8 on the highest bit does
-pub twice-high : (x : ℕ) → 8 ≤ x → x < 16 → bitXor (x * 2) 19 ≡ sixteen .times 2 x
+pub twice-high : (x : ℕ) → 8 ≤ x → x < sixteen .symbols → bitXor (x * 2) 19 ≡ sixteen .times 2 x
 unfolding double sumOf
 twice-high x h l =
-    sym (ap (λ (b : Bool). cond b (x * 2) (bitXor (x * 2) 19)) (le-ltb (x * 2) 16 (omega arith))) ∙ double-is-product x l
+    sym (ap (λ (b : Bool). cond b (x * 2) (bitXor (x * 2) 19)) (le-ltb (x * 2) (sixteen .symbols) (omega arith))) ∙ double-is-product x l
 
 -- an odd multiple of a symbol
-odd-multiple : (c x : ℕ) → c < 16 → x < 16 → c % 2 ≡ 1 → sixteen .plus (sixteen .times (c - 1) x) x ≡ sixteen .times c x
+odd-multiple : (c x : ℕ) → c < sixteen .symbols → x < sixteen .symbols → c % 2 ≡ 1 → sixteen .plus (sixteen .times (c - 1) x) x ≡ sixteen .times c x
 unfolding multipliesBy
-odd-multiple c x hc hx e = eqb→eq _ _ (rw (eq-eqb (c % 2) 1 e) at (everyPair-at 16 multipliesBy multiplies c x hc hx))
+odd-multiple c x hc hx e = eqb→eq _ _ (rw (eq-eqb (c % 2) 1 e) at (everyPair-at (sixteen .symbols) multipliesBy multiplies c x hc hx))
 
 -- an even one
-even-multiple : (c x : ℕ) → c < 16 → x < 16 → (c % 2 ≡ 1 → ⊥) → sixteen .times 2 (sixteen .times (c / 2) x) ≡ sixteen .times c x
+even-multiple : (c x : ℕ) → c < sixteen .symbols → x < sixteen .symbols → (c % 2 ≡ 1 → ⊥) → sixteen .times 2 (sixteen .times (c / 2) x) ≡ sixteen .times c x
 unfolding multipliesBy
-even-multiple c x hc hx n = eqb→eq _ _ (rw (ne-eqb (c % 2) 1 n) at (everyPair-at 16 multipliesBy multiplies c x hc hx))
+even-multiple c x hc hx n = eqb→eq _ _ (rw (ne-eqb (c % 2) 1 n) at (everyPair-at (sixteen .symbols) multipliesBy multiplies c x hc hx))
 
 module _ (p : List ℕ) (sp : Symbols sixteen p) where
   -- the multiple c of a row, where c is odd
-  pub odd-row : (c : ℕ) → c < 16 → c % 2 ≡ 1 → summedRow (multipleRow (c - 1) p) p ≡ multipleRow c p
+  pub odd-row : (c : ℕ) → c < sixteen .symbols → c % 2 ≡ 1 → summedRow (multipleRow (c - 1) p) p ≡ multipleRow c p
   odd-row c h e =
       filled-equal width (λ k. sixteen .plus (getD (multipleRow (c - 1) p) k 0) (getD p k 0)) (λ k. sixteen .times c (getD p k 0)) (omega arith)
       (λ k l. ap (λ (x : ℕ). sixteen .plus x (getD p k 0)) (filled-at (λ k. sixteen .times (c - 1) (getD p k 0)) width k l) ∙ odd-multiple c (getD p k 0) h (sp k) e)
 
   -- and where it is even
-  pub even-row : (c : ℕ) → c < 16 → (c % 2 ≡ 1 → ⊥) → multipleRow 2 (multipleRow (c / 2) p) ≡ multipleRow c p
+  pub even-row : (c : ℕ) → c < sixteen .symbols → (c % 2 ≡ 1 → ⊥) → multipleRow 2 (multipleRow (c / 2) p) ≡ multipleRow c p
   even-row c h n =
       filled-equal width (λ k. sixteen .times 2 (getD (multipleRow (c / 2) p) k 0)) (λ k. sixteen .times c (getD p k 0)) (omega arith)
       (λ k l. ap (sixteen .times 2) (filled-at (λ k. sixteen .times (c / 2) (getD p k 0)) width k l) ∙ even-multiple c (getD p k 0) h (sp k) n)
@@ -183,8 +183,8 @@ module _ (p : List ℕ) (sp : Symbols sixteen p) where
       zeroth : ℕ → ℕ
       zeroth k = sixteen .times 0 (getD p k 0)
 
-      times-nothing : (x : ℕ) → x < 16 → sixteen .times 0 x ≡ 0
-      times-nothing x h = eqb→eq _ _ (every-at 16 (λ x. eqb (sixteen .times 0 x) 0) vanishes x h)
+      times-nothing : (x : ℕ) → x < sixteen .symbols → sixteen .times 0 x ≡ 0
+      times-nothing x h = eqb→eq _ _ (every-at (sixteen .symbols) (λ x. eqb (sixteen .times 0 x) 0) vanishes x h)
 
   module _ (n : ℕ) where
     -- there are n
@@ -196,25 +196,25 @@ module _ (p : List ℕ) (sp : Symbols sixteen p) where
     unfolding multiplesTo
     multiple-at c h =
         let e = length-multiples in
-        List·getD-append (map (λ (c : ℕ). multipleRow c p) (below n)) (drop n (replicate 16 (replicate width 0))) [] c (omega arith)
+        List·getD-append (map (λ (c : ℕ). multipleRow c p) (below n)) (drop n (replicate (sixteen .symbols) (replicate width 0))) [] c (omega arith)
         ∙ map-below-at (λ (c : ℕ). multipleRow c p) n c [] h
 
     -- one multiple more
-    pub multiples-more : (now : List (List ℕ)) (row : List ℕ) → n < 16 → now ≡ multiplesTo n p → row ≡ multipleRow n p → set now n row ≡ multiplesTo (n + 1) p
+    pub multiples-more : (now : List (List ℕ)) (row : List ℕ) → n < sixteen .symbols → now ≡ multiplesTo n p → row ≡ multipleRow n p → set now n row ≡ multiplesTo (n + 1) p
     unfolding multiplesTo
     multiples-more now row h e er =
         rw (e, er)
-        (put-more [] (map (λ (c : ℕ). multipleRow c p) (below n)) (replicate 16 (replicate width 0)) n (multipleRow n p) length-multiples h
-        ∙ ap (λ (l : List (List ℕ)). l ++ drop (n + 1) (replicate 16 (replicate width 0)))
+        (put-more [] (map (λ (c : ℕ). multipleRow c p) (below n)) (replicate (sixteen .symbols) (replicate width 0)) n (multipleRow n p) length-multiples h
+        ∙ ap (λ (l : List (List ℕ)). l ++ drop (n + 1) (replicate (sixteen .symbols) (replicate width 0)))
         (sym (map-below (λ (c : ℕ). multipleRow c p) n) ∙ ap (λ (n : ℕ). map (λ (c : ℕ). multipleRow c p) (below n)) (sym (add-one n))))
 
   -- of an empty table the multiple 0 is there
-  pub multiples-first : replicate 16 (replicate width 0) ≡ multiplesTo 1 p
+  pub multiples-first : replicate (sixteen .symbols) (replicate width 0) ≡ multiplesTo 1 p
   unfolding multiplesTo
-  multiples-first = one-more (λ (c : ℕ). multipleRow c p) (replicate width 0) (replicate 15 (replicate width 0)) zero-row
+  multiples-first = one-more (λ (c : ℕ). multipleRow c p) (replicate width 0) (replicate (sixteen .symbols - 1) (replicate width 0)) zero-row
 
   -- the next multiple, where c is odd
-  pub odd-next : (below : List (List ℕ)) (c : ℕ) (result : List ℕ) → 0 < c → c < 16 → below ≡ multiplesTo c p → c % 2 ≡ 1
+  pub odd-next : (below : List (List ℕ)) (c : ℕ) (result : List ℕ) → 0 < c → c < sixteen .symbols → below ≡ multiplesTo c p → c % 2 ≡ 1
       → result ≡ summedRow (getD below (c - 1) []) p → result ≡ multipleRow c p
   odd-next below c result pos h e odd er =
       er ∙ ap (λ (l : List ℕ). summedRow l p) (ap (λ (k : List (List ℕ)). getD k (c - 1) []) e ∙ multiple-at c (c - 1) (omega arith)) ∙ odd-row c h odd
@@ -224,10 +224,10 @@ module _ (p : List ℕ) (sp : Symbols sixteen p) where
   half below c pos e = ap (λ (k : List (List ℕ)). getD k (c / 2) []) e ∙ multiple-at c (c / 2) (omega arith)
 
   -- its half is a row of symbols
-  pub half-symbols : (below : List (List ℕ)) (c : ℕ) → 0 < c → c < 16 → below ≡ multiplesTo c p → Symbols sixteen (getD below (c / 2) [])
+  pub half-symbols : (below : List (List ℕ)) (c : ℕ) → 0 < c → c < sixteen .symbols → below ≡ multiplesTo c p → Symbols sixteen (getD below (c / 2) [])
   half-symbols below c pos h e = subst (Symbols sixteen) (sym (half below c pos e)) (multiple-symbols (c / 2) p (omega arith) sp)
 
   -- the next multiple, where c is even
-  pub even-next : (below : List (List ℕ)) (c : ℕ) (result : List ℕ) → 0 < c → c < 16 → below ≡ multiplesTo c p → (c % 2 ≡ 1 → ⊥)
+  pub even-next : (below : List (List ℕ)) (c : ℕ) (result : List ℕ) → 0 < c → c < sixteen .symbols → below ≡ multiplesTo c p → (c % 2 ≡ 1 → ⊥)
       → result ≡ multipleRow 2 (getD below (c / 2) []) → result ≡ multipleRow c p
   even-next below c result pos h e even er = er ∙ ap (multipleRow 2) (half below c pos e) ∙ even-row c h even

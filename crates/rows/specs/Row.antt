@@ -22,4 +22,4 @@ multipleRow c p = filled width (λ (k : ℕ). sixteen .times c (getD p k 0))
 
 -- the first n multiples of a row; zeros after them
 unfoldable pub multiplesTo : ℕ → List ℕ → List (List ℕ)
-multiplesTo n p = map (λ (c : ℕ). multipleRow c p) (below n) ++ drop n (replicate 16 (replicate width 0))
+multiplesTo n p = map (λ (c : ℕ). multipleRow c p) (below n) ++ drop n (replicate (sixteen .symbols) (replicate width 0))

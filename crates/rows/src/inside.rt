@@ -5,8 +5,8 @@ ghost use Rattle.definitions.specs.Code.{Symbols};
 ghost use Rattle.definitions.specs.Field.{sixteen};
 ghost use Rattle.field.specs.Table.{Products};
 ghost use Rattle.rows.specs.Row.{summedRow, multipleRow, multiplesTo};
-use crate::SYMBOLS;
 use crate::WIDTH;
+use refusals::limits::SYMBOLS;
 
 pub fn summed(a: &[u8; WIDTH], b: &[u8; WIDTH]) -> [u8; WIDTH]
     ensures { λ r. ⌜ r ≡ summedRow (now (a .entry)) (now (b .entry)) ⌝ }
@@ -24,7 +24,7 @@ pub fn summed(a: &[u8; WIDTH], b: &[u8; WIDTH]) -> [u8; WIDTH]
 pub fn scaled(table: &[u8; 256], row: &[u8; WIDTH], u: u8) -> [u8; WIDTH]
     requires { ⌜ Products (now table) ⌝ }
     requires { ⌜ Symbols sixteen (now row) ⌝ }
-    requires { ⌜ u < 16 ⌝ }
+    requires { ⌜ u < sixteen .symbols ⌝ }
     ensures { λ r. ⌜ r ≡ multipleRow u (now (row .entry)) ⌝ }
 {
     let mut times = [0u8; WIDTH];
@@ -38,7 +38,7 @@ pub fn scaled(table: &[u8; 256], row: &[u8; WIDTH], u: u8) -> [u8; WIDTH]
 
 // Alpha times a symbol: each bit one place up, and a bit that leaves is replaced by the modulus.
 fn twice(x: u8) -> u8
-    requires { ⌜ x < 16 ⌝ }
+    requires { ⌜ x < sixteen .symbols ⌝ }
     ensures { λ r. ⌜ r ≡ sixteen .times 2 x ⌝ }
 {
     if x < 8 {
@@ -63,7 +63,7 @@ fn doubled(row: &[u8; WIDTH]) -> [u8; WIDTH]
 // The multiple c of a row, from those below it: one row more, or twice the half.
 fn next_multiple(below: &[[u8; WIDTH]; SYMBOLS], row: &[u8; WIDTH], c: usize) -> [u8; WIDTH]
     requires { ⌜ Symbols sixteen (now row) ⌝ }
-    requires { ⌜ (0 < c) × (c < 16) ⌝ }
+    requires { ⌜ (0 < c) × (c < sixteen .symbols) ⌝ }
     requires { ⌜ now below ≡ multiplesTo c (now row) ⌝ }
     ensures { λ r. ⌜ r ≡ multipleRow c (now (row .entry)) ⌝ }
 {
@@ -76,7 +76,7 @@ fn next_multiple(below: &[[u8; WIDTH]; SYMBOLS], row: &[u8; WIDTH], c: usize) ->
 // Row c is c times the row.
 pub fn multiples(row: &[u8; WIDTH]) -> [[u8; WIDTH]; SYMBOLS]
     requires { ⌜ Symbols sixteen (now row) ⌝ }
-    ensures { λ r. ⌜ r ≡ multiplesTo 16 (now (row .entry)) ⌝ }
+    ensures { λ r. ⌜ r ≡ multiplesTo (sixteen .symbols) (now (row .entry)) ⌝ }
 {
     let mut times = [[0u8; WIDTH]; SYMBOLS];
     let mut c = 1;

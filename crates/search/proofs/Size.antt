@@ -8,6 +8,7 @@ use native.Mathlib.Numerals.{add-one}
 use native.Mathlib.Omega.{arith}
 use Rattle.definitions.proofs.Tools.{sum-zero, sum-suc}
 use Rattle.definitions.specs.Bound.{count}
+use Rattle.definitions.specs.Limits.{greatestCount}
 use Rattle.definitions.specs.Tools.{sum}
 
 module _ (v : ℕ) where
@@ -40,8 +41,8 @@ module _ (v : ℕ) where
       let t : (m + 1) * (v * m) ≤ (m + 1) * (D + 1) = mul-le-mul-left (m + 1) (omega arith) in
       omega arith
 
--- an array of at most 512 places has columns of at most 22
-pub column-height : (v D : ℕ) → 1 ≤ v → (D + 1) * (D / v + 1) ≤ 512 → D / v < 22
+-- an array of at most twice the greatest count has columns of at most 22
+pub column-height : (v D : ℕ) → 1 ≤ v → (D + 1) * (D / v + 1) ≤ 2 * greatestCount → D / v < 22
 column-height v D pos h =
     elim (decLt (D / v) 22) [
       | yes l ↦ l

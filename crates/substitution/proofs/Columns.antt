@@ -42,7 +42,7 @@ first-value-more p h g b y x pos l k ey ex =
     ap (λ (z : ℕ). bitXor z x) (sym (getD-take h p (b - 1) 0 (omega arith))) ∙ value-more g (take h p) b y x pos (omega arith) ey ex
 
 -- what it has come to is a symbol
-pub first-value-symbol : (p : List ℕ) (h g b y : ℕ) → g < 16 → Symbols sixteen p → y ≡ value (numbers sixteen) g (drop b (take h p)) → y < 16
+pub first-value-symbol : (p : List ℕ) (h g b y : ℕ) → g < sixteen .symbols → Symbols sixteen p → y ≡ value (numbers sixteen) g (drop b (take h p)) → y < sixteen .symbols
 first-value-symbol p h g b y hg s e = value-so-far g (take h p) b y hg (take-symbols sixteen sixteen-field h p s) e
 
 -- ---- entries copied to the front of zeros
@@ -101,7 +101,7 @@ passed-more c b h t whole x l k e ex =
     ∙ ap₂ (λ (j : ℕ) (q : List ℕ). passed c j q) (sym f) (sym (take-set-lt h t b (bitXor x (getD t b 0)) (omega arith)))
 
 -- what a pass writes is a symbol
-pub pass-symbol : (c x y z : ℕ) → x ≡ sixteen .times c y → c < 16 → y < 16 → z < 16 → bitXor x z < 16
+pub pass-symbol : (c x y z : ℕ) → x ≡ sixteen .times c y → c < sixteen .symbols → y < sixteen .symbols → z < sixteen .symbols → bitXor x z < sixteen .symbols
 unfolding sumOf
 pass-symbol c x y z e hc hy hz = plus-symbol sixteen sixteen-field x z (rw e (times-symbol sixteen sixteen-field c y hc hy)) hz
 

@@ -27,7 +27,7 @@ use Rattle.search.proofs.Levels.{take-symbols, strip-at, substitute-cell}
 use Rattle.search.proofs.Roots.{zeros-at, columns-symbols}
 use Rattle.search.specs.Columns.{shift, columns}
 use Rattle.search.specs.Tree.{zeros}
-use Rattle.substitution.specs.Array.{polynomial, Laid, Substituted, Freed, isOther}
+use Rattle.substitution.specs.Array.{places, polynomial, Laid, Substituted, Freed, isOther}
 
 -- ---- a column laid
 
@@ -96,7 +96,7 @@ module _ (h w c : ℕ) (p : List ℕ) where
       }
 
   -- after the last column
-  pub partly-all : c < 16 → Symbols sixteen p → (q : List ℕ) → Partly w q → Substituted h w c p q
+  pub partly-all : c < sixteen .symbols → Symbols sixteen p → (q : List ℕ) → Partly w q → Substituted h w c p q
   partly-all hc sp q d s t hs ht =
       elim (decLt s t) [
         | yes l ↦ d .rest s t hs ht (λ m _. let z : ⊥ = omega arith in z) ∙ sym (substitute-above (numbers sixteen) c (polynomial h w p) s t l)
@@ -139,7 +139,7 @@ unfolding columns
 columns-length h zero l = refl
 columns-length h (suc w) l = ap suc (columns-length h w (drop h l))
 
-module _ (h w : ℕ) (pos : 0 < h) (p : List ℕ) (full : length p ≡ 512) (room : w * h ≤ 512) where
+module _ (h w : ℕ) (pos : 0 < h) (p : List ℕ) (full : length p ≡ places) (room : w * h ≤ places) where
   -- the first coefficient other than zero
   abbrev i : ℕ
   i = smallest (isOther p) (w * h)
@@ -205,7 +205,7 @@ module _ (h w : ℕ) (pos : 0 < h) (p : List ℕ) (full : length p ≡ 512) (roo
       ]
 
   -- the entries from the first column on that is not zero, moved to the front
-  pub freed-moved : (r : List ℕ) → r ≡ take (w * h - u * h) (drop (u * h) p) ++ drop (w * h - u * h) (zeros 512) → Freed h w p r
+  pub freed-moved : (r : List ℕ) → r ≡ take (w * h - u * h) (drop (u * h) p) ++ drop (w * h - u * h) (zeros places) → Freed h w p r
   freed-moved r e s t =
       elim (decLt s w) [
         | yes hs ↦ elim (decLt t h) [
@@ -218,7 +218,7 @@ module _ (h w : ℕ) (pos : 0 < h) (p : List ℕ) (full : length p ≡ 512) (roo
                     let a = place-within h (u + s) t w k ht in
                     let b : (u + s) * h ≡ u * h + s * h = add-mul u s h in
                     let f : s * h + t < length (take (w * h - u * h) (drop (u * h) p)) = rw front (omega arith) in
-                    List·getD-append (take (w * h - u * h) (drop (u * h) p)) (drop (w * h - u * h) (zeros 512)) 0 (s * h + t) f
+                    List·getD-append (take (w * h - u * h) (drop (u * h) p)) (drop (w * h - u * h) (zeros places)) 0 (s * h + t) f
                     ∙ getD-take (w * h - u * h) (drop (u * h) p) (s * h + t) 0 (omega arith) ∙ getD-drop (u * h) p (s * h + t) 0
                     ∙ ap (λ (n : ℕ). getD p n 0) (omega arith) ∙ sym (columns-within (numbers sixteen) h w p (u + s) t k ht)
                 | no n ↦
@@ -226,9 +226,9 @@ module _ (h w : ℕ) (pos : 0 < h) (p : List ℕ) (full : length p ≡ 512) (roo
                     let b : (u + s) * h ≡ u * h + s * h = add-mul u s h in
                     let m : ℕ = s * h + t - (w * h - u * h) in
                     let g : s * h + t ≡ length (take (w * h - u * h) (drop (u * h) p)) + m = rw front (omega arith) in
-                    ap (λ (n : ℕ). getD (take (w * h - u * h) (drop (u * h) p) ++ drop (w * h - u * h) (zeros 512)) n 0) g
-                    ∙ getD-append-add (take (w * h - u * h) (drop (u * h) p)) (drop (w * h - u * h) (zeros 512)) m 0
-                    ∙ getD-drop (w * h - u * h) (zeros 512) m 0 ∙ zeros-at 512 (w * h - u * h + m)
+                    ap (λ (n : ℕ). getD (take (w * h - u * h) (drop (u * h) p) ++ drop (w * h - u * h) (zeros places)) n 0) g
+                    ∙ getD-append-add (take (w * h - u * h) (drop (u * h) p)) (drop (w * h - u * h) (zeros places)) m 0
+                    ∙ getD-drop (w * h - u * h) (zeros places) m 0 ∙ zeros-at places (w * h - u * h + m)
                     ∙ sym (columns-beyond (numbers sixteen) h w p (u + s) t (omega arith))
               ]
               ∙ sym (strip-at sixteen (polynomial h w p) u before-zero first-other-column s t)

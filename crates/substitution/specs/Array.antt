@@ -8,9 +8,18 @@ use lib.Dec.{eqb}
 use lib.ListN.{getD, take, drop}
 use Rattle.definitions.specs.Code.{Symbols}
 use Rattle.definitions.specs.Field.{numbers, sixteen}
+use Rattle.definitions.specs.Limits.{greatestCount}
 use Rattle.definitions.specs.Roots.{plus, scaled}
 use Rattle.search.specs.Columns.{coefficient, substitute, columns}
 use Rattle.search.specs.Tree.{Same, strip}
+
+-- the places of a polynomial's array: of w columns of height h, which are at most twice as many as its coefficients
+abbrev pub places : ℕ
+places = 2 * greatestCount
+
+-- the room of one column, of which at most 22 places are used
+abbrev pub height : ℕ
+height = 32
 
 -- one pass of the shift by c, from entry b on: to each entry c times the next is added
 unfoldable pub passed : ℕ → ℕ → List ℕ → List ℕ

@@ -9,13 +9,15 @@ ghost use Rattle.definitions.specs.Tools.{smallest};
 ghost use Rattle.field.specs.Table.{Products};
 ghost use Rattle.search.specs.Columns.{shift};
 ghost use Rattle.search.specs.Tree.{zeros, constantsZero};
-ghost use Rattle.substitution.specs.Array.{passed, polynomial, Laid, Substituted, Freed, Handed, isOther};
+ghost use Rattle.substitution.specs.Array.{places, height, passed, polynomial, Laid, Substituted, Freed, Handed, isOther};
+use crate::HEIGHT;
+use crate::PLACES;
 
 // The value of the first column at g.
-pub fn first_value(table: &[u8; 256], p: &[u8; 512], h: usize, g: u8) -> u8
+pub fn first_value(table: &[u8; 256], p: &[u8; PLACES], h: usize, g: u8) -> u8
     requires { ⌜ Products (now table) ⌝ }
     requires { ⌜ Symbols sixteen (now p) ⌝ }
-    requires { ⌜ (h ≤ 512) × (g < 16) × (length (now p) ≡ 512) ⌝ }
+    requires { ⌜ (h ≤ places) × (g < sixteen .symbols) × (length (now p) ≡ places) ⌝ }
     ensures { λ r. ⌜ r ≡ value (numbers sixteen) g (take h (now (p .entry))) ⌝ }
 {
     let mut y = 0u8;
@@ -28,11 +30,11 @@ pub fn first_value(table: &[u8; 256], p: &[u8; 512], h: usize, g: u8) -> u8
 }
 
 // The h entries from a place on.
-fn column(p: &[u8; 512], from: usize, h: usize) -> [u8; 32]
-    requires { ⌜ (h ≤ 32) × (from + h ≤ 512) × (length (now p) ≡ 512) ⌝ }
-    ensures { λ r. ⌜ r ≡ take h (drop from (now (p .entry))) ++ drop h (zeros 32) ⌝ }
+fn column(p: &[u8; PLACES], from: usize, h: usize) -> [u8; HEIGHT]
+    requires { ⌜ (h ≤ height) × (from + h ≤ places) × (length (now p) ≡ places) ⌝ }
+    ensures { λ r. ⌜ r ≡ take h (drop from (now (p .entry))) ++ drop h (zeros height) ⌝ }
 {
-    let mut col = [0u8; 32];
+    let mut col = [0u8; HEIGHT];
     let mut b = 0;
     while b < h {
         col[b] = p[from + b];
@@ -45,7 +47,7 @@ fn column(p: &[u8; 512], from: usize, h: usize) -> [u8; 32]
 fn pass(table: &[u8; 256], col: &mut [u8], from: usize, h: usize, g: u8)
     requires { ⌜ Products (now table) ⌝ }
     requires { ⌜ Symbols sixteen (now col) ⌝ }
-    requires { ⌜ (from < h) × (h ≤ length (now col)) × (g < 16) ⌝ }
+    requires { ⌜ (from < h) × (h ≤ length (now col)) × (g < sixteen .symbols) ⌝ }
     ensures { λ _. ⌜ take h (now (col .exit)) ≡ passed g from (take h (now (col .entry))) ⌝ }
     ensures { λ _. ⌜ Symbols sixteen (now (col .exit)) ⌝ }
 {
@@ -60,7 +62,7 @@ fn pass(table: &[u8; 256], col: &mut [u8], from: usize, h: usize, g: u8)
 fn shift(table: &[u8; 256], col: &mut [u8], h: usize, g: u8)
     requires { ⌜ Products (now table) ⌝ }
     requires { ⌜ Symbols sixteen (now col) ⌝ }
-    requires { ⌜ (h ≤ length (now col)) × (g < 16) ⌝ }
+    requires { ⌜ (h ≤ length (now col)) × (g < sixteen .symbols) ⌝ }
     ensures { λ _. ⌜ take h (now (col .exit)) ≡ shift (numbers sixteen) g (take h (now (col .entry))) ⌝ }
     ensures { λ _. ⌜ Symbols sixteen (now (col .exit)) ⌝ }
 {
@@ -90,14 +92,14 @@ fn lay(p: &mut [u8], col: &[u8], a: usize, h: usize, w: usize)
 }
 
 // The polynomial with x y + g put for y, as far as w columns go.
-fn substituted(table: &[u8; 256], p: &[u8; 512], h: usize, w: usize, g: u8) -> [u8; 512]
+fn substituted(table: &[u8; 256], p: &[u8; PLACES], h: usize, w: usize, g: u8) -> [u8; PLACES]
     requires { ⌜ Products (now table) ⌝ }
     requires { ⌜ Symbols sixteen (now p) ⌝ }
-    requires { ⌜ (h ≤ 32) × (g < 16) × (w * h ≤ 512) × (length (now p) ≡ 512) ⌝ }
+    requires { ⌜ (h ≤ height) × (g < sixteen .symbols) × (w * h ≤ places) × (length (now p) ≡ places) ⌝ }
     ensures { λ r. ⌜ Substituted h w g (now (p .entry)) r ⌝ }
     ensures { λ r. ⌜ Symbols sixteen r ⌝ }
 {
-    let mut q = [0u8; 512];
+    let mut q = [0u8; PLACES];
     let mut a = 0;
     while a < w {
         let mut col = column(p, a * h, h);
@@ -109,8 +111,8 @@ fn substituted(table: &[u8; 256], p: &[u8; 512], h: usize, w: usize, g: u8) -> [
 }
 
 // The first place of a coefficient other than zero, or n.
-fn first_other(p: &[u8; 512], n: usize) -> usize
-    requires { ⌜ n ≤ 512 ⌝ }
+fn first_other(p: &[u8; PLACES], n: usize) -> usize
+    requires { ⌜ n ≤ places ⌝ }
     ensures { λ r. ⌜ r ≡ smallest (isOther (now (p .entry))) n ⌝ }
 {
     let mut i = 0;
@@ -124,11 +126,11 @@ fn first_other(p: &[u8; 512], n: usize) -> usize
 }
 
 // The first n entries from a place on, moved to the front.
-fn moved(p: &[u8; 512], from: usize, n: usize) -> [u8; 512]
-    requires { ⌜ (from ≤ n) × (n ≤ 512) × (length (now p) ≡ 512) ⌝ }
-    ensures { λ r. ⌜ r ≡ take (n - from) (drop from (now (p .entry))) ++ drop (n - from) (zeros 512) ⌝ }
+fn moved(p: &[u8; PLACES], from: usize, n: usize) -> [u8; PLACES]
+    requires { ⌜ (from ≤ n) × (n ≤ places) × (length (now p) ≡ places) ⌝ }
+    ensures { λ r. ⌜ r ≡ take (n - from) (drop from (now (p .entry))) ++ drop (n - from) (zeros places) ⌝ }
 {
-    let mut q = [0u8; 512];
+    let mut q = [0u8; PLACES];
     let mut i = 0;
     while i < n - from {
         q[i] = p[from + i];
@@ -138,9 +140,9 @@ fn moved(p: &[u8; 512], from: usize, n: usize) -> [u8; 512]
 }
 
 // The polynomial freed of its powers of x.
-pub fn freed(p: &[u8; 512], h: usize, w: usize) -> [u8; 512]
+pub fn freed(p: &[u8; PLACES], h: usize, w: usize) -> [u8; PLACES]
     requires { ⌜ Symbols sixteen (now p) ⌝ }
-    requires { ⌜ (0 < h) × (w * h ≤ 512) × (length (now p) ≡ 512) ⌝ }
+    requires { ⌜ (0 < h) × (w * h ≤ places) × (length (now p) ≡ places) ⌝ }
     ensures { λ r. ⌜ Freed h w (now (p .entry)) r ⌝ }
     ensures { λ r. ⌜ Symbols sixteen r ⌝ }
 {
@@ -150,10 +152,10 @@ pub fn freed(p: &[u8; 512], h: usize, w: usize) -> [u8; 512]
 }
 
 // What the search hands on after the symbol g: x y + g put for y, and freed of powers of x.
-pub fn handed(table: &[u8; 256], p: &[u8; 512], h: usize, w: usize, g: u8) -> [u8; 512]
+pub fn handed(table: &[u8; 256], p: &[u8; PLACES], h: usize, w: usize, g: u8) -> [u8; PLACES]
     requires { ⌜ Products (now table) ⌝ }
     requires { ⌜ Symbols sixteen (now p) ⌝ }
-    requires { ⌜ (0 < h) × (h ≤ 32) × (g < 16) × (w * h ≤ 512) × (length (now p) ≡ 512) ⌝ }
+    requires { ⌜ (0 < h) × (h ≤ height) × (g < sixteen .symbols) × (w * h ≤ places) × (length (now p) ≡ places) ⌝ }
     ensures { λ r. ⌜ Handed h w g (now (p .entry)) r ⌝ }
     ensures { λ r. ⌜ Symbols sixteen r ⌝ }
 {
@@ -162,8 +164,8 @@ pub fn handed(table: &[u8; 256], p: &[u8; 512], h: usize, w: usize, g: u8) -> [u
 }
 
 // Whether every coefficient of y^0 is zero.
-pub fn constants_zero(p: &[u8; 512], h: usize, w: usize) -> bool
-    requires { ⌜ (0 < h) × (w * h ≤ 512) ⌝ }
+pub fn constants_zero(p: &[u8; PLACES], h: usize, w: usize) -> bool
+    requires { ⌜ (0 < h) × (w * h ≤ places) ⌝ }
     ensures { λ r. ⌜ r ≡ constantsZero (polynomial h w (now (p .entry))) ⌝ }
 {
     let mut a = 0;

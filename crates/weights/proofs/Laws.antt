@@ -9,7 +9,7 @@ use native.Mathlib.Numerals.{add-one}
 use native.Mathlib.Omega.{arith}
 use borrow.Author.Count.{below-more}
 use borrow.Author.Tests.{eq-eqb, ne-eqb}
-use lib.ListN.{length, take, drop, getD, set, replicate, length-drop, length-map}
+use lib.ListN.{length, take, drop, getD, set, length-drop, length-map}
 use lib.Seq.{take-suc, length-take-le, getD-drop}
 use Rattle.definitions.proofs.Bound.{count-above, bound-is}
 use Rattle.definitions.proofs.Loops.{put-more}
@@ -17,11 +17,11 @@ use Rattle.definitions.proofs.Tools.{below-zero, length-below, map-below, small
 use Rattle.definitions.proofs.Weights.{map-take}
 use Rattle.definitions.specs.Bound.{count, bound}
 use Rattle.definitions.specs.Field.{sixteen}
-use Rattle.definitions.specs.Limits.{columnSum}
+use Rattle.definitions.specs.Limits.{columnSum, greatestLevel}
 use Rattle.definitions.specs.Refusals.{badColumn}
 use Rattle.definitions.specs.Tools.{below, smallest}
 use Rattle.definitions.specs.Weights.{sumOfColumn, multiplicity, matrix}
-use Rattle.weights.specs.Matrix.{columnOf, matrixOf}
+use Rattle.weights.specs.Matrix.{columnOf, zeroColumns, matrixOf}
 
 -- one multiplicity more is written
 pub multiplicity-more : (L : ℕ) (r out now : List ℕ) (i x : ℕ) → i < length r → i < length out → now ≡ matrix L (take i r) ++ drop i out
@@ -49,9 +49,9 @@ column-more m rest now i col h e ec =
     (put-more [] (map (columnOf m) (below i)) rest i (columnOf m i) (length-map (below i) (columnOf m) ∙ length-below i) h
     ∙ ap (λ (l : List (List ℕ)). l ++ drop (i + 1) rest) (sym (map-below (columnOf m) i) ∙ ap (λ (n : ℕ). map (columnOf m) (below n)) (sym (add-one i))))
 
--- a level of at most 4 times a reliability
-pub level-fits : (L r : ℕ) → L ≤ 4 → r < 65536 → L * r ≤ 262140
-level-fits L r hl hr = mul-le-mul {n₁ = L} {m₁ = r} {n₂ = 4} {m₂ = 65535} hl (omega arith)
+-- a level within limits times a reliability
+pub level-fits : (L r : ℕ) → L ≤ greatestLevel → r < 65536 → L * r ≤ greatestLevel * 65535
+level-fits L r hl hr = mul-le-mul {n₁ = L} {m₁ = r} {n₂ = greatestLevel} {m₂ = 65535} hl (omega arith)
 
 -- m(m+1)/2 of a byte
 pub cost-fits : (m : ℕ) → m < 256 → m * (m + 1) ≤ 65280
@@ -66,8 +66,8 @@ power-fits v d b pos h =
     (omega arith, omega arith)
 
 -- no column is loaded yet
-pub none-loaded : (m : List ℕ) → replicate 15 (replicate 16 0) ≡ matrixOf m 0
-none-loaded m = ap (λ (l : List ℕ). map (columnOf m) l ++ replicate 15 (replicate 16 0)) (sym below-zero)
+pub none-loaded : (m : List ℕ) → zeroColumns ≡ matrixOf m 0
+none-loaded m = ap (λ (l : List ℕ). map (columnOf m) l ++ zeroColumns) (sym below-zero)
 
 -- the columns that a search has passed sum to 4,096
 module _ (r : List ℕ) (n i : ℕ) (passed : (j : ℕ) → j < i → badColumn sixteen r j ≡ false) where

@@ -3,24 +3,25 @@
 use mathlib.Core.List.{List, [], _++_, map}
 use Prim.Native.Nat.{ℕ, _*_}
 use lib.ListN.{take, drop, getD, replicate}
+use Rattle.definitions.specs.Field.{sixteen}
 use Rattle.definitions.specs.Tools.{below, sum}
 use Rattle.definitions.specs.Weights.{entryCost}
 
 -- the sixteen numbers of position i
 abbrev pub columnOf : List ℕ → ℕ → List ℕ
-columnOf m i = take 16 (drop (16 * i) m)
+columnOf m i = take (sixteen .symbols) (drop (sixteen .symbols * i) m)
 
--- the columns of n positions; "unused columns are zero"
+-- "unused columns are zero"
+abbrev pub zeroColumns : List (List ℕ)
+zeroColumns = replicate (sixteen .positions) (replicate (sixteen .symbols) 0)
+
+-- the columns of n positions, and unused ones
 abbrev pub matrixOf : List ℕ → ℕ → List (List ℕ)
-matrixOf m n = map (columnOf m) (below n) ++ drop n (replicate 15 (replicate 16 0))
-
--- the entry of position i, symbol b
-abbrev pub cell : List (List ℕ) → ℕ → ℕ → ℕ
-cell a i b = getD (getD a i []) b 0
+matrixOf m n = map (columnOf m) (below n) ++ drop n zeroColumns
 
 -- the cost of a column, and of all columns
 abbrev pub columnCost : List ℕ → ℕ
-columnCost c = sum 16 (λ (b : ℕ). entryCost (getD c b 0))
+columnCost c = sum (sixteen .symbols) (λ (b : ℕ). entryCost (getD c b 0))
 
 abbrev pub matrixCost : List (List ℕ) → ℕ
-matrixCost a = sum 15 (λ (i : ℕ). columnCost (getD a i []))
+matrixCost a = sum (sixteen .positions) (λ (i : ℕ). columnCost (getD a i []))

@@ -34,7 +34,7 @@ valueAt q x y = hasse (numbers sixteen) (terms (numbers sixteen) q (monomials 1 
 passesAt : ℕ → ℕ → Bool
 passesAt i b = leb (entry sixteen word i b) 1 && (eqb (entry sixteen word i b) 0 || eqb (valueAt answer (point sixteen i) b) 0)
 
-passing : T (every 3 (λ i. every 16 (λ b. passesAt i b)))
+passing : T (every 3 (λ i. every (sixteen .symbols) (λ b. passesAt i b)))
 unfolding passesAt valueAt hardWord every hasse terms derivative modulo2 binomial power sumOf double shifted below flatMap
 passing = tt
 
@@ -42,13 +42,13 @@ passing = tt
 noneAt : ℕ → ℕ → Bool
 noneAt a b = not (eqb (valueAt (a ∷ b ∷ 0 ∷ 0 ∷ 0 ∷ 0 ∷ []) 1 1) 0) || (not (eqb (valueAt (a ∷ b ∷ 0 ∷ 0 ∷ 0 ∷ 0 ∷ []) 2 1) 0) || (eqb a 0 && eqb b 0))
 
-none : T (everyPair 16 noneAt)
+none : T (everyPair (sixteen .symbols) noneAt)
 unfolding noneAt valueAt every hasse terms derivative modulo2 binomial power sumOf double shifted below flatMap
 none = tt
 
-module _ (i b : ℕ) (hi : i < 3) (hb : b < 16) where
+module _ (i b : ℕ) (hi : i < 3) (hb : b < sixteen .symbols) where
   test-at : T (passesAt i b)
-  test-at = every-at 16 (λ b. passesAt i b) (every-at 3 (λ i. every 16 (λ b. passesAt i b)) passing i hi) b hb
+  test-at = every-at (sixteen .symbols) (λ b. passesAt i b) (every-at 3 (λ i. every (sixteen .symbols) (λ b. passesAt i b)) passing i hi) b hb
 
   at-most-one : entry sixteen word i b ≤ 1
   unfolding passesAt
@@ -70,10 +70,10 @@ passes i b hi hb s t h =
     ap₂ (λ (s t : ℕ). hasse (numbers sixteen) (terms (numbers sixteen) answer (monomials 1 2)) s t (point sixteen i) b) es et
     ∙ value-zero i b hi hb (λ z. omega arith)
 
-both-zero : (a b : ℕ) → a < 16 → b < 16 → valueAt (a ∷ b ∷ 0 ∷ 0 ∷ 0 ∷ 0 ∷ []) 1 1 ≡ 0 → valueAt (a ∷ b ∷ 0 ∷ 0 ∷ 0 ∷ 0 ∷ []) 2 1 ≡ 0 → (a ≡ 0) × (b ≡ 0)
+both-zero : (a b : ℕ) → a < sixteen .symbols → b < sixteen .symbols → valueAt (a ∷ b ∷ 0 ∷ 0 ∷ 0 ∷ 0 ∷ []) 1 1 ≡ 0 → valueAt (a ∷ b ∷ 0 ∷ 0 ∷ 0 ∷ 0 ∷ []) 2 1 ≡ 0 → (a ≡ 0) × (b ≡ 0)
 unfolding noneAt
 both-zero a b ha hb e f =
-    let t : T (eqb a 0 && eqb b 0) = rw (eq-eqb (valueAt (a ∷ b ∷ 0 ∷ 0 ∷ 0 ∷ 0 ∷ []) 1 1) 0 e, eq-eqb (valueAt (a ∷ b ∷ 0 ∷ 0 ∷ 0 ∷ 0 ∷ []) 2 1) 0 f) at (everyPair-at 16 noneAt none a b ha hb) in
+    let t : T (eqb a 0 && eqb b 0) = rw (eq-eqb (valueAt (a ∷ b ∷ 0 ∷ 0 ∷ 0 ∷ 0 ∷ []) 1 1) 0 e, eq-eqb (valueAt (a ∷ b ∷ 0 ∷ 0 ∷ 0 ∷ 0 ∷ []) 2 1) 0 f) at (everyPair-at (sixteen .symbols) noneAt none a b ha hb) in
     (eqb→eq a 0 (first-passes (eqb a 0) (eqb b 0) t), eqb→eq b 0 (second-passes (eqb a 0) (eqb b 0) t))
 
 -- a list of six that ends before the third

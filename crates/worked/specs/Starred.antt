@@ -17,7 +17,7 @@ use Rattle.definitions.specs.Weights.{multiplicity, cost, score}
 -- "Single symbols with L = 1 are called hard words"
 unfoldable pub hardWord : List ℕ → List ℕ
 hardWord [] = []
-hardWord (s ∷ l) = map (λ (b : ℕ). cond (eqb b s) 1 0) (below 16) ++ hardWord l
+hardWord (s ∷ l) = map (λ (b : ℕ). cond (eqb b s) 1 0) (below (sixteen .symbols)) ++ hardWord l
 
 -- the greatest of the messages' scores
 unfoldable pub best : ℕ → List ℕ → List (List ℕ) → ℕ

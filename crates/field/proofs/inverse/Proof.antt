@@ -1,5 +1,5 @@
 -- The two checks are the lines of the table; an operand that passes them is looked up in the table of inverses.
-use Prim.Native.Nat.{ℕ, _≤_}
+use Prim.Native.Nat.{ℕ, _<_}
 use native.Mathlib.Omega.{arith}
 use lib.ListN.{getD}
 use mathlib.Core.List.{[]}
@@ -23,7 +23,7 @@ came c =
 returns : tie.Need-returns
 returns c = answers (came (c .before .before .before)) [] _ (c .before .checked .given .1)
 
-fit : (c : tie.After-enum-told) → (let a = c .before .before .before .before .args .a in (a ≤ 15) × (a ≡ 0 → ⊥))
+fit : (c : tie.After-enum-told) → (let a = c .before .before .before .before .args .a in (a < sixteen .symbols) × (a ≡ 0 → ⊥))
 fit c = nonzero-symbol (c .before .before .before .before .args .a) (accepted (came (c .before .before)) (c .enum-told .given .1))
 
 array-read-t15 : tie.Need-array-read-t15
@@ -36,7 +36,7 @@ returns-2 c =
     let a = t .before .before .before .before .args .a in
     let f = fit t in
     ap (λ (x : ℕ). valued (getD (c .before .inverses .result) x 0)) (c .wide .ensures .0)
-    ∙ ap valued (c .before .inverses .ensures a (omega arith) (f .1)) ∙ goes-on (came (t .before .before)) [] refused _ (t .enum-told .given .1)
+    ∙ ap valued (c .before .inverses .ensures a (f .0) (f .1)) ∙ goes-on (came (t .before .before)) [] refused _ (t .enum-told .given .1)
 
 pub inverse-spec : {M : Type 1} → statement M
 inverse-spec =

@@ -8,15 +8,17 @@ use Rattle.conditions.proofs.Placed.{joined-none, none-counted, joined-
 use Rattle.conditions.specs.Conditions.{pointRows}
 use native.Mathlib.Omega.{arith}
 use borrow.Author.Needs.{needs}
+use Rattle.definitions.specs.Field.{sixteen}
+use Rattle.definitions.specs.Limits.{greatestLimit}
 use Rattle.conditions.proofs.inside.column_rows.Statement.{statement}
 use Rattle.conditions.proofs.inside.column_rows.Tie as tie
 
 abbrev Inv-loop : tie.InvT-loop
 Inv-loop rows₀ table at a column v d count next₀ symbol₀ rows next symbol =
-    (symbol ≤ 16) × (next ≡ at + length (flatMap (λ (b : ℕ). pointRows v d count a b (getD column b 0)) (below symbol))) × (rows ≡ sets rows₀ at (flatMap (λ (b : ℕ). pointRows v d count a b (getD column b 0)) (below symbol)))
+    (symbol ≤ sixteen .symbols) × (next ≡ at + length (flatMap (λ (b : ℕ). pointRows v d count a b (getD column b 0)) (below symbol))) × (rows ≡ sets rows₀ at (flatMap (λ (b : ℕ). pointRows v d count a b (getD column b 0)) (below symbol)))
 
 abbrev μ-loop : tie.MeasureT-loop
-μ-loop rows₀ table at a column v d count next₀ symbol₀ rows next symbol = 16 - symbol
+μ-loop rows₀ table at a column v d count next₀ symbol₀ rows next symbol = sixteen .symbols - symbol
 
 loop-holds : tie.Need-loop-holds Inv-loop μ-loop
 loop-holds c =
@@ -39,11 +41,11 @@ point-rows-requires c κs =
     let a = s .args in
     let m : c .before .wide2 .result ≡ getD (a .column .now) (l .loop .symbol) 0 =
     c .before .wide2 .ensures .0 ∙ ap (λ (k : ℕ). getD (a .column .now) k 0) (c .before .before .before .wide .ensures .0) in
-    let room = joined-room (λ (b : ℕ). pointRows (a .v) (a .d) (a .count) (a .a) b (getD (a .column .now) b 0)) 16 (l .loop .symbol) (omega arith) in (
+    let room = joined-room (λ (b : ℕ). pointRows (a .v) (a .d) (a .count) (a .a) b (getD (a .column .now) b 0)) (sixteen .symbols) (l .loop .symbol) (omega arith) in (
       s .pre .0,
       (
         (omega arith, omega arith, omega arith, omega arith, omega arith),
-        subst (λ (k : ℕ). l .loop .next + length (pointRows (a .v) (a .d) (a .count) (a .a) (l .loop .symbol) k) ≤ 150) (sym m) (omega arith),
+        subst (λ (k : ℕ). l .loop .next + length (pointRows (a .v) (a .d) (a .count) (a .a) (l .loop .symbol) k) ≤ greatestLimit) (sym m) (omega arith),
       ),
     )
 
@@ -71,7 +73,7 @@ loop-again c =
 returns : tie.Need-returns Inv-loop μ-loop
 returns c =
     let l = c .before in
-    let e : l .loop .symbol ≡ 16 = omega arith in
+    let e : l .loop .symbol ≡ sixteen .symbols = omega arith in
     (rw e at (l .loop .inv .1), rw e at (l .loop .inv .2))
 
 pub column-rows-spec : {M : Type 1} → statement M

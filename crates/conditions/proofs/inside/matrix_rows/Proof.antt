@@ -11,18 +11,19 @@ use Rattle.definitions.specs.Field.{numbers, sixteen}
 use Rattle.definitions.specs.Tools.{below}
 use Rattle.field.proofs.Instance.{sixteen-field}
 use Rattle.conditions.proofs.Placed.{joined-none, none-counted, joined-more, count-more, joined-room}
-use Rattle.conditions.specs.Conditions.{columnRows, positionRows}
+use Rattle.conditions.specs.Conditions.{columnRows, matrixRows}
 use native.Mathlib.Omega.{arith}
+use Rattle.definitions.specs.Limits.{greatestLimit}
 use Rattle.conditions.proofs.inside.matrix_rows.Statement.{statement}
 use Rattle.conditions.proofs.inside.matrix_rows.Tie as tie
 
 abbrev Inv-loop : tie.InvT-loop
 Inv-loop rows₀ table matrix v d count next₀ a₀ i₀ rows next a i =
-    (i ≤ 15) × (a ≡ point sixteen i) × (next ≡ 0 + length (flatMap (λ (i : ℕ). columnRows v d count (point sixteen i) (getD matrix i [])) (below i)))
+    (i ≤ sixteen .positions) × (a ≡ point sixteen i) × (next ≡ 0 + length (flatMap (λ (i : ℕ). columnRows v d count (point sixteen i) (getD matrix i [])) (below i)))
     × (rows ≡ sets rows₀ 0 (flatMap (λ (i : ℕ). columnRows v d count (point sixteen i) (getD matrix i [])) (below i)))
 
 abbrev μ-loop : tie.MeasureT-loop
-μ-loop rows₀ table matrix v d count next₀ a₀ i₀ rows next a i = 15 - i
+μ-loop rows₀ table matrix v d count next₀ a₀ i₀ rows next a i = sixteen .positions - i
 
 loop-holds : tie.Need-loop-holds Inv-loop μ-loop
 loop-holds c =
@@ -40,11 +41,11 @@ column-rows-requires c κs =
     let l = c .before .before .before in
     let s = l .before in
     let a = s .args in
-    let room = joined-room (λ (i : ℕ). columnRows (a .v) (a .d) (a .count) (point sixteen i) (getD (a .matrix .now) i [])) 15 (l .loop .i) (omega arith) in (
+    let room = joined-room (λ (i : ℕ). columnRows (a .v) (a .d) (a .count) (point sixteen i) (getD (a .matrix .now) i [])) (sixteen .positions) (l .loop .i) (omega arith) in (
       s .pre .0,
       (
-        (subst (λ (x : ℕ). x < 16) (sym (l .loop .inv .1)) (point-symbol sixteen sixteen-field (l .loop .i)), omega arith, omega arith, omega arith),
-        subst (λ (x : ℕ). l .loop .next + length (columnRows (a .v) (a .d) (a .count) x (getD (a .matrix .now) (l .loop .i) [])) ≤ 150) (sym (l .loop .inv .1))
+        (subst (λ (x : ℕ). x < sixteen .symbols) (sym (l .loop .inv .1)) (point-symbol sixteen sixteen-field (l .loop .i)), omega arith, omega arith, omega arith),
+        subst (λ (x : ℕ). l .loop .next + length (columnRows (a .v) (a .d) (a .count) x (getD (a .matrix .now) (l .loop .i) [])) ≤ greatestLimit) (sym (l .loop .inv .1))
             (omega arith),
       ),
     )
@@ -52,7 +53,7 @@ column-rows-requires c κs =
 look-requires : tie.Need-look-requires Inv-loop μ-loop
 look-requires c κs =
     let l = c .before .before .before .before in
-    (l .before .pre .0, (omega arith, subst (λ (x : ℕ). x < 16) (sym (l .loop .inv .1)) (point-symbol sixteen sixteen-field (l .loop .i))))
+    (l .before .pre .0, (omega arith, subst (λ (x : ℕ). x < sixteen .symbols) (sym (l .loop .inv .1)) (point-symbol sixteen sixteen-field (l .loop .i))))
 
 add-i : tie.Need-add-i Inv-loop μ-loop
 add-i c = omega arith
@@ -78,8 +79,8 @@ returns : tie.Need-returns Inv-loop μ-loop
 returns c =
     let l = c .before in
     let a = l .before .args in
-    let e : l .loop .i ≡ 15 = omega arith in
-    let n : l .loop .next ≡ 0 + length (positionRows (a .v) (a .d) (a .count) (a .matrix .now) 15) = rw e at (l .loop .inv .2) in
+    let e : l .loop .i ≡ sixteen .positions = omega arith in
+    let n : l .loop .next ≡ 0 + length (matrixRows (a .v) (a .d) (a .count) (a .matrix .now)) = rw e at (l .loop .inv .2) in
     (omega arith, rw e at (l .loop .inv .3))
 
 pub matrix-rows-spec : {M : Type 1} → statement M

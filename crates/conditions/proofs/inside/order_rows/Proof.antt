@@ -30,7 +30,7 @@ derivatives-requires c κs =
       s .pre .0,
       (
         subst (Symbols sixteen) (sym (l .loop .inv .1)) (lower-symbols (a .b) (omega arith) (a .n) (l .loop .t)),
-        (omega arith, subst (λ (x : ℕ). x < 16) (sym (l .loop .inv .2)) (lead-symbol (l .loop .t)), omega arith),
+        (omega arith, subst (λ (x : ℕ). x < sixteen .symbols) (sym (l .loop .inv .2)) (lead-symbol (l .loop .t)), omega arith),
       ),
     )
 

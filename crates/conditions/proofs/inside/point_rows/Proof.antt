@@ -13,6 +13,7 @@ use Rattle.conditions.proofs.Derivatives.{lead, lower, lead-symbol, low
 use Rattle.conditions.proofs.Placed.{joined-none, none-counted, joined-more, count-more, joined-room}
 use Rattle.conditions.specs.Conditions.{orderRows}
 use native.Mathlib.Omega.{arith}
+use Rattle.definitions.specs.Limits.{greatestLimit}
 use Rattle.conditions.proofs.inside.point_rows.Statement.{statement}
 use Rattle.conditions.proofs.inside.point_rows.Tie as tie
 
@@ -40,7 +41,7 @@ derivatives-requires c κs =
       s .pre .0,
       (
         subst (Symbols sixteen) (sym (l .loop .inv .1)) (lower-symbols (a .a) (omega arith) (a .d + 1) (l .loop .s)),
-        (omega arith, subst (λ (x : ℕ). x < 16) (sym (l .loop .inv .2)) (lead-symbol (l .loop .s)), omega arith),
+        (omega arith, subst (λ (x : ℕ). x < sixteen .symbols) (sym (l .loop .inv .2)) (lead-symbol (l .loop .s)), omega arith),
       ),
     )
 
@@ -68,7 +69,7 @@ order-rows-requires c κs =
     let room = joined-room (orders (a .v) (a .d) (a .count) (a .a) (a .b) (a .m)) (a .m) (l .loop .s) (omega arith) in
     let size = length-orders (a .v) (a .d) (a .count) (a .a) (a .b) (a .m) (l .loop .s) in
     let small = div-le-self (a .d) (a .v) in
-    let fits : l .loop .next + (a .m - l .loop .s) ≤ 150 = omega arith in (
+    let fits : l .loop .next + (a .m - l .loop .s) ≤ greatestLimit = omega arith in (
       s .pre .0,
       (
         subst (Symbols sixteen) (sym e) (derivatives-symbols (a .a) (omega arith) (a .d + 1) (l .loop .s)),

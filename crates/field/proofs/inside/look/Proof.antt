@@ -3,6 +3,7 @@ use Prim.Native.Nat.{ℕ, _+_, _*_}
 use lib.ListN.{getD}
 use Rattle.field.specs.Table.{Products}
 use borrow.Author.Needs.{needs}
+use Rattle.definitions.specs.Field.{sixteen}
 use Rattle.field.proofs.inside.look.Statement.{statement}
 use Rattle.field.proofs.inside.look.Tie as tie
 
@@ -25,7 +26,7 @@ returns : tie.Need-returns
 unfolding Products
 returns c =
     let s = c .before .before .before in
-    ap₂ (λ (x y : ℕ). getD (s .args .table .now) (x * 16 + y) 0) (c .before .before .wide .ensures .0) (c .before .wide2 .ensures .0)
+    ap₂ (λ (x y : ℕ). getD (s .args .table .now) (x * sixteen .symbols + y) 0) (c .before .before .wide .ensures .0) (c .before .wide2 .ensures .0)
     ∙ s .pre .0 (s .args .a) (s .args .b) (s .pre .1 .0) (s .pre .1 .1)
 
 pub look-spec : {M : Type 1} → statement M

@@ -3,6 +3,8 @@ use Rattle.interpolation.proofs.Coefficients.{degree-small, count-small
 use Rattle.interpolation.proofs.Conditions.{empty-system}
 use native.Mathlib.Omega.{arith}
 use borrow.Author.Needs.{needs}
+use Rattle.definitions.specs.Limits.{greatestLimit}
+use Rattle.rows.specs.Row.{width}
 use Rattle.interpolation.proofs.inside.polynomial.Statement.{statement}
 use Rattle.interpolation.proofs.inside.polynomial.Tie as tie
 
@@ -21,7 +23,7 @@ first-dependent-requires c κs =
     let a = s .args in
     let d = c .before .before .matrix-rows in
     let small = rows-small (a .v) (a .d) (a .count) (a .matrix .now) (s .pre .0 .0) (s .pre .0 .1) (s .pre .0 .2) (s .pre .1 .0) (s .pre .1 .1) in
-    (start-system (a .v) (a .d) (a .count) (a .matrix .now) (s .pre .0 .0) (s .pre .0 .1) (s .pre .0 .2) (s .pre .1 .0) (s .pre .1 .1) (empty-system 150 160 refl) (d .ensures .1), (c .before .before .before .before .before .products .ensures, (let e = d .ensures .0 in omega arith)))
+    (start-system (a .v) (a .d) (a .count) (a .matrix .now) (s .pre .0 .0) (s .pre .0 .1) (s .pre .0 .2) (s .pre .1 .0) (s .pre .1 .1) (empty-system greatestLimit width refl) (d .ensures .1), (c .before .before .before .before .before .products .ensures, (let e = d .ensures .0 in omega arith)))
 
 read-off-requires : tie.Need-read-off-requires
 read-off-requires c κs =
@@ -41,7 +43,7 @@ returns c =
     let a = s .args in
     let d = c .before .before .before .before .before .before .before .before .matrix-rows in
     let f = c .before .before .before .before .before .first-dependent in
-    polynomial-found (a .v) (a .d) (a .count) (a .matrix .now) (s .pre .0 .0) (s .pre .0 .1) (s .pre .0 .2) (s .pre .1 .0) (s .pre .1 .1) (empty-system 150 160 refl) (d .ensures .1) (f .last .0) (f .ensures .1 .0) (d .result) (f .result) (d .ensures .0) (f .ensures .0) (f .ensures .1 .1 .0) (f .ensures .1 .1 .1) (a .out .now) (c .before .before .read-off .last .1 .1 .1 .0) (c .before .before .read-off .ensures)
+    polynomial-found (a .v) (a .d) (a .count) (a .matrix .now) (s .pre .0 .0) (s .pre .0 .1) (s .pre .0 .2) (s .pre .1 .0) (s .pre .1 .1) (empty-system greatestLimit width refl) (d .ensures .1) (f .last .0) (f .ensures .1 .0) (d .result) (f .result) (d .ensures .0) (f .ensures .0) (f .ensures .1 .1 .0) (f .ensures .1 .1 .1) (a .out .now) (c .before .before .read-off .last .1 .1 .1 .0) (c .before .before .read-off .ensures)
 
 pub polynomial-spec : {M : Type 1} → statement M
 polynomial-spec =

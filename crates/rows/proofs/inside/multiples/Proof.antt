@@ -3,14 +3,15 @@ use Prim.Native.Nat.{_-_, _≤_}
 use Rattle.rows.proofs.Filled.{multiples-first, multiples-more}
 use Rattle.rows.specs.Row.{multiplesTo}
 use native.Mathlib.Omega.{arith}
+use Rattle.definitions.specs.Field.{sixteen}
 use Rattle.rows.proofs.inside.multiples.Statement.{statement}
 use Rattle.rows.proofs.inside.multiples.Tie as tie
 
 abbrev Inv-loop : tie.InvT-loop
-Inv-loop row times₀ c₀ times c = (1 ≤ c) × (c ≤ 16) × (times ≡ multiplesTo c row)
+Inv-loop row times₀ c₀ times c = (1 ≤ c) × (c ≤ sixteen .symbols) × (times ≡ multiplesTo c row)
 
 abbrev μ-loop : tie.MeasureT-loop
-μ-loop row times₀ c₀ times c = 16 - c
+μ-loop row times₀ c₀ times c = sixteen .symbols - c
 
 loop-holds : tie.Need-loop-holds Inv-loop μ-loop
 loop-holds c = (omega arith, omega arith, multiples-first (c .args .row .now) (c .pre))
@@ -40,7 +41,7 @@ loop-again c =
 returns : tie.Need-returns Inv-loop μ-loop
 returns c =
     let l = c .before in
-    let e : l .loop .c ≡ 16 = omega arith in
+    let e : l .loop .c ≡ sixteen .symbols = omega arith in
     rw e at (l .loop .inv .2)
 
 pub multiples-spec : {M : Type 1} → statement M

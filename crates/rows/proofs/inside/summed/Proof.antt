@@ -3,16 +3,16 @@ use Prim.Native.Nat.{ℕ, _-_, _≤_}
 use lib.ListN.{getD}
 use Rattle.definitions.specs.Field.{sixteen, sumOf}
 use Rattle.rows.proofs.Filled.{filled-none, filled-more}
-use Rattle.rows.specs.Row.{filled}
+use Rattle.rows.specs.Row.{filled, width}
 use native.Mathlib.Omega.{arith}
 use Rattle.rows.proofs.inside.summed.Statement.{statement}
 use Rattle.rows.proofs.inside.summed.Tie as tie
 
 abbrev Inv-loop : tie.InvT-loop
-Inv-loop a b row₀ k₀ row k = (k ≤ 160) × (row ≡ filled k (λ (e : ℕ). sixteen .plus (getD a e 0) (getD b e 0)))
+Inv-loop a b row₀ k₀ row k = (k ≤ width) × (row ≡ filled k (λ (e : ℕ). sixteen .plus (getD a e 0) (getD b e 0)))
 
 abbrev μ-loop : tie.MeasureT-loop
-μ-loop a b row₀ k₀ row k = 160 - k
+μ-loop a b row₀ k₀ row k = width - k
 
 loop-holds : tie.Need-loop-holds Inv-loop μ-loop
 loop-holds c =
@@ -44,7 +44,7 @@ loop-again c =
 returns : tie.Need-returns Inv-loop μ-loop
 returns c =
     let l = c .before in
-    let e : l .loop .k ≡ 160 = omega arith in
+    let e : l .loop .k ≡ width = omega arith in
     rw e at (l .loop .inv .1)
 
 pub summed-spec : {M : Type 1} → statement M

@@ -6,11 +6,12 @@ use Rattle.search.specs.Tree.{zeros}
 use Rattle.search.proofs.Roots.{length-zeros}
 use Rattle.substitution.proofs.Columns.{copied-more}
 use native.Mathlib.Omega.{arith}
+use Rattle.substitution.specs.Array.{height}
 use Rattle.substitution.proofs.inside.column.Statement.{statement}
 use Rattle.substitution.proofs.inside.column.Tie as tie
 
 abbrev Inv-loop : tie.InvT-loop
-Inv-loop p from h col₀ b₀ col b = (b ≤ h) × (col ≡ take b (drop from p) ++ drop b (zeros 32))
+Inv-loop p from h col₀ b₀ col b = (b ≤ h) × (col ≡ take b (drop from p) ++ drop b (zeros height))
 
 abbrev μ-loop : tie.MeasureT-loop
 μ-loop p from h col₀ b₀ col b = h - b
@@ -38,8 +39,8 @@ loop-again : tie.Need-loop-again Inv-loop μ-loop
 loop-again c =
     let l = c .before .before in
     let s = l .before in
-    let z = length-zeros 32 in
-    (omega arith, copied-more (s .args .p .now) (zeros 32) (l .loop .col) (s .args .from) (l .loop .b) (omega arith) (omega arith) (l .loop .inv .1))
+    let z = length-zeros height in
+    (omega arith, copied-more (s .args .p .now) (zeros height) (l .loop .col) (s .args .from) (l .loop .b) (omega arith) (omega arith) (l .loop .inv .1))
 
 returns : tie.Need-returns Inv-loop μ-loop
 returns c =

@@ -8,7 +8,7 @@ use Rattle.definitions.specs.Field.{sixteen}
 use Rattle.definitions.specs.Tools.{smallest}
 use Rattle.definitions.proofs.Tools.{smallest-le}
 use Rattle.search.specs.Tree.{zeros}
-use Rattle.substitution.specs.Array.{isOther}
+use Rattle.substitution.specs.Array.{places, isOther}
 use Rattle.substitution.proofs.Substitution.{freed-moved, copied-symbols}
 use native.Mathlib.Omega.{arith}
 use borrow.Author.Needs.{needs}
@@ -42,10 +42,10 @@ returns : tie.Need-returns
 returns c =
     let o = c .before in
     let s = o .before in
-    let e : c .moved .result ≡ take (s .args .w * s .args .h - smallest (isOther (s .args .p .now)) (s .args .w * s .args .h) / s .args .h * s .args .h) (drop (smallest (isOther (s .args .p .now)) (s .args .w * s .args .h) / s .args .h * s .args .h) (s .args .p .now)) ++ drop (s .args .w * s .args .h - smallest (isOther (s .args .p .now)) (s .args .w * s .args .h) / s .args .h * s .args .h) (zeros 512) =
-    subst (λ (i : ℕ). c .moved .result ≡ take (s .args .w * s .args .h - i / s .args .h * s .args .h) (drop (i / s .args .h * s .args .h) (s .args .p .now)) ++ drop (s .args .w * s .args .h - i / s .args .h * s .args .h) (zeros 512)) (o .first-other .ensures) (c .moved .ensures) in (
+    let e : c .moved .result ≡ take (s .args .w * s .args .h - smallest (isOther (s .args .p .now)) (s .args .w * s .args .h) / s .args .h * s .args .h) (drop (smallest (isOther (s .args .p .now)) (s .args .w * s .args .h) / s .args .h * s .args .h) (s .args .p .now)) ++ drop (s .args .w * s .args .h - smallest (isOther (s .args .p .now)) (s .args .w * s .args .h) / s .args .h * s .args .h) (zeros places) =
+    subst (λ (i : ℕ). c .moved .result ≡ take (s .args .w * s .args .h - i / s .args .h * s .args .h) (drop (i / s .args .h * s .args .h) (s .args .p .now)) ++ drop (s .args .w * s .args .h - i / s .args .h * s .args .h) (zeros places)) (o .first-other .ensures) (c .moved .ensures) in (
       freed-moved (s .args .h) (s .args .w) (s .pre .1 .0) (s .args .p .now) (s .pre .1 .2) (s .pre .1 .1) (c .moved .result) e,
-      subst (Symbols sixteen) (sym e) (copied-symbols (s .args .p .now) (s .args .w * s .args .h - smallest (isOther (s .args .p .now)) (s .args .w * s .args .h) / s .args .h * s .args .h) (smallest (isOther (s .args .p .now)) (s .args .w * s .args .h) / s .args .h * s .args .h) 512 (s .pre .0)),
+      subst (Symbols sixteen) (sym e) (copied-symbols (s .args .p .now) (s .args .w * s .args .h - smallest (isOther (s .args .p .now)) (s .args .w * s .args .h) / s .args .h * s .args .h) (smallest (isOther (s .args .p .now)) (s .args .w * s .args .h) / s .args .h * s .args .h) places (s .pre .0)),
     )
 
 pub freed-spec : {M : Type 1} → statement M

@@ -6,11 +6,12 @@ use Rattle.search.specs.Tree.{zeros}
 use Rattle.search.proofs.Roots.{length-zeros}
 use Rattle.substitution.proofs.Columns.{copied-more}
 use native.Mathlib.Omega.{arith}
+use Rattle.substitution.specs.Array.{places}
 use Rattle.substitution.proofs.inside.moved.Statement.{statement}
 use Rattle.substitution.proofs.inside.moved.Tie as tie
 
 abbrev Inv-loop : tie.InvT-loop
-Inv-loop p from n q₀ i₀ q i = (i ≤ n - from) × (q ≡ take i (drop from p) ++ drop i (zeros 512))
+Inv-loop p from n q₀ i₀ q i = (i ≤ n - from) × (q ≡ take i (drop from p) ++ drop i (zeros places))
 
 abbrev μ-loop : tie.MeasureT-loop
 μ-loop p from n q₀ i₀ q i = n - i
@@ -41,8 +42,8 @@ loop-again : tie.Need-loop-again Inv-loop μ-loop
 loop-again c =
     let l = c .before .before in
     let s = l .before in
-    let z = length-zeros 512 in
-    (omega arith, copied-more (s .args .p .now) (zeros 512) (l .loop .q) (s .args .from) (l .loop .i) (omega arith) (omega arith) (l .loop .inv .1))
+    let z = length-zeros places in
+    (omega arith, copied-more (s .args .p .now) (zeros places) (l .loop .q) (s .args .from) (l .loop .i) (omega arith) (omega arith) (l .loop .inv .1))
 
 returns : tie.Need-returns Inv-loop μ-loop
 returns c =

@@ -7,6 +7,7 @@ use Rattle.definitions.specs.Code.{Symbols}
 use Rattle.definitions.specs.Field.{numbers, sixteen}
 use Rattle.search.specs.Columns.{shift}
 use Rattle.search.specs.Tree.{zeros}
+use Rattle.substitution.specs.Array.{places, height}
 use Rattle.substitution.proofs.Substitution.{Partly, partly-none, partly-more, partly-all, copied-symbols, zeros-symbols, column-within}
 use Rattle.substitution.proofs.Columns.{copied-front}
 use Rattle.substitution.proofs.inside.substituted.Statement.{statement}
@@ -18,14 +19,14 @@ use Rattle.substitution.proofs.inside.lay.Reads as lay-reads
 use Rattle.substitution.proofs.inside.shift.Reads as shift-reads
 
 abbrev Inv-loop : tie.InvT-loop
-Inv-loop table p h w g q₀ a₀ q a = (a ≤ w) × (length q ≡ 512) × Symbols sixteen q × Partly h w g p a q
+Inv-loop table p h w g q₀ a₀ q a = (a ≤ w) × (length q ≡ places) × Symbols sixteen q × Partly h w g p a q
 
 abbrev μ-loop : tie.MeasureT-loop
 μ-loop table p h w g q₀ a₀ q a = w - a
 
 loop-holds : tie.Need-loop-holds Inv-loop μ-loop
 unfolding zeros
-loop-holds c = (omega arith, refl, zeros-symbols 512, partly-none (c .args .h) (c .args .w) (c .args .g) (c .args .p .now) 512)
+loop-holds c = (omega arith, refl, zeros-symbols places, partly-none (c .args .h) (c .args .w) (c .args .g) (c .args .p .now) places)
 
 mul-column : tie.Need-mul-column Inv-loop μ-loop
 mul-column c =
@@ -48,8 +49,8 @@ shift-requires : tie.Need-shift-requires Inv-loop μ-loop
 shift-requires c κs =
     let l = c .before .before .before in
     let s = l .before in
-    let n : length (c .before .column .result) ≡ 32 = search needs in
-    (s .pre .0, (subst (Symbols sixteen) (sym (c .before .column .ensures)) (copied-symbols (s .args .p .now) (s .args .h) (l .loop .a * s .args .h) 32 (s .pre .1 .0)), (omega arith, s .pre .1 .1 .1)))
+    let n : length (c .before .column .result) ≡ height = search needs in
+    (s .pre .0, (subst (Symbols sixteen) (sym (c .before .column .ensures)) (copied-symbols (s .args .p .now) (s .args .h) (l .loop .a * s .args .h) height (s .pre .1 .0)), (omega arith, s .pre .1 .1 .1)))
 
 slice-aggregate-lay : tie.Need-slice-aggregate-lay Inv-loop μ-loop
 slice-aggregate-lay c = search needs
@@ -77,7 +78,7 @@ loop-again c =
     let r = c .before .lay in
     let t = c .before .before .before .before .before .shift in
     let i = column-within (l .loop .a) (s .args .h) (s .args .w) (omega arith) in
-    let e = copied-front (s .args .p .now) (drop (s .args .h) (zeros 32)) (c .before .before .before .before .before .before .before .column .result) (l .loop .a * s .args .h) (s .args .h) (omega arith) (c .before .before .before .before .before .before .before .column .ensures) in (
+    let e = copied-front (s .args .p .now) (drop (s .args .h) (zeros height)) (c .before .before .before .before .before .before .before .column .result) (l .loop .a * s .args .h) (s .args .h) (omega arith) (c .before .before .before .before .before .before .before .column .ensures) in (
       omega arith,
       omega arith,
       r .ensures .1,

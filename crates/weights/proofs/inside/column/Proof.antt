@@ -4,14 +4,15 @@ use Prim.Native.Nat.{ℕ, _+_, _*_, _-_, _/_, _≤_, _<_}
 use mathlib.Core.List.{_++_, append-nil}
 use lib.ListN.{take, drop, replicate}
 use native.Mathlib.Omega.{arith}
+use Rattle.definitions.specs.Field.{sixteen}
 use Rattle.weights.proofs.inside.column.Statement.{statement}
 use Rattle.weights.proofs.inside.column.Tie as tie
 
 abbrev Inv-loop : tie.InvT-loop
-Inv-loop matrix i col₀ b₀ col b = (b ≤ 16) × (col ≡ take b (drop (16 * i) matrix) ++ drop b (replicate 16 0))
+Inv-loop matrix i col₀ b₀ col b = (b ≤ sixteen .symbols) × (col ≡ take b (drop (sixteen .symbols * i) matrix) ++ drop b (replicate (sixteen .symbols) 0))
 
 abbrev μ-loop : tie.MeasureT-loop
-μ-loop matrix i col₀ b₀ col b = 16 - b
+μ-loop matrix i col₀ b₀ col b = sixteen .symbols - b
 
 loop-holds : tie.Need-loop-holds Inv-loop μ-loop
 loop-holds c = (omega arith, refl)
@@ -39,13 +40,13 @@ loop-again c =
     let l = c .before .before in
     let s = l .before in (
       omega arith,
-      entry-more (s .args .matrix .now) (replicate 16 0) (l .loop .col) (16 * s .args .i) (l .loop .b) _ (c .before .loop-test .taken) (omega arith) (l .loop .inv .1) refl,
+      entry-more (s .args .matrix .now) (replicate (sixteen .symbols) 0) (l .loop .col) (sixteen .symbols * s .args .i) (l .loop .b) _ (c .before .loop-test .taken) (omega arith) (l .loop .inv .1) refl,
     )
 
 returns : tie.Need-returns Inv-loop μ-loop
 returns c =
     let l = c .before in
-    let e : l .loop .b ≡ 16 = omega arith in
+    let e : l .loop .b ≡ sixteen .symbols = omega arith in
     rw (e, append-nil) at (l .loop .inv .1)
 
 pub column-spec : {M : Type 1} → statement M

@@ -7,14 +7,15 @@ use lib.ListN.{getD}
 use Rattle.definitions.specs.Tools.{sum}
 use native.Mathlib.Omega.{arith}
 use borrow.Author.Needs.{needs}
+use Rattle.definitions.specs.Field.{sixteen}
 use Rattle.weights.proofs.inside.column_cost.Statement.{statement}
 use Rattle.weights.proofs.inside.column_cost.Tie as tie
 
 abbrev Inv-loop : tie.InvT-loop
-Inv-loop col total₀ b₀ total b = (b ≤ 16) × (total ≡ sum b (λ (j : ℕ). entryCost (getD col j 0))) × (total ≤ 32640 * b)
+Inv-loop col total₀ b₀ total b = (b ≤ sixteen .symbols) × (total ≡ sum b (λ (j : ℕ). entryCost (getD col j 0))) × (total ≤ 32640 * b)
 
 abbrev μ-loop : tie.MeasureT-loop
-μ-loop col total₀ b₀ total b = 16 - b
+μ-loop col total₀ b₀ total b = sixteen .symbols - b
 
 loop-holds : tie.Need-loop-holds Inv-loop μ-loop
 loop-holds c = (omega arith, sum-none (λ (j : ℕ). entryCost (getD (c .args .col .now) j 0)), omega arith)
@@ -50,7 +51,7 @@ loop-again c =
 returns : tie.Need-returns Inv-loop μ-loop
 returns c =
     let l = c .before in
-    let e : l .loop .b ≡ 16 = omega arith in
+    let e : l .loop .b ≡ sixteen .symbols = omega arith in
     (rw e at (l .loop .inv .1), omega arith)
 
 pub column-cost-spec : {M : Type 1} → statement M

@@ -10,10 +10,10 @@ use Rattle.weights.proofs.inside.column_sum.Statement.{statement}
 use Rattle.weights.proofs.inside.column_sum.Tie as tie
 
 abbrev Inv-loop : tie.InvT-loop
-Inv-loop reliabilities i total₀ b₀ total b = (b ≤ 16) × (total ≡ sum b (entry sixteen reliabilities i)) × (total ≤ 65535 * b)
+Inv-loop reliabilities i total₀ b₀ total b = (b ≤ sixteen .symbols) × (total ≡ sum b (entry sixteen reliabilities i)) × (total ≤ 65535 * b)
 
 abbrev μ-loop : tie.MeasureT-loop
-μ-loop reliabilities i total₀ b₀ total b = 16 - b
+μ-loop reliabilities i total₀ b₀ total b = sixteen .symbols - b
 
 loop-holds : tie.Need-loop-holds Inv-loop μ-loop
 loop-holds c = (omega arith, sum-none (entry sixteen (c .before .args .reliabilities .now) (c .before .args .i)), omega arith)
@@ -55,7 +55,7 @@ loop-again c =
 returns : tie.Need-returns Inv-loop μ-loop
 returns c =
     let l = c .before in
-    let e : l .loop .b ≡ 16 = omega arith in
+    let e : l .loop .b ≡ sixteen .symbols = omega arith in
     rw e at (l .loop .inv .1)
 
 pub column-sum-spec : {M : Type 1} → statement M

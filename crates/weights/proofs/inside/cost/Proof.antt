@@ -7,14 +7,15 @@ use Rattle.definitions.specs.Tools.{sum}
 use Rattle.weights.specs.Matrix.{columnCost}
 use native.Mathlib.Omega.{arith}
 use borrow.Author.Needs.{needs}
+use Rattle.definitions.specs.Field.{sixteen}
 use Rattle.weights.proofs.inside.cost.Statement.{statement}
 use Rattle.weights.proofs.inside.cost.Tie as tie
 
 abbrev Inv-loop : tie.InvT-loop
-Inv-loop matrix total₀ i₀ total i = (i ≤ 15) × (total ≡ sum i (λ (j : ℕ). columnCost (getD matrix j []))) × (total ≤ 1000000 * i)
+Inv-loop matrix total₀ i₀ total i = (i ≤ sixteen .positions) × (total ≡ sum i (λ (j : ℕ). columnCost (getD matrix j []))) × (total ≤ 1000000 * i)
 
 abbrev μ-loop : tie.MeasureT-loop
-μ-loop matrix total₀ i₀ total i = 15 - i
+μ-loop matrix total₀ i₀ total i = sixteen .positions - i
 
 loop-holds : tie.Need-loop-holds Inv-loop μ-loop
 loop-holds c = (omega arith, sum-none (λ (j : ℕ). columnCost (getD (c .args .matrix .now) j [])), omega arith)
@@ -47,7 +48,7 @@ loop-again c =
 returns : tie.Need-returns Inv-loop μ-loop
 returns c =
     let l = c .before in
-    let e : l .loop .i ≡ 15 = omega arith in
+    let e : l .loop .i ≡ sixteen .positions = omega arith in
     rw e at (l .loop .inv .1)
 
 pub cost-spec : {M : Type 1} → statement M

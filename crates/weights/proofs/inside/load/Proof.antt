@@ -1,8 +1,7 @@
 use mathlib.Core.Path.{_≡_, refl, sym, _∙_, ap}
 use Prim.Native.Nat.{ℕ, suc, _+_, _*_, _-_, _≤_, _<_}
-use lib.ListN.{replicate}
 use Rattle.weights.proofs.Laws.{none-loaded, column-more}
-use Rattle.weights.specs.Matrix.{matrixOf}
+use Rattle.weights.specs.Matrix.{zeroColumns, matrixOf}
 use native.Mathlib.Omega.{arith}
 use Rattle.weights.proofs.inside.load.Statement.{statement}
 use Rattle.weights.proofs.inside.load.Tie as tie
@@ -35,7 +34,7 @@ loop-again : tie.Need-loop-again Inv-loop μ-loop
 loop-again c =
     let l = c .before .before in
     let s = l .before .before in
-    (omega arith, column-more (s .args .matrix .now) (replicate 15 (replicate 16 0)) (l .loop .columns) (l .loop .i) (c .column .result) (omega arith) (l .loop .inv .1) (c .column .ensures))
+    (omega arith, column-more (s .args .matrix .now) zeroColumns (l .loop .columns) (l .loop .i) (c .column .result) (omega arith) (l .loop .inv .1) (c .column .ensures))
 
 returns : tie.Need-returns Inv-loop μ-loop
 returns c =
