@@ -42,6 +42,14 @@ none-left (refusedAt number place) = refl
 pub all-tried : {table : List Line} {o : Outcome} → Came table [] o → o ≡ tried table refusedAt passed
 all-tried {o = o} came = none-left o ∙ so-far came
 
+-- so a check that promises what a table gives has tried it
+onto : (table rest : List Line) (o : Outcome) → Came table rest o → Came table [] (onward rest o)
+onto table [] o came = subst (Came table []) (none-left o) came
+onto table (l ∷ rest) o came = subst (Came table []) (onward-more rest l o) (onto table rest (orLine o l) (came ▸ refl))
+
+pub has-tried : (table : List Line) {o : Outcome} → o ≡ tried table refusedAt passed → Came table [] o
+has-tried table e = subst (Came table []) (sym e) (onto table table passed start)
+
 -- what a table gives: none of its lines, or the first that is given
 abbrev pub Verdict : List Line → Outcome → Type 0
 Verdict table passed = Accepts table
@@ -76,7 +84,7 @@ module _ {ℓ} {A : Type ℓ} (refuse : ℕ → ℕ → A) (accept : A) (rest : 
   front-gives (stop e) = rw e
   front-gives (pass e later) = rw e (front-gives later)
 
-  front-passes : {front : List Line} → Accepts front → tried rest refuse accept ≡ tried (front ++ rest) refuse accept
+  pub front-passes : {front : List Line} → Accepts front → tried rest refuse accept ≡ tried (front ++ rest) refuse accept
   front-passes end = refl
   front-passes (next e later) = rw e (front-passes later)
 
@@ -88,10 +96,13 @@ module _ {front : List Line} {c : Checked} (came : Came front [] (toldChecked c)
   pub accepted : c ≡ Passed → Accepts front
   accepted e = verdict Passed e
 
+  pub given : {r : Refusal} → c ≡ Refused r → Gives front (toldRefusal r .number) (toldRefusal r .place)
+  given {r} e = verdict (Refused r) e
+
   -- whatever is made of a refusal: the memory that is left
   pub stops {ℓ} : {A : Type ℓ} (rest : List Line) (refuse : ℕ → ℕ → A) (accept : A) {r : Refusal} → c ≡ Refused r
       → refuse (toldRefusal r .number) (toldRefusal r .place) ≡ tried (front ++ rest) refuse accept
-  stops rest refuse accept {r} e = front-gives refuse accept rest (verdict (Refused r) e)
+  stops rest refuse accept {r} e = front-gives refuse accept rest (given e)
 
   -- the answer
   pub answers : (rest : List Line) (accept : Answer) {r : Refusal} → c ≡ Refused r → toldRefusal r ≡ tried (front ++ rest) refused accept

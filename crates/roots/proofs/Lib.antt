@@ -2,4 +2,3 @@ pub mod Zero
 pub mod Loading
 pub mod Rows
 pub mod Found
-pub mod Order

@@ -3,40 +3,42 @@ ghost use mathlib.Core.Path.{_≡_};
 ghost use Rattle.refusals.specs.Counted.{toldCounted};
 ghost use Rattle.definitions.specs.Answers.{rootsAnswer, rootsOut};
 ghost use Rattle.definitions.specs.Field.{sixteen};
+ghost use Rattle.definitions.specs.Refusals.{tried, rootsTable};
+ghost use Rattle.refusals.specs.Checked.{passed, refusedAt, toldChecked};
 
 pub mod inside;
 
+use refusals::Checked;
 use refusals::Counted;
 use refusals::Refusal;
+use refusals::limits::GREATEST_COUNT;
+use refusals::limits::GREATEST_SYMBOL;
 
-pub const GREATEST_COUNT: usize = 256;
+// The lines of the table. N(D) is counted only for a degree that leaves it short.
+fn checked(degree: usize, k: usize, coefficients: &[u8], room: usize) -> Checked
+    ensures { λ r. ⌜ toldChecked r ≡ tried (rootsTable sixteen degree k (now (coefficients .entry)) room) refusedAt passed ⌝ }
+{
+    let sized = Checked::size(k).or(GREATEST_COUNT <= degree, Refusal::Setting);
+    if let Checked::Refused(r) = sized {
+        return Checked::Refused(r);
+    }
+    let v = k - 1;
+    let stated = weights::inside::count(v, degree);
+    Checked::Passed
+        .or(GREATEST_COUNT < stated, Refusal::Setting)
+        .or(coefficients.len() != stated, Refusal::Length)
+        .room(room, k, degree / v)
+        .symbols(GREATEST_SYMBOL, coefficients)
+        .or(inside::all_zero(coefficients), Refusal::Zero)
+}
 
 pub fn roots(degree: usize, k: usize, coefficients: &[u8], out: &mut [u8]) -> Counted
     ensures { λ r. ⌜ toldCounted r ≡ rootsAnswer sixteen degree k (now (coefficients .entry)) (now (out .entry)) ⌝ }
     ensures { λ _. ⌜ now (out .exit) ≡ rootsOut sixteen degree k (now (coefficients .entry)) (now (out .entry)) ⌝ }
 {
-    if !weights::inside::size_fits(k) {
-        return Counted::Refused(Refusal::Sizes);
-    }
-    if GREATEST_COUNT <= degree {
-        return Counted::Refused(Refusal::Setting);
-    }
-    let stated = weights::inside::count(k - 1, degree);
-    if GREATEST_COUNT < stated {
-        return Counted::Refused(Refusal::Setting);
-    }
-    if coefficients.len() != stated {
-        return Counted::Refused(Refusal::Length);
-    }
-    if out.len() < k * (degree / (k - 1)) {
-        return Counted::Refused(Refusal::Room);
-    }
-    let bad = code::inside::first_above(field::GREATEST_SYMBOL, coefficients);
-    if bad < coefficients.len() {
-        return Counted::Refused(Refusal::Symbol(bad));
-    }
-    if inside::all_zero(coefficients) {
-        return Counted::Refused(Refusal::Zero);
+    let checked = checked(degree, k, coefficients, out.len());
+    if let Checked::Refused(r) = checked {
+        return Counted::Refused(r);
     }
     Counted::Count(inside::roots_into(degree, k, coefficients, out))
 }

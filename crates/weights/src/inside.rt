@@ -118,6 +118,34 @@ pub fn load(matrix: &[u8], n: usize) -> [[u8; SYMBOLS]; POSITIONS]
     columns
 }
 
+fn weighed_column(level: usize, reliabilities: &[u16], i: usize) -> [u8; SYMBOLS]
+    requires { ⌜ (level ≤ greatestLevel) × (i < sixteen .positions) × (sixteen .symbols * i + sixteen .symbols ≤ length (now reliabilities)) ⌝ }
+    ensures { λ r. ⌜ r ≡ columnOf (matrix level (now (reliabilities .entry))) i ⌝ }
+{
+    let mut col = [0u8; SYMBOLS];
+    let mut b = 0;
+    while b < SYMBOLS {
+        col[b] = multiplicity_of(level, reliabilities[SYMBOLS * i + b]);
+        b += 1;
+    }
+    col
+}
+
+// The matrix of the reliabilities, by value.
+pub fn weighed(level: usize, reliabilities: &[u16], n: usize) -> [[u8; SYMBOLS]; POSITIONS]
+    requires { ⌜ (level ≤ greatestLevel) × (n ≤ sixteen .positions) × (sixteen .symbols * n ≤ length (now reliabilities)) ⌝ }
+    ensures { λ r. ⌜ r ≡ matrixOf (matrix level (now (reliabilities .entry))) n ⌝ }
+{
+    let mut columns = [[0u8; SYMBOLS]; POSITIONS];
+    let mut i = 0;
+    while i < n {
+        let col = weighed_column(level, reliabilities, i);
+        columns[i] = col;
+        i += 1;
+    }
+    columns
+}
+
 fn column_cost(col: &[u8; SYMBOLS]) -> usize
     ensures { λ r. ⌜ (r ≡ columnCost (now (col .entry))) × (r < 1000000) ⌝ }
 {

@@ -1,160 +1,81 @@
-use mathlib.Core.Path.{_≡_, sym, _∙_, ap, subst}
-use Prim.Native.Nat.{ℕ, _-_, _≤_, _<_}
+-- What the lines of the table let pass has its roots searched.
+use mathlib.Core.Bool.{false}
+use mathlib.Core.List.{List, []}
+use mathlib.Core.Path.{_≡_, _∙_, ap}
+use Prim.Native.Nat.{ℕ, _*_, _-_, _/_, _≤_}
 use native.Mathlib.Omega.{arith}
-use borrow.Author.Tests.{not-true, not-false}
 use lib.ListN.{length}
-use Rattle.code.proofs.Order.{all-symbols}
-use Rattle.definitions.proofs.Bound.{count-above}
-use Rattle.definitions.proofs.Table.{accepts, size-means}
+use Rattle.definitions.proofs.Table.{Accepts, next, end, size-means, degree-means, entries-mean, room-means, symbols-mean}
 use Rattle.definitions.specs.Answers.{refused, counted}
 use Rattle.definitions.specs.Bound.{count}
+use Rattle.definitions.specs.Code.{Symbols}
 use Rattle.definitions.specs.Field.{sixteen}
-use Rattle.definitions.specs.Refusals.{firstAbove}
-use Rattle.definitions.specs.Roots.{rootsOf}
-use Rattle.roots.proofs.Found.{room-fits}
-use Rattle.roots.proofs.Order.{refuses, at-size, at-degree, at-length, at-room, at-symbol, at-zero, accepted}
+use Rattle.definitions.specs.Limits.{greatestCount}
+use Rattle.definitions.specs.Polynomial.{isZero}
+use Rattle.definitions.specs.Refusals.{rootsTable}
+use Rattle.refusals.proofs.Chain.{Came, has-tried, accepted, answers, stops, goes-on}
+use Rattle.refusals.specs.Checked.{toldChecked}
 use borrow.Author.Needs.{needs}
 use Rattle.roots.proofs.roots.Statement.{statement}
 use Rattle.roots.proofs.roots.Tie as tie
 
-size-fits-requires : tie.Need-size-fits-requires
-size-fits-requires c κs = search needs
+module _ (D k : ℕ) (q : List ℕ) (room : ℕ) where
+  record Fit : Type 0 where
+    sized : (2 ≤ k) × (k ≤ sixteen .positions)
+    few : count (k - 1) D ≤ greatestCount
+    full : length q ≡ count (k - 1) D
+    spacious : k * (D / (k - 1)) ≤ room
+    symbols : Symbols sixteen q
+    nonzero : isZero q ≡ false
+
+  fits : Accepts (rootsTable sixteen D k q room) → Fit
+  fits (next s (next d (next e (next r (next a (next z end)))))) = record {
+    sized = size-means sixteen k s;
+    few = degree-means (k - 1) D d;
+    full = entries-mean (count (k - 1) D) q e;
+    spacious = room-means (k * (D / (k - 1))) room r;
+    symbols = symbols-mean sixteen (omega arith) q a;
+    nonzero = z;
+  }
+
+abbrev entry : tie.After-checked → tie.Start
+entry c = c .before .before .before
+
+came : (c : tie.After-checked)
+    → (let a = entry c .args in Came (rootsTable sixteen (a .degree) (a .k) (a .coefficients .now) (length (a .out .now))) [] (toldChecked (c .checked .result)))
+came c = has-tried _ (c .checked .ensures)
 
 returns : tie.Need-returns
 returns c =
-    let s = c .before .before .before .before in
-    refuses (s .args .degree) (s .args .k) (s .args .coefficients .now) (s .args .out .now) (at-size (s .args .degree) (s .args .k) (s .args .coefficients .now) (s .args .out .now) (sym (c .before .size-fits .ensures) ∙ not-true _ (c .if1 .taken)))
-
-returns-2 : tie.Need-returns-2
-returns-2 c =
-    let s = c .before .before .before .before .before in
-    let fit = sym (c .before .before .size-fits .ensures) ∙ not-false _ (c .before .if1 .left) in
-    let size = size-means sixteen (s .args .k) fit in
-    let above = count-above (s .args .k - 1) (omega arith) (s .args .degree) in
-    refuses (s .args .degree) (s .args .k) (s .args .coefficients .now) (s .args .out .now) (at-degree (s .args .degree) (s .args .k) (s .args .coefficients .now) (s .args .out .now) fit (omega arith))
-
-sub-count : tie.Need-sub-count
-sub-count c =
-    let size = size-means sixteen (c .before .before .before .before .before .args .k) (sym (c .before .before .size-fits .ensures) ∙ not-false _ (c .before .if1 .left)) in
-    omega arith
-
-count-requires : tie.Need-count-requires
-count-requires c κs =
-    let size = size-means sixteen (c .before .before .before .before .before .args .k) (sym (c .before .before .size-fits .ensures) ∙ not-false _ (c .before .if1 .left)) in
-    omega arith
-
-returns-3 : tie.Need-returns-3
-returns-3 c =
-    let s = c .before .before .before .before .before .before .before in
-    let fit = sym (c .before .before .before .before .size-fits .ensures) ∙ not-false _ (c .before .before .before .if1 .left) in
-    let many : 256 < count (s .args .k - 1) (s .args .degree) = subst (λ (n : ℕ). 256 < n) (c .before .count .ensures) (c .if3 .taken) in
-    refuses (s .args .degree) (s .args .k) (s .args .coefficients .now) (s .args .out .now) (at-degree (s .args .degree) (s .args .k) (s .args .coefficients .now) (s .args .out .now) fit many)
-
-returns-4 : tie.Need-returns-4
-returns-4 c =
-    let s = c .before .before .before .before .before .before .before .before in
-    let fit = sym (c .before .before .before .before .before .size-fits .ensures) ∙ not-false _ (c .before .before .before .before .if1 .left) in
-    let few : count (s .args .k - 1) (s .args .degree) ≤ 256 = subst (λ (n : ℕ). n ≤ 256) (c .before .before .count .ensures) (c .before .if3 .left) in
-    refuses (s .args .degree) (s .args .k) (s .args .coefficients .now) (s .args .out .now) (at-length (s .args .degree) (s .args .k) (s .args .coefficients .now) (s .args .out .now) fit few (λ e. c .if4 .taken (e ∙ sym (c .before .before .count .ensures))))
-
-sub-if5 : tie.Need-sub-if5
-sub-if5 c =
-    let s = c .before .before .before .before .before .before .before .before in
-    let size = size-means sixteen (s .args .k) (sym (c .before .before .before .before .before .size-fits .ensures) ∙ not-false _ (c .before .before .before .before .if1 .left)) in
-    omega arith
-
-div-if5 : tie.Need-div-if5
-div-if5 c =
-    let s = c .before .before .before .before .before .before .before .before in
-    let size = size-means sixteen (s .args .k) (sym (c .before .before .before .before .before .size-fits .ensures) ∙ not-false _ (c .before .before .before .before .if1 .left)) in
-    omega arith
-
-mul-if5 : tie.Need-mul-if5
-mul-if5 c =
-    let s = c .before .before .before .before .before .before .before .before in
-    let size = size-means sixteen (s .args .k) (sym (c .before .before .before .before .before .size-fits .ensures) ∙ not-false _ (c .before .before .before .before .if1 .left)) in
-    let few : count (s .args .k - 1) (s .args .degree) ≤ 256 = subst (λ (n : ℕ). n ≤ 256) (c .before .before .count .ensures) (c .before .if3 .left) in
-    let room = room-fits (s .args .k) (s .args .degree) (size .0) (size .1) few in
-    omega arith
-
-returns-5 : tie.Need-returns-5
-returns-5 c =
-    let s = c .before .before .before .before .before .before .before .before .before in
-    let fit = sym (c .before .before .before .before .before .before .size-fits .ensures) ∙ not-false _ (c .before .before .before .before .before .if1 .left) in
-    let few : count (s .args .k - 1) (s .args .degree) ≤ 256 = subst (λ (n : ℕ). n ≤ 256) (c .before .before .before .count .ensures) (c .before .before .if3 .left) in
-    let full : length (s .args .coefficients .now) ≡ count (s .args .k - 1) (s .args .degree) = c .before .if4 .left ∙ c .before .before .before .count .ensures in
-    refuses (s .args .degree) (s .args .k) (s .args .coefficients .now) (s .args .out .now) (at-room (s .args .degree) (s .args .k) (s .args .coefficients .now) (s .args .out .now) fit few full (c .if5 .taken))
-
-first-above-requires : tie.Need-first-above-requires
-first-above-requires c κs = search needs
-
-returns-6 : tie.Need-returns-6
-returns-6 c =
-    let s = c .before .before .before .before .before .before .before .before .before .before .before in
-    let fit = sym (c .before .before .before .before .before .before .before .before .size-fits .ensures) ∙ not-false _ (c .before .before .before .before .before .before .before .if1 .left) in
-    let few : count (s .args .k - 1) (s .args .degree) ≤ 256 = subst (λ (n : ℕ). n ≤ 256) (c .before .before .before .before .before .count .ensures) (c .before .before .before .before .if3 .left) in
-    let full : length (s .args .coefficients .now) ≡ count (s .args .k - 1) (s .args .degree) = c .before .before .before .if4 .left ∙ c .before .before .before .before .before .count .ensures in
-    let bad : firstAbove 15 (s .args .coefficients .now) < length (s .args .coefficients .now) = subst (λ (n : ℕ). n < length (s .args .coefficients .now)) (c .before .first-above .ensures) (c .if6 .taken) in
-    let r = refuses (s .args .degree) (s .args .k) (s .args .coefficients .now) (s .args .out .now) (at-symbol (s .args .degree) (s .args .k) (s .args .coefficients .now) (s .args .out .now) fit few full (c .before .before .if5 .left) bad) in
-    (ap (refused 5) (c .before .first-above .ensures) ∙ r .0, r .1)
-
-all-zero-requires : tie.Need-all-zero-requires
-all-zero-requires c κs = search needs
-
-returns-7 : tie.Need-returns-7
-returns-7 c =
-    let s = c .before .before .before .before .before .before .before .before .before .before .before .before .before in
-    let fit = sym (c .before .before .before .before .before .before .before .before .before .before .size-fits .ensures) ∙ not-false _ (c .before .before .before .before .before .before .before .before .before .if1 .left) in
-    let few : count (s .args .k - 1) (s .args .degree) ≤ 256 = subst (λ (n : ℕ). n ≤ 256) (c .before .before .before .before .before .before .before .count .ensures) (c .before .before .before .before .before .before .if3 .left) in
-    let full : length (s .args .coefficients .now) ≡ count (s .args .k - 1) (s .args .degree) = c .before .before .before .before .before .if4 .left ∙ c .before .before .before .before .before .before .before .count .ensures in
-    let good : length (s .args .coefficients .now) ≤ firstAbove 15 (s .args .coefficients .now) = subst (λ (n : ℕ). length (s .args .coefficients .now) ≤ n) (c .before .before .before .first-above .ensures) (c .before .before .if6 .left) in
-    refuses (s .args .degree) (s .args .k) (s .args .coefficients .now) (s .args .out .now) (at-zero (s .args .degree) (s .args .k) (s .args .coefficients .now) (s .args .out .now) fit few full (c .before .before .before .before .if5 .left) good (sym (c .before .all-zero .ensures) ∙ c .if7 .taken))
+    let w = c .before .before .before in
+    (answers (came w) [] _ (c .before .checked2 .given .1), stops (came w) [] (λ _ _. entry w .args .out .now) _ (c .before .checked2 .given .1))
 
 roots-into-requires : tie.Need-roots-into-requires
 roots-into-requires c κs =
-    let s = c .before .before .before .before .before .before .before .before .before .before .before .before .before .before in
-    let fit = sym (c .before .before .before .before .before .before .before .before .before .before .before .size-fits .ensures) ∙ not-false _ (c .before .before .before .before .before .before .before .before .before .before .if1 .left) in
-    let few : count (s .args .k - 1) (s .args .degree) ≤ 256 = subst (λ (n : ℕ). n ≤ 256) (c .before .before .before .before .before .before .before .before .count .ensures) (c .before .before .before .before .before .before .before .if3 .left) in
-    let full : length (s .args .coefficients .now) ≡ count (s .args .k - 1) (s .args .degree) = c .before .before .before .before .before .before .if4 .left ∙ c .before .before .before .before .before .before .before .before .count .ensures in
-    let size = size-means sixteen (s .args .k) fit in
-    let good : length (s .args .coefficients .now) ≤ firstAbove 15 (s .args .coefficients .now) = subst (λ (n : ℕ). length (s .args .coefficients .now) ≤ n) (c .before .before .before .before .first-above .ensures) (c .before .before .before .if6 .left) in
-    ((size .0, size .1, few), ((full, c .before .before .before .before .before .if5 .left), (all-symbols (s .args .coefficients .now) good, sym (c .before .before .all-zero .ensures) ∙ c .before .if7 .left)))
+    let t = c .before in
+    let w = t .before .before in
+    let a = entry w .args in
+    let f = fits (a .degree) (a .k) (a .coefficients .now) (length (a .out .now)) (accepted (came w) (t .enum-told .given .1)) in
+    ((f .sized .0, f .sized .1, f .few), ((f .full, f .spacious), (f .symbols, f .nonzero)))
 
-same-length : tie.Need-same-length
-same-length c = search needs
-
-returns-8 : tie.Need-returns-8
-returns-8 c =
-    let s = c .before .before .before .before .before .before .before .before .before .before .before .before .before .before .before .before .before in
-    let fit = sym (c .before .before .before .before .before .before .before .before .before .before .before .before .before .before .size-fits .ensures) ∙ not-false _ (c .before .before .before .before .before .before .before .before .before .before .before .before .before .if1 .left) in
-    let few : count (s .args .k - 1) (s .args .degree) ≤ 256 = subst (λ (n : ℕ). n ≤ 256) (c .before .before .before .before .before .before .before .before .before .before .before .count .ensures) (c .before .before .before .before .before .before .before .before .before .before .if3 .left) in
-    let full : length (s .args .coefficients .now) ≡ count (s .args .k - 1) (s .args .degree) = c .before .before .before .before .before .before .before .before .before .if4 .left ∙ c .before .before .before .before .before .before .before .before .before .before .before .count .ensures in
-    let good : length (s .args .coefficients .now) ≤ firstAbove 15 (s .args .coefficients .now) = subst (λ (n : ℕ). length (s .args .coefficients .now) ≤ n) (c .before .before .before .before .before .before .before .first-above .ensures) (c .before .before .before .before .before .before .if6 .left) in
-    let a = accepted (s .args .degree) (s .args .k) (s .args .coefficients .now) (s .args .out .now) fit few full (c .before .before .before .before .before .before .before .before .if5 .left) good (sym (c .before .before .before .before .before .all-zero .ensures) ∙ c .before .before .before .before .if7 .left) in
-    let r = c .before .before .roots-into in (
-      ap counted (r .ensures .0) ∙ accepts refused (counted (length (rootsOf sixteen (s .args .degree) (s .args .k) (s .args .coefficients .now)))) a,
-      r .ensures .1 ∙ accepts (λ _ _. s .args .out .now) _ a,
+returns-2 : tie.Need-returns-2
+returns-2 c =
+    let r = c .before .before in
+    let t = r .before .before in
+    let w = t .before .before in
+    let passed = t .enum-told .given .1 in (
+      ap counted (r .roots-into .ensures .0) ∙ goes-on (came w) [] refused _ passed,
+      r .roots-into .ensures .1 ∙ goes-on (came w) [] (λ _ _. entry w .args .out .now) _ passed,
     )
 
 pub roots-spec : {M : Type 1} → statement M
 roots-spec =
     tie.close
     (tie.spec
-    size-fits-requires
+    (λ c κs. search needs)
+    (λ c. search needs)
     returns
-    returns-2
-    sub-count
-    count-requires
-    returns-3
-    returns-4
-    sub-if5
-    div-if5
-    mul-if5
-    returns-5
-    first-above-requires
-    returns-6
-    all-zero-requires
-    returns-7
+    (λ c. search needs)
     roots-into-requires
-    same-length
-    returns-8)
+    (λ c. search needs)
+    returns-2)
