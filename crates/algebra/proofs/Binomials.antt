@@ -7,11 +7,12 @@ use native.Mathlib.Decide.{decLt}
 use native.Mathlib.Nat.{le-of-suc-le-suc, not-suc-le-zero}
 use native.Mathlib.Omega.{arith}
 use lib.ListN.{getD}
+use Rattle.definitions.proofs.Codeword.{power-suc}
 use Rattle.definitions.specs.Field.{Ops, power}
 use Rattle.definitions.specs.Polynomial.{binomial, modulo2, derivative}
 use Rattle.definitions.specs.Roots.{times, powers}
 use Rattle.algebra.specs.Ring.{Ring}
-use Rattle.algebra.proofs.Polynomials.{power-suc, coefficient-plus, coefficient-scaled}
+use Rattle.algebra.proofs.Polynomials.{coefficient-plus, coefficient-scaled}
 use Rattle.algebra.proofs.RingLaws.{ring, plus-zero, zero-plus, plus-self, times-one, zero-times}
 use Rattle.algebra.proofs.Series.{Series, linear, constant, linear-mul-zero, linear-mul-suc}
 

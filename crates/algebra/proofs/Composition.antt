@@ -5,13 +5,14 @@ use mathlib.Core.Path.{_≡_}
 use Prim.Native.Nat.{ℕ, suc, _+_, _*_, _≤_}
 use native.Mathlib.Omega.{arith}
 use lib.ListN.{length}
+use Rattle.definitions.proofs.Codeword.{value-nil, value-cons}
 use Rattle.definitions.specs.Field.{Ops, power}
 use Rattle.definitions.specs.Polynomial.{Term}
 use Rattle.definitions.specs.Roots.{scaled, times, powers, compose}
 use Rattle.algebra.specs.Ring.{Ring, Hom}
 use Rattle.algebra.proofs.Carry.{carried}
 use Rattle.algebra.proofs.Evaluation.{evaluate, evaluate-sum, evaluate-multiple, evaluate-product, evaluate-power}
-use Rattle.algebra.proofs.Polynomials.{value-nil, value-cons, length-plus, length-scaled, length-times, length-powers}
+use Rattle.algebra.proofs.Polynomials.{length-plus, length-scaled, length-times, length-powers}
 use Rattle.algebra.proofs.RingLaws.{ring, times-assoc}
 use Rattle.algebra.proofs.Every.{All}
 

@@ -9,6 +9,7 @@ use lib.Dec.{T, eqb, eqb→eq}
 use Rattle.definitions.proofs.Tools.{smallest-found}
 use Rattle.definitions.specs.Field.{Ops, Code, inverseOf}
 use Rattle.algebra.specs.FieldOf.{FieldOf}
+use Rattle.algebra.proofs.RingLaws.{times-comm, times-zero}
 
 module _ (C : Code) (F : FieldOf C) where
   -- the operations on elements
@@ -39,6 +40,14 @@ module _ (C : Code) (F : FieldOf C) where
   pub element-one : F .element 1 ≡ F .ring .ops .i
   element-one = ap (F .element) (sym (F .number .φ-one)) ∙ F .element-number (G .i)
 
+  -- symbols with the same element are equal
+  pub symbol-injective : (a b : ℕ) → a < C .symbols → b < C .symbols → F .element a ≡ F .element b → a ≡ b
+  symbol-injective a b ha hb e = sym (F .number-element a ha) ∙ ap φ e ∙ F .number-element b hb
+
+  -- a symbol whose element is zero is 0
+  pub zero-element : (a : ℕ) → a < C .symbols → F .element a ≡ F .ring .ops .o → a ≡ 0
+  zero-element a h e = symbol-injective a 0 h zero-symbol (e ∙ sym element-zero)
+
   module _ (a b : ℕ) (ha : a < C .symbols) (hb : b < C .symbols) where
     -- the number of a sum of elements
     number-plus : φ (G .add (F .element a) (F .element b)) ≡ C .plus a b
@@ -64,9 +73,19 @@ module _ (C : Code) (F : FieldOf C) where
     pub element-times : F .element (C .times a b) ≡ F .ring .ops .mul (F .element a) (F .element b)
     element-times = ap (F .element) (sym number-times) ∙ F .element-number (G .mul (F .element a) (F .element b))
 
-  -- the order of a product does not matter
-  pub times-either : (a b : ℕ) → a < C .symbols → b < C .symbols → C .times a b ≡ C .times b a
-  times-either a b ha hb = sym (number-times a b ha hb) ∙ ap φ (F .ring .mul-comm (F .element a) (F .element b)) ∙ number-times b a hb ha
+  -- the product of symbols is commutative
+  pub times-turned : (a b : ℕ) → a < C .symbols → b < C .symbols → C .times a b ≡ C .times b a
+  times-turned a b ha hb = sym (number-times a b ha hb) ∙ ap φ (times-comm (F .ring) (F .element a) (F .element b)) ∙ number-times b a hb ha
+
+  -- a product with 0 is 0
+  pub times-none : (a : ℕ) → a < C .symbols → C .times a 0 ≡ 0
+  times-none a h =
+      sym (number-times a 0 h zero-symbol) ∙ ap (λ (x : G .K). φ (G .mul (F .element a) x)) element-zero ∙ ap φ (times-zero (F .ring) (F .element a))
+      ∙ F .number .φ-zero
+
+  -- on both sides
+  pub none-times : (a : ℕ) → a < C .symbols → C .times 0 a ≡ 0
+  none-times a h = times-turned 0 a zero-symbol h ∙ times-none a h
 
   module _ (a : ℕ) (ha : a < C .symbols) (n : a ≢ 0) where
     -- the inverse in the field, as a number
@@ -78,7 +97,7 @@ module _ (C : Code) (F : FieldOf C) where
     unfolding inverse
     inverse-passes = ap (λ (c : ℕ). eqb c 1)
         (ap (λ (b : ℕ). C .times b inverse) (sym (F .number-element a ha)) ∙ sym (F .number .φ-mul (F .element a) (F .field .inverse (F .element a)))
-        ∙ ap φ (F .field .mul-inverse (F .element a) (λ e. n (sym (F .number-element a ha) ∙ ap φ e ∙ F .number .φ-zero))) ∙ F .number .φ-one)
+        ∙ ap φ (F .field .mul-inverse (F .element a) (λ e. n (zero-element a ha e))) ∙ F .number .φ-one)
 
     -- so a symbol is found
     pub inverse-symbol : inverseOf C a < C .symbols

@@ -1,8 +1,12 @@
 -- What holds of every entry of a list.
 -- Assumes nothing.
-use mathlib.Core.List.{List, [], _∷_, _++_, map, flatMap}
-use Prim.Native.Nat.{ℕ, zero, suc, _<_}
+use mathlib.Core.List.{List, [], _∷_, _++_, map, flatMap, flatten, List·Memᴰ, List·Memᴰ·head, List·Memᴰ·tail, List·Memᴰ·cases-cons, List·Memᴰ·not-nil}
+use mathlib.Core.Logic.{⊎-elim}
+use mathlib.Core.Path.{_≡_, refl, sym, _∙_, subst}
+use Prim.Native.Nat.{ℕ, zero, suc, _*_, _<_}
+use native.Mathlib.Nat.{mul-zero, mul-suc}
 use native.Mathlib.Omega.{arith}
+use lib.ListN.{length, length-append}
 use Rattle.definitions.specs.Tools.{below}
 
 module _ {B : Type 0} (P : B → Type 0) where
@@ -15,6 +19,16 @@ module _ {B : Type 0} (P : B → Type 0) where
   pub all-append : (k l : List B) → All k → All l → All (k ++ l)
   all-append [] l p q = q
   all-append (b ∷ k) l p q = (p .0, all-append k l (p .1) q)
+
+  -- what holds of every member holds of all
+  pub all-members : (l : List B) → ((x : B) → List·Memᴰ x l → P x) → All l
+  all-members [] h = tt
+  all-members (b ∷ l) h = (h b (List·Memᴰ·head refl), all-members l (λ y m. h y (List·Memᴰ·tail m)))
+
+  -- and the other way round
+  pub all-member : (l : List B) → All l → (x : B) → List·Memᴰ x l → P x
+  all-member [] p x m = absurd (List·Memᴰ·not-nil m)
+  all-member (b ∷ l) p x m = ⊎-elim (λ e. subst P (sym e) (p .0)) (λ t. all-member l (p .1) x t) (List·Memᴰ·cases-cons m)
 
 module _ {B D : Type 0} (P : D → Type 0) where
   -- of the images of a list
@@ -33,3 +47,13 @@ pub all-below : (P : ℕ → Type 0) (n : ℕ) → ((j : ℕ) → j < n → P j)
 unfolding below
 all-below P zero h = tt
 all-below P (suc n) h = all-append P (below n) (n ∷ []) (all-below P n (λ j k. h j (omega arith))) (h n (omega arith), tt)
+
+-- lists of k entries each, joined, have k times as many entries
+pub length-flatten : {B : Type 0} (k : ℕ) (rows : List (List B)) → All (λ f. length f ≡ k) rows → length (flatten rows) ≡ k * length rows
+unfolding flatten
+length-flatten k [] s = sym (mul-zero k)
+length-flatten k (f ∷ rows) s =
+    let e = s .0 in
+    let r = length-flatten k rows (s .1) in
+    let g = mul-suc k (length rows) in
+    length-append f (flatten rows) ∙ omega arith

@@ -13,7 +13,7 @@ use Rattle.definitions.specs.Code.{point}
 use Rattle.definitions.specs.Field.{Code, codeOf, sumOf, double, shifted, productOf, inverseOf}
 use Rattle.algebra.specs.FieldOf.{FieldOf}
 use Rattle.algebra.specs.Ring.{Ring, IsField}
-use Rattle.algebra.proofs.Sums.{sum-assoc, sum-comm, sum-zero, zero-sum, sum-self, sum-lt, sums}
+use Rattle.algebra.proofs.Sums.{sum-assoc, sum-comm, sum-neutral, zero-sum, sum-self, sum-lt, sums}
 use Rattle.algebra.proofs.Tests.{every, everyPair, every-at, everyPair-at, other-passes}
 
 module _ (w modulus : ℕ) where
@@ -33,7 +33,7 @@ module _ (w modulus : ℕ) where
   -- choosing keeps sums
   cond-sum : (t : Bool) (b c : ℕ) → cond t (sumOf b c) 0 ≡ sumOf (cond t b 0) (cond t c 0)
   cond-sum true b c = refl
-  cond-sum false b c = sym (sum-zero 0)
+  cond-sum false b c = sym (sum-neutral 0)
 
   -- for the chosen bit
   chosen-sum : (a b c : ℕ) → chosen a (sumOf b c) ≡ sumOf (chosen a b) (chosen a c)
@@ -124,7 +124,7 @@ module _ (w modulus : ℕ) where
       shifted-sum : (n a b c : ℕ) → b < 2 ^ w → c < 2 ^ w
           → shifted w modulus n a (sumOf b c) ≡ sumOf (shifted w modulus n a b) (shifted w modulus n a c)
       unfolding shifted
-      shifted-sum zero a b c hb hc = sym (sum-zero 0)
+      shifted-sum zero a b c hb hc = sym (sum-neutral 0)
       shifted-sum (suc n) a b c hb hc = sum-step n a b c hb hc (shifted-sum n (a / 2) (d b) (d c) (double-lt b hb) (double-lt c hc))
 
       -- so on the left
@@ -192,7 +192,7 @@ module _ (w modulus : ℕ) where
       -- zero is neutral
       addE-zero : (x : Fin (2 ^ w)) → addE x zeroE ≡ x
       unfolding addE zeroE
-      addE-zero x = Fin·val-path (sum-zero (x .0))
+      addE-zero x = Fin·val-path (sum-neutral (x .0))
 
       -- the characteristic is 2
       addE-self : (x : Fin (2 ^ w)) → addE x x ≡ zeroE

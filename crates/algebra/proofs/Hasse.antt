@@ -5,6 +5,7 @@ use mathlib.Core.List.{List, [], _∷_, map}
 use mathlib.Core.Path.{_≡_, sym, _∙_, ap, ap₂}
 use Prim.Native.Nat.{ℕ}
 use lib.ListN.{getD}
+use Rattle.definitions.proofs.Codeword.{value-nil, value-cons}
 use Rattle.definitions.specs.Field.{Ops, power, value}
 use Rattle.definitions.specs.Polynomial.{Term, derivative, hasse}
 use Rattle.definitions.specs.Roots.{plus, scaled, powers}
@@ -12,7 +13,7 @@ use Rattle.algebra.specs.Ring.{Ring}
 use Rattle.algebra.proofs.Binomials.{derivative-is-coefficient, derivative-in-series}
 use Rattle.algebra.proofs.Carry.{carried, carry-derivative}
 use Rattle.algebra.proofs.Composition.{valueAt}
-use Rattle.algebra.proofs.Polynomials.{value-nil, value-cons, value-plus, value-scaled, value-powers, coefficient-plus, coefficient-scaled}
+use Rattle.algebra.proofs.Polynomials.{value-plus, value-scaled, value-powers, coefficient-plus, coefficient-scaled}
 use Rattle.algebra.proofs.RingLaws.{ring, times-comm}
 use Rattle.algebra.proofs.Series.{Series, mulS, constant, constants, linear, addS-at, zeroS-at, constant-mul, mulS-comm}
 

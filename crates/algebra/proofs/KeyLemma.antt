@@ -6,6 +6,7 @@ use Prim.Native.Nat.{ℕ, zero, suc, _+_, _<_}
 use native.Mathlib.Nat.{not-suc-le-zero}
 use native.Mathlib.Omega.{arith}
 use lib.ListN.{getD}
+use Rattle.definitions.proofs.Codeword.{value-nil, value-cons}
 use Rattle.definitions.specs.Field.{Ops, value}
 use Rattle.definitions.specs.Polynomial.{Term, Passes}
 use Rattle.definitions.specs.Roots.{compose}
@@ -13,7 +14,6 @@ use Rattle.algebra.specs.Ring.{Ring}
 use Rattle.algebra.proofs.Composition.{valueAt, evaluate-compose}
 use Rattle.algebra.proofs.Evaluation.{evaluate}
 use Rattle.algebra.proofs.Hasse.{around, value-around, inSeries, hasse-is-coefficient}
-use Rattle.algebra.proofs.Polynomials.{value-nil, value-cons}
 use Rattle.algebra.proofs.RingLaws.{ring, plus-self, plus-self-left}
 use Rattle.algebra.proofs.Series.{Series, addS, constant, constants, linear, Order, addS-at, zeroS-at, constant-zero, order-mul-suc}
 use Rattle.algebra.proofs.Taylor.{taylor, taylor-zero}

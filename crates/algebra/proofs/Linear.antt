@@ -1,14 +1,14 @@
--- A Hasse condition is linear in the coefficients: a row times the coefficients. So the lists of coefficients that pass are closed under sums
--- and multiples.
+-- A Hasse condition is linear in the coefficients: a row times the coefficients. So the lists of coefficients that pass are closed under sums.
 -- Assumes nothing.
 use mathlib.Core.List.{List, [], _∷_}
 use mathlib.Core.Path.{_≡_, refl, sym, _∙_, ap, ap₂}
-use Prim.Native.Nat.{ℕ, zero, suc, _<_}
+use Prim.Native.Nat.{ℕ, zero, suc, _≤_, _<_}
+use native.Mathlib.Decide.{ℕ-discrete}
 use native.Mathlib.Omega.{arith}
 use lib.ListN.{length, getD}
 use Rattle.definitions.specs.Field.{Ops}
 use Rattle.definitions.specs.Polynomial.{Term, terms, derivative, hasse, Passes}
-use Rattle.definitions.specs.Roots.{plus, scaled}
+use Rattle.definitions.specs.Roots.{plus}
 use Rattle.algebra.specs.Ring.{Ring, Hom}
 use Rattle.algebra.proofs.Carry.{carry-derivative}
 use Rattle.algebra.proofs.RingLaws.{ring, plus-assoc, plus-comm, plus-zero, times-zero}
@@ -27,6 +27,22 @@ module _ (A : Ops) where
   pub dot-none : (r q : ℕ → K) → dot zero r q ≡ o
   unfolding dot
   dot-none r q = refl
+
+  -- one entry more
+  pub dot-suc : (n : ℕ) (r q : ℕ → K) → dot (suc n) r q ≡ dot n r q ⊕ r n ⊗ q n
+  unfolding dot
+  dot-suc n r q = refl
+
+  -- products that are zero from j on add nothing
+  pub dot-ended : ((x : K) → x ⊕ o ≡ x) → (n j : ℕ) (r q : ℕ → K) → j ≤ n → ((k : ℕ) → j ≤ k → k < n → r k ⊗ q k ≡ o) → dot n r q ≡ dot j r q
+  dot-ended neutral zero j r q h e = let z : j ≡ zero = omega arith in ap (λ (x : ℕ). dot x r q) (sym z)
+  dot-ended neutral (suc n) j r q h e =
+      elim (ℕ-discrete j (suc n)) [
+        | yes d ↦ ap (λ (x : ℕ). dot x r q) (sym d)
+        | no d ↦
+            dot-suc n r q ∙ ap (λ (x : K). dot n r q ⊕ x) (e n (omega arith) (omega arith)) ∙ neutral (dot n r q)
+            ∙ dot-ended neutral n j r q (omega arith) (λ k l f. e k l (omega arith))
+      ]
 
   -- the row of the condition of order (s, t) at (x, y): its entry at each monomial
   abbrev pub row : List (ℕ × ℕ) → ℕ → ℕ → K → K → ℕ → K
@@ -81,12 +97,6 @@ module _ (A : Ring) where
       ap (λ (z : K). z ⊕ r (suc n) ⊗ q (suc n)) (dot-first n r q)
       ∙ plus-assoc A (r zero ⊗ q zero) (dot (A .ops) n (λ k. r (suc k)) (λ k. q (suc k))) (r (suc n) ⊗ q (suc n))
 
-  -- a row times the vector of zeros
-  dot-zeros : (n : ℕ) (r : ℕ → K) → dot (A .ops) n r (λ k. o) ≡ o
-  unfolding dot
-  dot-zeros zero r = refl
-  dot-zeros (suc n) r = ap₂ _⊕_ (dot-zeros n r) (times-zero A (r n)) ∙ plus-zero A o
-
   -- the coefficient behind its entry
   turn : (c d e z : K) → c ⊗ d ⊗ e ⊕ z ≡ d ⊗ e ⊗ c ⊕ z
   turn c d e z = simp ring
@@ -95,7 +105,10 @@ module _ (A : Ring) where
   pub hasse-is-dot : (l : List (ℕ × ℕ)) (q : List K) (s t : ℕ) (x y : K)
       → hasse (A .ops) (terms (A .ops) q l) s t x y ≡ dot (A .ops) (length l) (row (A .ops) l s t x y) (λ k. getD q k o)
   unfolding terms
-  hasse-is-dot l [] s t x y = hasse-nil (A .ops) s t x y ∙ sym (dot-zeros (length l) _)
+  hasse-is-dot l [] s t x y =
+      hasse-nil (A .ops) s t x y
+      ∙ sym (dot-ended (A .ops) (plus-zero A) (length l) 0 (row (A .ops) l s t x y) (λ k. o) (omega arith) (λ k _ _. times-zero A (row (A .ops) l s t x y k))
+      ∙ dot-none (A .ops) (row (A .ops) l s t x y) (λ k. o))
   hasse-is-dot [] (c ∷ q) s t x y = hasse-nil (A .ops) s t x y ∙ sym (dot-none (A .ops) _ _)
   hasse-is-dot (m ∷ l) (c ∷ q) s t x y =
       hasse-cons (A .ops) (c, m .0, m .1) (terms (A .ops) q l) s t x y
@@ -120,26 +133,7 @@ module _ (A : Ring) where
       (plus-step c d (derivative (A .ops) (m .0) s x) (derivative (A .ops) (m .1) t y) (hasse (A .ops) (terms (A .ops) p l) s t x y)
       (hasse (A .ops) (terms (A .ops) q l) s t x y))
 
-  -- one monomial more
-  scaled-step : (c d e f z : K) → (c ⊗ d) ⊗ e ⊗ f ⊕ c ⊗ z ≡ c ⊗ (d ⊗ e ⊗ f ⊕ z)
-  scaled-step c d e f z = simp ring
-
-  -- the derivative of a multiple
-  pub hasse-scaled : (l : List (ℕ × ℕ)) (c : K) (q : List K) (s t : ℕ) (x y : K)
-      → hasse (A .ops) (terms (A .ops) (scaled (A .ops) c q) l) s t x y ≡ c ⊗ hasse (A .ops) (terms (A .ops) q l) s t x y
-  unfolding terms scaled
-  hasse-scaled l c [] s t x y = simp (hasse-nil, ring)
-  hasse-scaled [] c (d ∷ q) s t x y = simp (hasse-nil, ring)
-  hasse-scaled (m ∷ l) c (d ∷ q) s t x y =
-      simp (hasse-cons, hasse-scaled l c q s t x y)
-      (scaled-step c d (derivative (A .ops) (m .0) s x) (derivative (A .ops) (m .1) t y) (hasse (A .ops) (terms (A .ops) q l) s t x y))
-
   -- a sum of lists that pass, passes
   pub passes-plus : (l : List (ℕ × ℕ)) (p q : List K) (x y : K) (m : ℕ) → Passes (A .ops) (terms (A .ops) p l) x y m
       → Passes (A .ops) (terms (A .ops) q l) x y m → Passes (A .ops) (terms (A .ops) (plus (A .ops) p q) l) x y m
   passes-plus l p q x y m hp hq s t k = hasse-plus l p q s t x y ∙ ap₂ _⊕_ (hp s t k) (hq s t k) ∙ plus-zero A o
-
-  -- and so does a multiple
-  pub passes-scaled : (l : List (ℕ × ℕ)) (c : K) (q : List K) (x y : K) (m : ℕ) → Passes (A .ops) (terms (A .ops) q l) x y m
-      → Passes (A .ops) (terms (A .ops) (scaled (A .ops) c q) l) x y m
-  passes-scaled l c q x y m h s t k = hasse-scaled l c q s t x y ∙ ap (λ (z : K). c ⊗ z) (h s t k) ∙ times-zero A c

@@ -1,24 +1,20 @@
 -- A list of coefficients stands for a polynomial of weighted degree at most D, whatever v is.
 -- Assumes nothing.
 use mathlib.Core.List.{List, [], _∷_}
-use Prim.Native.Nat.{ℕ, _+_, _-_, _*_, _/_, _≤_, _<_}
-use native.Mathlib.Nat.{mul-div-le, mul-le-mul-left}
+use Prim.Native.Nat.{ℕ, _+_, _-_, _*_, _/_, _≤_}
 use native.Mathlib.Omega.{arith}
+use Rattle.definitions.proofs.Monomials.{power-within}
 use Rattle.definitions.specs.Field.{Ops}
 use Rattle.definitions.specs.Polynomial.{terms, monomialsOf, monomials}
 use Rattle.definitions.specs.Tools.{below}
 use Rattle.algebra.proofs.Composition.{DegreeAtMost}
 use Rattle.algebra.proofs.Every.{All, all-map, all-flatMap, all-below}
 
--- v b is at most w for b up to w / v
-product-le : (v w b : ℕ) → b < w / v + 1 → v * b ≤ w
-product-le v w b h = let k : b ≤ w / v = omega arith in let m = mul-le-mul-left v k in omega (arith, mul-div-le w v)
-
 -- those of one weighted degree
 monomialsOf-degree : (v w D : ℕ) → w ≤ D → All (λ (m : ℕ × ℕ). m .0 + v * m .1 ≤ D) (monomialsOf v w)
 monomialsOf-degree v w D h =
     all-map (λ (m : ℕ × ℕ). m .0 + v * m .1 ≤ D) (λ (b : ℕ). (w - v * b, b)) (below (w / v + 1))
-    (all-below (λ b. w - v * b + v * b ≤ D) (w / v + 1) (λ b k. let e = product-le v w b k in omega arith))
+    (all-below (λ b. w - v * b + v * b ≤ D) (w / v + 1) (λ b k. let l : b ≤ w / v = omega arith in let e = power-within v w b l in omega arith))
 
 -- those of all
 monomials-degree : (v D : ℕ) → All (λ (m : ℕ × ℕ). m .0 + v * m .1 ≤ D) (monomials v D)

@@ -5,20 +5,16 @@ use mathlib.Core.Bool.{true}
 use mathlib.Core.List.{List, [], _∷_, map}
 use mathlib.Core.Path.{_≡_, refl, sym, _∙_, ap, ap₂, subst}
 use Prim.Native.Nat.{ℕ, zero, suc, _<_}
-use lib.ListN.{getD, List·getD-map}
+use lib.ListN.{getD}
+use Rattle.definitions.proofs.Zeros.{isZero-of-zeros}
 use Rattle.definitions.specs.Code.{Symbols, point}
 use Rattle.definitions.specs.Field.{Ops, Code, numbers, power, value}
 use Rattle.definitions.specs.Polynomial.{Term, terms, hasse, isZero}
 use Rattle.definitions.specs.Roots.{compose}
 use Rattle.algebra.specs.FieldOf.{FieldOf}
 use Rattle.algebra.proofs.Carry.{carry-power, carry-value, carry-hasse, carry-terms, carry-compose}
+use Rattle.algebra.proofs.Elements.{zero-symbol}
 use Rattle.algebra.proofs.RootCounting.{Zero}
-
--- a list whose entries are all zero is zero
-pub isZero-of-zeros : (q : List ℕ) → ((t : ℕ) → getD q t 0 ≡ 0) → isZero q ≡ true
-unfolding isZero
-isZero-of-zeros [] z = refl
-isZero-of-zeros (c ∷ q) z = rw (z zero) (isZero-of-zeros q (λ t. z (suc t)))
 
 module _ (C : Code) (F : FieldOf C) where
   -- the operations on elements
@@ -41,6 +37,18 @@ module _ (C : Code) (F : FieldOf C) where
   pub numbers-elements : (l : List ℕ) → Symbols C l → map (F .number .φ) (elements l) ≡ l
   numbers-elements [] s = refl
   numbers-elements (a ∷ l) s = ap₂ (λ (b : ℕ) (k : List ℕ). b ∷ k) (F .number-element a (s zero)) (numbers-elements l (λ j. s (suc j)))
+
+  -- the number of an entry
+  pub number-at : (p : List (F .ring .ops .K)) (n : ℕ) → getD (map (F .number .φ) p) n 0 ≡ F .number .φ (getD p n (F .ring .ops .o))
+  number-at [] n = sym (F .number .φ-zero)
+  number-at (x ∷ p) zero = refl
+  number-at (x ∷ p) (suc n) = number-at p n
+
+  -- the numbers of elements are symbols
+  pub numbers-symbols : (l : List (F .ring .ops .K)) → Symbols C (map (F .number .φ) l)
+  numbers-symbols [] j = zero-symbol C F
+  numbers-symbols (x ∷ l) zero = F .number-symbol x
+  numbers-symbols (x ∷ l) (suc j) = numbers-symbols l j
 
   -- a point is a symbol
   pub point-symbol : (i : ℕ) → point C i < C .symbols
@@ -82,5 +90,5 @@ module _ (C : Code) (F : FieldOf C) where
       -- each coefficient is zero
       each : (t : ℕ) → getD (compose N f (terms N q l)) t 0 ≡ 0
       each t =
-          ap₂ (λ (k : List ℕ) (d : ℕ). getD k t d) (sym (number-compose f q l sf sq)) (sym (F .number .φ-zero))
-          ∙ List·getD-map φ (compose G (elements f) (terms G (elements q) l)) t (G .o) ∙ ap φ (z t) ∙ F .number .φ-zero
+          ap (λ (k : List ℕ). getD k t 0) (sym (number-compose f q l sf sq))
+          ∙ number-at (compose G (elements f) (terms G (elements q) l)) t ∙ ap φ (z t) ∙ F .number .φ-zero

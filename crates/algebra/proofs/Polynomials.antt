@@ -7,6 +7,7 @@ use Prim.Native.Nat.{ℕ, zero, suc, _+_, _*_, _≤_}
 use native.Mathlib.Nat.{le-of-suc-le-suc, not-suc-le-zero}
 use native.Mathlib.Omega.{arith}
 use lib.ListN.{length, getD}
+use Rattle.definitions.proofs.Codeword.{power-zero, power-suc, value-nil, value-cons}
 use Rattle.definitions.specs.Field.{Ops, power, value}
 use Rattle.definitions.specs.Roots.{plus, scaled, times, powers}
 use Rattle.algebra.specs.Ring.{Ring}
@@ -17,26 +18,6 @@ module _ (A : Ops) where
 
   infixl 60 _⊕_
   infixl 70 _⊗_
-  -- the power 0
-  pub power-zero : (x : K) → power A x zero ≡ i
-  unfolding power
-  power-zero x = refl
-
-  -- the next power
-  pub power-suc : (x : K) (n : ℕ) → power A x (suc n) ≡ x ⊗ power A x n
-  unfolding power
-  power-suc x n = refl
-
-  -- the value of the empty list
-  pub value-nil : (x : K) → value A x [] ≡ o
-  unfolding value
-  value-nil x = refl
-
-  -- Horner's rule
-  pub value-cons : (x c : K) (p : List K) → value A x (c ∷ p) ≡ c ⊕ x ⊗ value A x p
-  unfolding value
-  value-cons x c p = refl
-
   -- a sum is no longer than its longer summand
   pub length-plus : (p q : List K) (n : ℕ) → length p ≤ n → length q ≤ n → length (plus A p q) ≤ n
   unfolding plus

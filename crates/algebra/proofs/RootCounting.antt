@@ -8,10 +8,10 @@ use Prim.Native.Nat.{ℕ, zero, suc, _+_, _≤_, _<_, suc-le-suc}
 use native.Mathlib.Nat.{not-suc-le-zero, zero-lt-suc}
 use native.Mathlib.Omega.{arith}
 use lib.ListN.{length, getD}
+use Rattle.definitions.proofs.Codeword.{value-nil, value-cons}
 use Rattle.definitions.specs.Field.{Ops, value}
 use Rattle.definitions.specs.Tools.{sum}
 use Rattle.algebra.specs.Ring.{Ring, IsField}
-use Rattle.algebra.proofs.Polynomials.{value-nil, value-cons}
 use Rattle.algebra.proofs.RingLaws.{ring, plus-self, equal-of-sum, cancel}
 use Rattle.algebra.proofs.Series.{mulS, linear, Order, linear-mul-zero, linear-mul-suc}
 use Rattle.algebra.proofs.Taylor.{quotient, length-quotient, taylor, taylor-zero, taylor-quotient}

@@ -1,21 +1,18 @@
--- The lists of symbols that pass through a matrix of multiplicities are closed under sums and multiples, and each Hasse condition on them is
--- a row times the coefficients.
+-- The lists of symbols that pass through a matrix of multiplicities are closed under sums, and each Hasse condition on them is a row times the
+-- coefficients.
 -- Assumes nothing.
-use mathlib.Core.List.{List, [], _∷_, map}
+use mathlib.Core.List.{List, map}
 use mathlib.Core.Path.{_≡_, sym, _∙_, ap, ap₂, subst}
-use Prim.Native.Nat.{ℕ, zero, suc, _<_}
-use lib.ListN.{length, getD, List·getD-map}
-use Rattle.definitions.proofs.Monomials.{monomials-in-order}
-use Rattle.definitions.specs.Bound.{count}
-use Rattle.definitions.specs.Code.{Symbols, point}
+use Prim.Native.Nat.{ℕ, _<_}
+use lib.ListN.{length, getD}
+use Rattle.definitions.specs.Code.{Symbols}
 use Rattle.definitions.specs.Field.{Ops, Code, numbers}
 use Rattle.definitions.specs.Polynomial.{terms, monomials, hasse, Through}
-use Rattle.definitions.specs.Roots.{plus, scaled}
+use Rattle.definitions.specs.Roots.{plus}
 use Rattle.algebra.specs.FieldOf.{FieldOf}
-use Rattle.algebra.proofs.Carry.{carry-plus, carry-scaled}
-use Rattle.algebra.proofs.Elements.{zero-symbol}
-use Rattle.algebra.proofs.Linear.{dot, row, dot-equal, carry-dot, carry-row, hasse-is-dot, passes-plus, passes-scaled}
-use Rattle.algebra.proofs.Numbers.{elements, numbers-elements, point-symbol, number-hasse}
+use Rattle.algebra.proofs.Carry.{carry-plus}
+use Rattle.algebra.proofs.Linear.{dot, row, dot-equal, carry-dot, carry-row, hasse-is-dot, passes-plus}
+use Rattle.algebra.proofs.Numbers.{elements, numbers-elements, number-at, numbers-symbols, number-hasse}
 use Rattle.algebra.proofs.Passing.{pointElement, multiplicityOf, elements-pass, numbers-pass}
 
 module _ (C : Code) (F : FieldOf C) where
@@ -31,29 +28,14 @@ module _ (C : Code) (F : FieldOf C) where
   abbrev φ : G .K → ℕ
   φ = F .number .φ
 
-  -- what stands for elements is a list of symbols
-  numbers-symbols : (l : List (G .K)) → Symbols C (map φ l)
-  numbers-symbols [] j = zero-symbol C F
-  numbers-symbols (x ∷ l) zero = F .number-symbol x
-  numbers-symbols (x ∷ l) (suc j) = numbers-symbols l j
-
   -- a sum of symbols stands for the sum of their elements
   numbers-plus : (p q : List ℕ) → Symbols C p → Symbols C q → map φ (plus G (elements C F p) (elements C F q)) ≡ plus N p q
   numbers-plus p q sp sq =
       carry-plus G N (F .number) (elements C F p) (elements C F q) ∙ ap₂ (plus N) (numbers-elements C F p sp) (numbers-elements C F q sq)
 
-  -- a multiple for the multiple
-  numbers-scaled : (c : ℕ) (q : List ℕ) → c < C .symbols → Symbols C q → map φ (scaled G (F .element c) (elements C F q)) ≡ scaled N c q
-  numbers-scaled c q hc sq =
-      carry-scaled G N (F .number) (F .element c) (elements C F q) ∙ ap₂ (scaled N) (F .number-element c hc) (numbers-elements C F q sq)
-
   -- a sum of lists of symbols is one
   pub symbols-plus : (p q : List ℕ) → Symbols C p → Symbols C q → Symbols C (plus (numbers C) p q)
-  symbols-plus p q sp sq = subst (Symbols C) (numbers-plus p q sp sq) (numbers-symbols (plus G (elements C F p) (elements C F q)))
-
-  -- and so is a multiple
-  pub symbols-scaled : (c : ℕ) (q : List ℕ) → c < C .symbols → Symbols C q → Symbols C (scaled (numbers C) c q)
-  symbols-scaled c q hc sq = subst (Symbols C) (numbers-scaled c q hc sq) (numbers-symbols (scaled G (F .element c) (elements C F q)))
+  symbols-plus p q sp sq = subst (Symbols C) (numbers-plus p q sp sq) (numbers-symbols C F (plus G (elements C F p) (elements C F q)))
 
   -- the sum of two lists that pass, passes
   pub through-plus : (n v D : ℕ) (m p q : List ℕ) → Symbols C p → Symbols C q → Through C n v D m p → Through C n v D m q
@@ -64,19 +46,10 @@ module _ (C : Code) (F : FieldOf C) where
       passes-plus (F .ring) (monomials v D) (elements C F p) (elements C F q) (pointElement C F i) b (multiplicityOf C F m i b)
       (elements-pass C F n v D m p sp hp i h b) (elements-pass C F n v D m q sq hq i h b)))
 
-  -- a multiple of a list that passes, passes
-  pub through-scaled : (n v D : ℕ) (m : List ℕ) (c : ℕ) (q : List ℕ) → c < C .symbols → Symbols C q → Through C n v D m q
-      → Through C n v D m (scaled (numbers C) c q)
-  through-scaled n v D m c q hc sq hq =
-      subst (Through C n v D m) (numbers-scaled c q hc sq)
-      (numbers-pass C F n v D m (scaled G (F .element c) (elements C F q)) (λ i h b.
-      passes-scaled (F .ring) (monomials v D) (F .element c) (elements C F q) (pointElement C F i) b (multiplicityOf C F m i b)
-      (elements-pass C F n v D m q sq hq i h b)))
-
   -- a coefficient for the element's
   number-entry : (q : List ℕ) → Symbols C q → (k : ℕ) → φ (getD (elements C F q) k (G .o)) ≡ getD q k 0
   number-entry q sq k =
-      sym (List·getD-map φ (elements C F q) k (G .o)) ∙ ap₂ (λ (l : List ℕ) (d : ℕ). getD l k d) (numbers-elements C F q sq) (F .number .φ-zero)
+      sym (number-at C F (elements C F q) k) ∙ ap (λ (l : List ℕ). getD l k 0) (numbers-elements C F q sq)
 
   -- a row for the row
   number-row : (l : List (ℕ × ℕ)) (s t a b : ℕ) → a < C .symbols → b < C .symbols → (k : ℕ)
@@ -84,11 +57,6 @@ module _ (C : Code) (F : FieldOf C) where
   number-row l s t a b ha hb k =
       carry-row G N (F .number) l s t (F .element a) (F .element b) k
       ∙ ap₂ (λ (x y : ℕ). row N l s t x y k) (F .number-element a ha) (F .number-element b hb)
-
-  -- an entry of a row is a symbol
-  pub row-symbol : (l : List (ℕ × ℕ)) (s t a b : ℕ) → a < C .symbols → b < C .symbols → (k : ℕ) → row (numbers C) l s t a b k < C .symbols
-  row-symbol l s t a b ha hb k =
-      subst (λ (x : ℕ). x < C .symbols) (number-row l s t a b ha hb k) (F .number-symbol (row G l s t (F .element a) (F .element b) k))
 
   -- a Hasse derivative of numbers is a row times the coefficients
   pub hasse-is-dot-of-numbers : (l : List (ℕ × ℕ)) (q : List ℕ) (s t a b : ℕ) → Symbols C q → a < C .symbols → b < C .symbols
@@ -100,11 +68,3 @@ module _ (C : Code) (F : FieldOf C) where
       ∙ ap φ (hasse-is-dot (F .ring) l (elements C F q) s t (F .element a) (F .element b))
       ∙ carry-dot G N (F .number) (length l) (row G l s t (F .element a) (F .element b)) (λ k. getD (elements C F q) k (G .o))
       ∙ dot-equal N (length l) _ (row N l s t a b) _ (λ k. getD q k 0) (λ k h. number-row l s t a b ha hb k) (λ k h. number-entry q sq k)
-
-  -- the condition of order (s, t) on a polynomial of degree limit D, at a point and a symbol, is a row of N(D) entries
-  pub condition-is-row : (v D : ℕ) (q : List ℕ) (s t i b : ℕ) → 0 < v → Symbols C q → b < C .symbols
-      → hasse (numbers C) (terms (numbers C) q (monomials v D)) s t (point C i) b
-      ≡ dot (numbers C) (count v D) (row (numbers C) (monomials v D) s t (point C i) b) (λ k. getD q k 0)
-  condition-is-row v D q s t i b h sq hb =
-      hasse-is-dot-of-numbers (monomials v D) q s t (point C i) b sq (point-symbol C F i) hb
-      ∙ ap (λ (n : ℕ). dot N n (row N (monomials v D) s t (point C i) b) (λ k. getD q k 0)) (monomials-in-order v h D .size)

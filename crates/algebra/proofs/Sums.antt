@@ -70,9 +70,9 @@ pub sum-left : (a b c : ℕ) → sumOf a (sumOf b c) ≡ sumOf b (sumOf a c)
 sum-left a b c = sym (sum-assoc a b c) ∙ ap (λ (x : ℕ). sumOf x c) (sum-comm a b) ∙ sum-assoc b a c
 
 -- zero is neutral
-pub sum-zero : (a : ℕ) → sumOf a 0 ≡ a
+pub sum-neutral : (a : ℕ) → sumOf a 0 ≡ a
 unfolding sumOf
-sum-zero a = xor-zero-r a
+sum-neutral a = xor-zero-r a
 
 -- on both sides
 pub zero-sum : (a : ℕ) → sumOf 0 a ≡ a
@@ -85,7 +85,7 @@ unfolding sumOf
 sum-self a = xor-self a
 
 -- the rules that sort a sum
-pub ruleset sums = (sum-assoc, sum-comm, sum-left, sum-zero, zero-sum)
+pub ruleset sums = (sum-assoc, sum-comm, sum-left, sum-neutral, zero-sum)
 
 -- a sum of symbols is a symbol
 pub sum-lt : (w a b : ℕ) → a < 2 ^ w → b < 2 ^ w → sumOf a b < 2 ^ w

@@ -4,11 +4,11 @@ use mathlib.Core.List.{List, [], _∷_, map}
 use mathlib.Core.Path.{_≡_, refl, sym, _∙_, ap, ap₂}
 use Prim.Native.Nat.{ℕ, zero, suc}
 use lib.ListN.{length}
+use Rattle.definitions.proofs.Codeword.{value-nil, value-cons}
 use Rattle.definitions.specs.Field.{Ops, value}
 use Rattle.algebra.specs.Ring.{Ring, Hom}
 use Rattle.algebra.proofs.Carry.{carry-value}
 use Rattle.algebra.proofs.Evaluation.{evaluate}
-use Rattle.algebra.proofs.Polynomials.{value-nil, value-cons}
 use Rattle.algebra.proofs.RingLaws.{ring, zero-plus}
 use Rattle.algebra.proofs.Series.{Series, series, addS, mulS, constant, constants, linear, linear-add, constant-o}
 

@@ -6,10 +6,11 @@ use Prim.Native.Nat.{ℕ, _+_, _-_, _≤_, _<_}
 use native.Mathlib.Numerals.{add-one}
 use lib.Bits.{bitXor}
 use lib.ListN.{length, drop, getD, set}
-use lib.Seq.{drop-length, getD-drop}
+use lib.Seq.{drop-length}
 use Rattle.algebra.proofs.Numbers.{point-symbol, value-symbol}
-use Rattle.definitions.proofs.Codeword.{power-zero, power-suc, value-nil, value-step, length-codeword, codeword-suc}
-use Rattle.definitions.proofs.Loops.{put-more}
+use Rattle.definitions.proofs.Codeword.{power-zero, power-suc, value-nil, value-step}
+use Rattle.definitions.proofs.Loops.{map-more}
+use Rattle.definitions.proofs.Symbols.{drop-symbols}
 use Rattle.definitions.proofs.Tools.{below-zero}
 use Rattle.definitions.specs.Code.{Symbols, point, codeword}
 use Rattle.definitions.specs.Field.{numbers, value, sixteen, sumOf}
@@ -28,7 +29,7 @@ value-more x f j y p h l ey ep = ap (λ (z : ℕ). sumOf (getD f (j - 1) 0) z) (
 -- what Horner's rule has come to is a symbol
 pub value-so-far : (x : ℕ) (f : List ℕ) (j y : ℕ) → x < sixteen .symbols → Symbols sixteen f → y ≡ value (numbers sixteen) x (drop j f) → y < sixteen .symbols
 value-so-far x f j y h s e =
-    rw e (value-symbol sixteen sixteen-field x (drop j f) h (λ (i : ℕ). rw (getD-drop j f i 0) (s (j + i))))
+    rw e (value-symbol sixteen sixteen-field x (drop j f) h (drop-symbols sixteen j f s))
 
 -- the points, one after the other
 pub first-point : 1 ≡ point sixteen 0
@@ -48,6 +49,4 @@ none-written f out = ap (λ (l : List ℕ). map (λ (i : ℕ). value (numbers si
 pub symbol-more : (f out now : List ℕ) (i x y : ℕ) → i < length out → now ≡ codeword sixteen i f ++ drop i out → x ≡ point sixteen i
     → y ≡ value (numbers sixteen) x f → set now i y ≡ codeword sixteen (i + 1) f ++ drop (i + 1) out
 symbol-more f out now i x y h e ex ey =
-    rw (e, ey, ex)
-    (put-more 0 (codeword sixteen i f) out i (value (numbers sixteen) (point sixteen i) f) (length-codeword sixteen f i) h
-    ∙ ap (λ (l : List ℕ). l ++ drop (i + 1) out) (sym (codeword-suc sixteen f i) ∙ ap (λ (n : ℕ). codeword sixteen n f) (sym (add-one i))))
+    map-more (λ (i : ℕ). value (numbers sixteen) (point sixteen i) f) out now i y h e (ey ∙ ap (λ (z : ℕ). value (numbers sixteen) z f) ex)

@@ -5,17 +5,19 @@ use mathlib.Core.Path.{_≡_, refl, sym, _∙_, ap, ap₂}
 use Prim.Native.Nat.{ℕ, zero, suc, _+_, _≤_, _<_}
 use native.Mathlib.Numerals.{add-one}
 use native.Mathlib.Omega.{arith}
-use lib.Bits.{xor-zero-r}
 use lib.ListN.{getD, replicate}
 use Rattle.algebra.proofs.Binomials.{derivative-zero-zero, derivative-zero-suc, derivative-suc-zero, derivative-suc-suc}
 use Rattle.algebra.proofs.Carry.{carry-derivative}
 use Rattle.algebra.proofs.Elements.{plus-symbol, times-symbol}
+use Rattle.algebra.proofs.Sums.{sum-neutral}
 use Rattle.algebra.specs.FieldOf.{FieldOf}
+use Rattle.definitions.proofs.Symbols.{replicate-symbols}
+use Rattle.definitions.proofs.Zeros.{zero-at}
 use Rattle.definitions.specs.Code.{Symbols}
-use Rattle.definitions.specs.Field.{Code, numbers, sixteen, sumOf}
+use Rattle.definitions.specs.Field.{Code, numbers, sixteen}
 use Rattle.definitions.specs.Polynomial.{derivative}
 use Rattle.field.proofs.Instance.{sixteen-field}
-use Rattle.rows.proofs.Filled.{filled-none, filled-at, filled-rest, filled-equal, filled-symbols}
+use Rattle.rows.proofs.Filled.{filled-at, filled-equal, filled-symbols}
 use Rattle.conditions.specs.Conditions.{stepped, derivativesRow}
 use Rattle.rows.specs.Row.{width, filled}
 
@@ -100,23 +102,14 @@ module _ (x : ℕ) (h : x < sixteen .symbols) where
       (plus-symbol sixteen sixteen-field (sixteen .times x (stepped x first before e)) (getD before e 0)
       (times-symbol sixteen sixteen-field x (stepped x first before e) h (stepped-symbol first before hf sb e)) (sb e))
 
-  -- zero adds nothing
-  plus-zero : (a : ℕ) → sixteen .plus a 0 ≡ a
-  unfolding sumOf
-  plus-zero a = xor-zero-r a
-
-  -- before order 0 there are zeros
-  none-before : (e : ℕ) → _≡_ {A = ℕ} (getD (replicate width 0) e 0) 0
-  none-before e = ap (λ (l : List ℕ). getD l e 0) (filled-none (λ k. k)) ∙ filled-rest (λ k. k) 0 e (omega arith)
-
   -- each entry is the derivative
   stepped-derivative : (n s e : ℕ) → e < n → stepped x (lead s) (lower n x s) e ≡ derivative (numbers sixteen) e s x
   stepped-derivative n zero zero l = stepped-zero x 1 (lower n x zero) ∙ sym (zero-zero sixteen sixteen-field x h)
   stepped-derivative n (suc s) zero l = stepped-zero x 0 (lower n x (suc s)) ∙ sym (zero-suc sixteen sixteen-field x h s)
   stepped-derivative n zero (suc e) l =
       stepped-suc x 1 (lower n x zero) e
-      ∙ ap₂ (λ (a b : ℕ). sixteen .plus (sixteen .times x a) b) (stepped-derivative n zero e (omega arith)) (none-before e)
-      ∙ plus-zero (sixteen .times x (derivative (numbers sixteen) e zero x)) ∙ sym (suc-zero sixteen sixteen-field x h e)
+      ∙ ap₂ (λ (a b : ℕ). sixteen .plus (sixteen .times x a) b) (stepped-derivative n zero e (omega arith)) (zero-at width e)
+      ∙ sum-neutral (sixteen .times x (derivative (numbers sixteen) e zero x)) ∙ sym (suc-zero sixteen sixteen-field x h e)
   stepped-derivative n (suc s) (suc e) l =
       stepped-suc x 0 (lower n x (suc s)) e
       ∙ ap₂ (λ (a b : ℕ). sixteen .plus (sixteen .times x a) b) (stepped-derivative n (suc s) e (omega arith))
@@ -136,5 +129,5 @@ module _ (x : ℕ) (h : x < sixteen .symbols) where
 
   -- and so is the row before it
   pub lower-symbols : (n s : ℕ) → Symbols sixteen (lower n x s)
-  lower-symbols n zero e = rw (none-before e) (omega arith)
+  lower-symbols n zero e = replicate-symbols sixteen width 0 (omega arith) e
   lower-symbols n (suc s) e = derivatives-symbols n s e

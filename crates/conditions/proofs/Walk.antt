@@ -5,16 +5,16 @@ use mathlib.Core.List.{List, flatMap}
 use mathlib.Core.Path.{_≡_, refl, sym, _∙_, ap, ap₂, subst}
 use Prim.Native.Nat.{ℕ, zero, suc, _+_, _-_, _*_, _/_, _≤_, _<_}
 use native.Mathlib.Decide.{decLt, ℕ-discrete}
-use native.Mathlib.Nat.{mul-suc, mul-zero, le-div-iff-mul-le, div-lt-iff-lt-mul, div-le-self, mul-comm, mul-div-le}
+use native.Mathlib.Nat.{mul-suc, mul-zero, le-div-iff-mul-le, div-lt-iff-lt-mul, div-le-self, mul-comm}
 use native.Mathlib.Numerals.{add-one}
 use native.Mathlib.Omega.{arith}
 use borrow.Author.Tests.{le-leb, lt-leb}
-use lib.ListN.{length, getD, length-append, length-map, List·getD-append}
+use lib.ListN.{length, getD, List·getD-append}
 use lib.Seq.{getD-append-add}
 use Rattle.algebra.proofs.Linear.{row}
-use Rattle.definitions.proofs.Joined.{join-nil, join-below}
-use Rattle.definitions.proofs.Monomials.{monomials-in-order}
-use Rattle.definitions.proofs.Tools.{below-zero, length-below, map-below-at}
+use Rattle.definitions.proofs.Joined.{join-below}
+use Rattle.definitions.proofs.Monomials.{monomials-in-order, degree-grows, lower, none-lower, lower-more, lower-grows}
+use Rattle.definitions.proofs.Tools.{map-below-at}
 use Rattle.definitions.specs.Bound.{count}
 use Rattle.definitions.specs.Field.{numbers, sixteen}
 use Rattle.definitions.specs.Polynomial.{monomialsOf, monomials, derivative}
@@ -71,39 +71,16 @@ module _ (v : ℕ) where
         )
 
   -- how many monomials have a smaller degree
-  earlier : ℕ → ℕ
-  earlier d = length (flatMap (monomialsOf v) (below d))
-
-  -- none is of a degree below 0
-  earlier-zero : earlier 0 ≡ 0
-  unfolding earlier
-  earlier-zero = ap (λ (l : List ℕ). length (flatMap (monomialsOf v) l)) below-zero ∙ ap length (join-nil (monomialsOf v))
-
-  -- degree d brings one for each power of y
-  earlier-suc : (d : ℕ) → earlier (suc d) ≡ earlier d + (d / v + 1)
-  unfolding earlier
-  earlier-suc d =
-      ap length (join-below (monomialsOf v) d) ∙ length-append (flatMap (monomialsOf v) (below d)) (monomialsOf v d)
-      ∙ ap (λ (n : ℕ). length (flatMap (monomialsOf v) (below d)) + n) (length-map (below (d / v + 1)) _ ∙ length-below (d / v + 1))
-
-  -- more for a greater degree
-  earlier-le : (d e : ℕ) → d ≤ e → earlier d ≤ earlier e
-  earlier-le d zero h = let z : d ≡ 0 = omega arith in rw z (omega arith)
-  earlier-le d (suc e) h =
-      let s = earlier-suc e in
-      elim (ℕ-discrete d (suc e)) [
-        | yes z ↦ rw z (omega arith)
-        | no n ↦ let r = earlier-le d e (omega arith) in omega arith
-      ]
+  abbrev earlier : ℕ → ℕ
+  earlier d = length (lower v d)
 
   -- at least one for each degree
   degree-le : (d : ℕ) → d ≤ earlier d
   degree-le zero = omega arith
-  degree-le (suc d) = let s = earlier-suc d in let r = degree-le d in omega arith
+  degree-le (suc d) = let s = lower-more v d in let r = degree-le d in omega arith
 
   -- those of the last degree stand at the end
   last-at : (D b : ℕ) → b < D / v + 1 → getD (flatMap (monomialsOf v) (below (suc D))) (earlier D + b) (0, 0) ≡ (D - v * b, b)
-  unfolding earlier
   last-at D b l =
       ap (λ (m : List (ℕ × ℕ)). getD m (earlier D + b) (0, 0)) (join-below (monomialsOf v) D)
       ∙ getD-append-add (flatMap (monomialsOf v) (below D)) (monomialsOf v D) b (0, 0)
@@ -111,8 +88,7 @@ module _ (v : ℕ) where
 
   -- each has its place
   within : (D d b : ℕ) → d ≤ D → b < d / v + 1 → earlier d + b < length (flatMap (monomialsOf v) (below (suc D)))
-  unfolding earlier
-  within D d b h l = let s = earlier-suc d in let m = earlier-le (suc d) (suc D) (omega arith) in omega arith
+  within D d b h l = let s = lower-more v d in let m = lower-grows v (suc d) (suc D) (omega arith) in omega arith
 
   -- those of degree d after the earlier ones
   monomial-at : (D d b : ℕ) → d ≤ D → b < d / v + 1 → getD (flatMap (monomialsOf v) (below (suc D))) (earlier d + b) (0, 0) ≡ (d - v * b, b)
@@ -155,7 +131,7 @@ module _ (v : ℕ) (pos : 0 < v) where
         | yes h ↦
             subst (Stands (k + 1)) (sym (turns v p h))
             (record {
-              place = let e = earlier-suc v (p .2) in let l = last-power (p .0) (p .1) (p .2) (s .rest) h (s .power) in let t = s .place in let a = add-one (p .2) in rw a (omega arith);
+              place = let e = lower-more v (p .2) in let l = last-power (p .0) (p .1) (p .2) (s .rest) h (s .power) in let t = s .place in let a = add-one (p .2) in rw a (omega arith);
               power = omega arith;
               rest = let z = mul-zero v in omega arith;
             })
@@ -172,7 +148,7 @@ module _ (v : ℕ) (pos : 0 < v) where
   stands : (k : ℕ) → Stands k (walked v k)
   stands zero =
       subst (Stands 0) (sym (walked-zero v))
-      (record { place = let e = earlier-zero v in omega arith; power = omega arith; rest = let z = mul-zero v in omega arith })
+      (record { place = let e = none-lower v in omega arith; power = omega arith; rest = let z = mul-zero v in omega arith })
   stands (suc k) =
       subst (λ (n : ℕ). Stands n (walked v n)) (add-one k)
       (subst (Stands (k + 1)) (sym (walked-suc v k)) (stands-next k (walked v k) (stands k)))
@@ -189,7 +165,6 @@ module _ (v : ℕ) (pos : 0 < v) where
   module _ (D k : ℕ) (h : k < count v D) where
     -- place k is one of the count
     counted : k < earlier v (suc D)
-    unfolding earlier
     counted = rw (← add-one D, monomials-in-order v pos D .size) h
 
     -- its degree is at most D
@@ -198,7 +173,7 @@ module _ (v : ℕ) (pos : 0 < v) where
         elim (decLt D (walked v k .2)) [
           | yes l ↦
               let s = stands k .place in
-              let m = earlier-le v (suc D) (walked v k .2) l in
+              let m = lower-grows v (suc D) (walked v k .2) l in
               let c = counted in
               let z : ⊥ = omega arith in absurd z
           | no n ↦ omega arith
@@ -213,11 +188,8 @@ module _ (v : ℕ) (pos : 0 < v) where
     y-within =
         let d = degree-within in
         let s = stands k .power in
-        let f = div-mono in
+        let f = degree-grows v (walked v k .2) D pos d in
         omega arith
-      where
-        div-mono : walked v k .2 / v ≤ D / v
-        div-mono = (le-div-iff-mul-le pos) .1 (let a = mul-div-le (walked v k .2) v in let c = mul-comm (walked v k .2 / v) v in let d = degree-within in omega arith)
 
     -- the monomial of place k
     pub walked-monomial : getD (monomials v D) k (0, 0) ≡ (walked v k .0, walked v k .1)

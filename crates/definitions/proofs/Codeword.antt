@@ -1,15 +1,14 @@
 -- The laws of powers, values and codewords, for loops that write symbol after symbol.
 -- Assumes nothing.
-use mathlib.Core.List.{List, [], _∷_, _++_}
-use mathlib.Core.Path.{_≡_, refl, _∙_}
+use mathlib.Core.List.{List, [], _∷_}
+use mathlib.Core.Path.{_≡_, refl}
 use Prim.Native.Nat.{ℕ, suc, _-_, _≤_, _<_}
 use native.Mathlib.Omega.{arith}
-use lib.ListN.{length, getD, drop, length-map}
+use lib.ListN.{length, getD, drop}
 use lib.Seq.{drop-cons}
 use Rattle.definitions.specs.Code.{point, codeword}
 use Rattle.definitions.specs.Field.{Ops, Code, numbers, power, value}
-use Rattle.definitions.specs.Tools.{below}
-use Rattle.definitions.proofs.Tools.{length-below, map-below, map-below-at}
+use Rattle.definitions.proofs.Tools.{length-map-below, map-below-at}
 
 module _ (A : Ops) where
   open Ops A using (K, o, i, add as _⊕_, mul as _⊗_)
@@ -45,11 +44,7 @@ module _ (A : Ops) where
 module _ (C : Code) (f : List ℕ) where
   -- a codeword has n symbols
   pub length-codeword : (n : ℕ) → length (codeword C n f) ≡ n
-  length-codeword n = length-map (below n) (λ (i : ℕ). value (numbers C) (point C i) f) ∙ length-below n
-
-  -- one symbol more
-  pub codeword-suc : (n : ℕ) → codeword C (suc n) f ≡ codeword C n f ++ (value (numbers C) (point C n) f ∷ [])
-  codeword-suc n = map-below (λ (i : ℕ). value (numbers C) (point C i) f) n
+  length-codeword n = length-map-below (λ (i : ℕ). value (numbers C) (point C i) f) n
 
   -- symbol i is the value at point i
   pub codeword-at : (n i : ℕ) → i < n → getD (codeword C n f) i 0 ≡ value (numbers C) (point C i) f

@@ -1,4 +1,6 @@
 pub mod Tools
+pub mod Zeros
+pub mod Symbols
 pub mod Ordered
 pub mod Joined
 pub mod Codeword

@@ -1,13 +1,15 @@
--- The steps of loops that add up or fill a list from the front, over plain numbers and lists.
+-- The steps of loops that add up, fill a list from the front or lay one list over another, over plain numbers and lists.
 -- Assumes nothing.
-use mathlib.Core.List.{List, [], _∷_, _++_, append-assoc}
+use mathlib.Core.List.{List, [], _∷_, _++_, map, append-assoc, append-nil}
 use mathlib.Core.Path.{_≡_, sym, _∙_, ap, ap₂}
-use Prim.Native.Nat.{ℕ, suc, _+_, _<_}
+use Prim.Native.Nat.{ℕ, suc, _+_, _*_, _≤_, _<_}
+use native.Mathlib.Nat.{add-zero, mul-suc, mul-le-mul-left}
 use native.Mathlib.Numerals.{add-one}
-use lib.ListN.{length, drop, getD, set}
-use lib.Seq.{drop-cons, set-at}
-use Rattle.definitions.proofs.Tools.{sum-zero, sum-suc}
-use Rattle.definitions.specs.Tools.{sum}
+use native.Mathlib.Omega.{arith}
+use lib.ListN.{length, take, drop, getD, set, length-append, length-drop, take-append-drop}
+use lib.Seq.{drop-cons, set-at, take-suc, take-at, getD-drop, drop-drop, drop-append-add, length-take-le}
+use Rattle.definitions.proofs.Tools.{length-map-below, map-below, sum-zero, sum-suc}
+use Rattle.definitions.specs.Tools.{below, sum}
 
 -- nothing is added up yet
 pub sum-none : (f : ℕ → ℕ) → 0 ≡ sum 0 f
@@ -21,3 +23,50 @@ sum-more f i total x et ex = ap₂ _+_ et ex ∙ sym (sum-suc i f) ∙ ap (λ (n
 pub put-more : {A : Type 0} (z : A) (done rest : List A) (i : ℕ) (v : A) → length done ≡ i → i < length rest
     → set (done ++ drop i rest) i v ≡ (done ++ (v ∷ [])) ++ drop (i + 1) rest
 put-more z done rest i v e h = rw (add-one, drop-cons rest i z, append-assoc) (set-at done (getD rest i z) (drop (suc i) rest) v i e)
+
+-- one value more of a function of the place
+pub map-more : {A : Type 0} (f : ℕ → A) (out now : List A) (k : ℕ) (x : A) → k < length out → now ≡ map f (below k) ++ drop k out → x ≡ f k
+    → set now k x ≡ map f (below (k + 1)) ++ drop (k + 1) out
+map-more {A} f out now k x h e ex =
+    rw (e, ex)
+    (put-more x (map f (below k)) out k (f k) (length-map-below f k) h
+    ∙ ap (λ (l : List A). l ++ drop (k + 1) out) (sym (map-below f k) ∙ ap (λ (n : ℕ). map f (below n)) (sym (add-one k))))
+
+-- one entry more of a part of another list
+pub copied-more : (p rest now : List ℕ) (from b : ℕ) → from + b < length p → b < length rest → now ≡ take b (drop from p) ++ drop b rest
+    → set now b (getD p (from + b) 0) ≡ take (b + 1) (drop from p) ++ drop (b + 1) rest
+copied-more p rest now from b h k e =
+    let n = length-drop from p in
+    rw e
+    (put-more 0 (take b (drop from p)) rest b (getD p (from + b) 0) (length-take-le b (drop from p) (omega arith)) k
+    ∙ ap (λ (l : List ℕ). l ++ drop (b + 1) rest)
+    (ap (λ (x : ℕ). take b (drop from p) ++ (x ∷ [])) (sym (getD-drop from p b 0)) ∙ sym (take-suc (drop from p) b 0 (omega arith))
+    ∙ ap (λ (j : ℕ). take j (drop from p)) (sym (add-one b))))
+
+-- no list is laid over another yet
+pub over-none : (d : List ℕ) (at : ℕ) → d ≡ take at d ++ [] ++ drop (at + 0) d
+over-none d at = sym (rw (add-zero, append-nil, take-append-drop))
+
+-- what lies before the end of a list that is laid over another
+pub length-over : (d : List ℕ) (at : ℕ) (l : List ℕ) → at ≤ length d → length (take at d ++ l) ≡ at + length l
+length-over d at l h = length-append (take at d) l ∙ ap (λ (n : ℕ). n + length l) (length-take-le at d h)
+
+-- one list behind another
+pub over-more : (d : List ℕ) (at : ℕ) (l m : List ℕ) → at ≤ length d
+    → take (at + length l) (take at d ++ l ++ drop (at + length l) d) ++ m ++ drop (at + length l + length m) (take at d ++ l ++ drop (at + length l) d)
+    ≡ take at d ++ (l ++ m) ++ drop (at + length (l ++ m)) d
+over-more d at l m h =
+    let front = length-over d at l h in
+    let both = length-append l m in
+    let end : at + length l + length m ≡ at + length (l ++ m) = omega arith in
+    let rest : drop (at + length l + length m) (take at d ++ l ++ drop (at + length l) d) ≡ drop (at + length (l ++ m)) d =
+    ap (λ (n : ℕ). drop (n + length m) (take at d ++ l ++ drop (at + length l) d)) (sym front)
+    ∙ drop-append-add (take at d ++ l) (drop (at + length l) d) (length m)
+    ∙ drop-drop (length m) (at + length l) d ∙ ap (λ (n : ℕ). drop n d) end in
+    ap (λ (x : List ℕ). x ++ m ++ drop (at + length l + length m) (take at d ++ l ++ drop (at + length l) d))
+    (take-at (take at d ++ l) (drop (at + length l) d) (at + length l) front)
+    ∙ ap (λ (x : List ℕ). take at d ++ l ++ m ++ x) rest ∙ ap (λ (x : List ℕ). x ++ drop (at + length (l ++ m)) d) (append-assoc (take at d) l m)
+
+-- a row of those that are there lies within the memory
+pub row-within : (k r many size : ℕ) → r < many → k * many ≤ size → k * r + k ≤ size
+row-within k r many size h l = let one-more = mul-le-mul-left k h in let grown = mul-suc k r in omega arith

@@ -12,6 +12,7 @@ use Rattle.definitions.specs.Field.{Code}
 use Rattle.definitions.specs.Tools.{below}
 use Rattle.definitions.proofs.Joined.{join-member, member-join, ordered-join}
 use Rattle.definitions.proofs.Ordered.{Ordered, ordered-map, ordered-once, below-ordered}
+use Rattle.definitions.proofs.Symbols.{cons-symbols}
 use Rattle.definitions.proofs.Tools.{below-member, member-below}
 
 -- "ordered by f₀, then f₁ and so on, smaller symbol first"
@@ -63,17 +64,12 @@ module _ (C : Code) where
   sized-of zero f m = ap length (List·Memᴰ·eq-of-singleton (rw messages-zero at m))
   sized-of (suc k) f m = let r = parts k f m in ap length (sym (r .2 .2)) ∙ ap suc (sized-of k (r .2 .0) (r .2 .1))
 
-  -- a symbol before symbols
-  cons-symbols : (c : ℕ) (f : List ℕ) → c < C .symbols → Symbols C f → Symbols C (c ∷ f)
-  cons-symbols c f h s zero = h
-  cons-symbols c f h s (suc j) = s j
-
   -- each entry is a symbol
   symbols-of : 0 < C .symbols → (k : ℕ) (f : List ℕ) → List·Memᴰ f (messages C k) → Symbols C f
   symbols-of pos zero f m = subst (Symbols C) (sym (List·Memᴰ·eq-of-singleton (rw messages-zero at m))) (λ j. pos)
   symbols-of pos (suc k) f m =
       let r = parts k f m in
-      subst (Symbols C) (r .2 .2) (cons-symbols (r .0) (r .2 .0) (r .1) (symbols-of pos k (r .2 .0) (r .2 .1)))
+      subst (Symbols C) (r .2 .2) (cons-symbols C (r .0) (r .2 .0) (r .1) (symbols-of pos k (r .2 .0) (r .2 .1)))
 
   -- every list of k symbols is among them
   each-of : (k : ℕ) (f : List ℕ) → length f ≡ k → Symbols C f → List·Memᴰ f (messages C k)

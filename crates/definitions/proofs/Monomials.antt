@@ -1,20 +1,21 @@
 -- The theorem on the order of monomials: all of weighted degree at most D, each once, by weighted degree, then by the power of y.
 -- Assumes nothing.
-use mathlib.Core.List.{flatMap, List·Memᴰ, Memᴰ·map, Memᴰ·of-map, Memᴰ·cast}
+use mathlib.Core.List.{List, flatMap, List·Memᴰ, Memᴰ·map, Memᴰ·of-map, Memᴰ·cast}
 use mathlib.Core.Logic.{_⊎_, inl, inr, ⊎-elim}
 use mathlib.Core.Path.{_≡_, sym, _∙_, ap}
 use Prim.Native.Nat.{ℕ, zero, suc, _+_, _-_, _*_, _/_, _≤_, _<_}
-use native.Mathlib.Nat.{le-div-iff-mul-le, zero-div}
+use native.Mathlib.Decide.{decLt}
+use native.Mathlib.Nat.{le-div-iff-mul-le, zero-div, mul-div-le, div-mul-le-self, mul-le-mul-left}
 use native.Mathlib.Numerals.{add-one}
 use native.Mathlib.Omega.{arith}
-use lib.ListN.{length, getD, length-append, length-map}
+use lib.ListN.{length, getD, length-append}
 use Rattle.definitions.specs.Bound.{count}
 use Rattle.definitions.specs.Polynomial.{monomialsOf, monomials}
 use Rattle.definitions.specs.Tools.{below}
 use Rattle.definitions.proofs.Bound.{count-zero, count-suc}
 use Rattle.definitions.proofs.Joined.{join-nil, join-member, member-join, ordered-join, join-below}
 use Rattle.definitions.proofs.Ordered.{Ordered, ordered-map, ordered-once, below-ordered}
-use Rattle.definitions.proofs.Tools.{below-zero, length-below, below-member, member-below}
+use Rattle.definitions.proofs.Tools.{below-zero, length-map-below, below-member, member-below}
 
 -- "The weighted degree of x^a y^b is a + vb"
 abbrev pub weighted : ℕ → ℕ × ℕ → ℕ
@@ -40,17 +41,47 @@ pub record MonomialOrder (v D : ℕ) : Type 0 where
 pub earlier-irreflexive : (v : ℕ) (m : ℕ × ℕ) → Earlier v m m → ⊥
 earlier-irreflexive v m e = ⊎-elim (λ h. let z : ⊥ = omega arith in z) (λ h. let k = h .1 in let z : ⊥ = omega arith in z) e
 
-module _ (v : ℕ) (pos : 1 ≤ v) where
-  -- those of weighted degree w: their number
-  length-of : (w : ℕ) → length (monomialsOf v w) ≡ w / v + 1
-  length-of w = simp (length-map, length-below)
+-- up to w / v a power of y is within the weighted degree w
+pub power-within : (v w b : ℕ) → b ≤ w / v → v * b ≤ w
+power-within v w b h = let m = mul-le-mul-left v h in omega (arith, mul-div-le w v)
 
+-- a greater weighted degree, as great a power of y
+pub degree-grows : (v d D : ℕ) → 0 < v → d ≤ D → d / v ≤ D / v
+degree-grows v d D pos l = let e = div-mul-le-self d v in (le-div-iff-mul-le pos) .1 (omega arith)
+
+module _ (v : ℕ) where
+  -- those of weighted degree w: their number
+  pub length-monomialsOf : (w : ℕ) → length (monomialsOf v w) ≡ w / v + 1
+  length-monomialsOf w = length-map-below (λ (b : ℕ). (w - v * b, b)) (w / v + 1)
+
+  -- those of weighted degree below d
+  abbrev pub lower : ℕ → List (ℕ × ℕ)
+  lower d = flatMap (monomialsOf v) (below d)
+
+  -- there are none below 0
+  pub none-lower : 0 ≡ length (lower 0)
+  none-lower = sym (ap (λ (l : List ℕ). length (flatMap (monomialsOf v) l)) below-zero ∙ ap length (join-nil (monomialsOf v)))
+
+  -- degree d brings one for each power of y
+  pub lower-more : (d : ℕ) → length (lower (suc d)) ≡ length (lower d) + (d / v + 1)
+  lower-more d =
+      ap length (join-below (monomialsOf v) d) ∙ length-append (lower d) (monomialsOf v d) ∙ ap (λ (n : ℕ). length (lower d) + n) (length-monomialsOf d)
+
+  -- a greater degree, more of them
+  pub lower-grows : (d e : ℕ) → d ≤ e → length (lower d) ≤ length (lower e)
+  lower-grows d zero h = let z : d ≡ 0 = omega arith in rw z (omega arith)
+  lower-grows d (suc e) h =
+      elim (decLt d (suc e)) [
+        | yes k ↦ let r = lower-grows d e (omega arith) in let s = lower-more e in omega arith
+        | no n ↦ let z : d ≡ suc e = omega arith in rw z (omega arith)
+      ]
+
+module _ (v : ℕ) (pos : 1 ≤ v) where
   -- a power of y up to w/v leaves room for a power of x
   room : (w b : ℕ) → List·Memᴰ b (below (w / v + 1)) → v * b ≤ w
   room w b m =
       let h = member-below (w / v + 1) b m in
-      let k : b * v ≤ w = (le-div-iff-mul-le pos) .0 (omega arith) in
-      omega arith
+      power-within v w b (omega arith)
 
   -- each is of weighted degree w
   of-degree : (w : ℕ) (m : ℕ × ℕ) → List·Memᴰ m (monomialsOf v w) → weighted v m ≡ w
@@ -74,15 +105,14 @@ module _ (v : ℕ) (pos : 1 ≤ v) where
       (λ a b s t h. let k = room w a s in let l = room w b t in inr (omega arith, h)) (below-ordered (w / v + 1))
 
   -- degree by degree they are as many as N(D) counts
-  size-of : (D : ℕ) → length (flatMap (monomialsOf v) (below (suc D))) ≡ count v D
+  size-of : (D : ℕ) → length (lower v (suc D)) ≡ count v D
   size-of zero =
-      let a : length (flatMap (monomialsOf v) (below 0)) ≡ 0 = rw (below-zero, join-nil (monomialsOf v)) in
-      let b : length (monomialsOf v 0) ≡ 1 = length-of 0 ∙ ap (λ (n : ℕ). n + 1) (zero-div v) in
-      ap length (join-below (monomialsOf v) 0) ∙ length-append (flatMap (monomialsOf v) (below 0)) (monomialsOf v 0) ∙ omega arith
-      ∙ sym (count-zero v pos)
-  size-of (suc D) =
-      rw (join-below (monomialsOf v) (suc D), length-append (flatMap (monomialsOf v) (below (suc D))) (monomialsOf v (suc D)), size-of D, length-of (suc D))
-      (sym (count-suc v pos D))
+      let a = none-lower v in
+      let b = lower-more v 0 in
+      let c = zero-div v in
+      let d = count-zero v pos in
+      omega arith
+  size-of (suc D) = let a = lower-more v (suc D) in let b = size-of D in let c = count-suc v pos D in omega arith
 
   -- degree by degree they stand in order
   ordered-of : (D : ℕ) → Ordered (Earlier v) (monomials v D)

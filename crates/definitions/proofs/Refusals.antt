@@ -41,15 +41,6 @@ module _ (greatest : ℕ) where
   pub firstAbove-end : (l : List ℕ) (i : ℕ) → length l ≤ i → firstAbove greatest (drop i l) ≡ 0
   firstAbove-end l i h = rw (drop-of-length-le l h) first-nil
 
-  -- the place lies within the list, or at its end
-  pub firstAbove-le : (l : List ℕ) → firstAbove greatest l ≤ length l
-  firstAbove-le [] = rw first-nil (omega arith)
-  firstAbove-le (x ∷ l) =
-      elim (decLt greatest x) [
-        | yes h ↦ rw (first-stop x l h) (omega arith)
-        | no n ↦ let r = firstAbove-le l in rw (first-step x l (omega arith)) (omega arith)
-      ]
-
   -- what stands there is above
   pub first-above : (l : List ℕ) → firstAbove greatest l < length l → greatest < getD l (firstAbove greatest l) 0
   first-above [] h = absurd (not-suc-le-zero h)

@@ -1,7 +1,7 @@
 -- How a call comes through its table: line after line is passed, and one is given or none is. Whatever the call makes of that, its answer
 -- or its memory, is then known.
 -- Assumes nothing.
-use mathlib.Core.Bool.{Bool, true, false, _&&_, false≢true}
+use mathlib.Core.Bool.{true, false, _&&_}
 use mathlib.Core.List.{List, [], _∷_}
 use mathlib.Core.Path.{_≡_, refl}
 use Prim.Native.Nat.{ℕ, _-_, _≤_, _<_}
@@ -10,7 +10,7 @@ use native.Mathlib.Omega.{arith}
 use lib.Dec.{eqb, leb}
 use lib.ListN.{length, getD}
 use Rattle.definitions.proofs.Refusals.{none-above}
-use Rattle.definitions.proofs.Tools.{split}
+use Rattle.definitions.proofs.Tools.{split, both}
 use Rattle.definitions.specs.Bound.{count}
 use Rattle.definitions.specs.Code.{Symbols}
 use Rattle.definitions.specs.Field.{Code}
@@ -38,10 +38,6 @@ module _ {ℓ} {A : Type ℓ} (refused : ℕ → ℕ → A) (accepted : A) where
   accepts (next e later) = rw e (accepts later)
 
 -- what a line says of a call that passes it
-both : (a b : Bool) → (a && b) ≡ true → (a ≡ true) × (b ≡ true)
-both true b e = (refl, e)
-both false b e = absurd (false≢true e)
-
 pub sizes-mean : (C : Code) (n k : ℕ) → sizes C n k .given ≡ false → (2 ≤ k) × (k ≤ n) × (n ≤ C .positions)
 sizes-mean C n k e =
     let low = both (leb 2 k) (leb k n && leb n (C .positions)) (not-false (sizesFit C n k) e) in

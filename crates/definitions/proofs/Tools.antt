@@ -1,6 +1,6 @@
 -- The laws of below, sum, smallest and select.
 -- Assumes nothing.
-use mathlib.Core.Bool.{Bool, true, false, true≢false}
+use mathlib.Core.Bool.{Bool, true, false, _&&_, true≢false, false≢true}
 use mathlib.Core.List.{List, [], _∷_, _++_, map, map-append, List·Memᴰ, List·Memᴰ·head, List·Memᴰ·tail, List·Memᴰ·cases-cons, List·Memᴰ·not-nil, List·Memᴰ·append-cases, List·Memᴰ·eq-of-singleton, Memᴰ·append-left, Memᴰ·append-right}
 use mathlib.Core.Logic.{⊎-elim}
 use mathlib.Core.Path.{_≡_, refl, sym, _∙_, ap}
@@ -8,7 +8,7 @@ use Prim.Native.Nat.{ℕ, zero, suc, _+_, _*_, _≤_, _<_}
 use native.Mathlib.Decide.{decLt}
 use native.Mathlib.Nat.{le-of-suc-le-suc, not-suc-le-zero, suc-mul}
 use native.Mathlib.Omega.{arith}
-use lib.ListN.{length, getD, length-append, List·getD-append}
+use lib.ListN.{length, getD, length-append, length-map, List·getD-append}
 use lib.Seq.{getD-at}
 use Rattle.definitions.specs.Tools.{below, sum, smallest, select}
 
@@ -16,6 +16,11 @@ use Rattle.definitions.specs.Tools.{below, sum, smallest, select}
 pub split {ℓ} : {X : Type ℓ} (b : Bool) → (b ≡ true → X) → (b ≡ false → X) → X
 split true f g = f refl
 split false f g = g refl
+
+-- of two tests that pass together each passes
+pub both : (a b : Bool) → (a && b) ≡ true → (a ≡ true) × (b ≡ true)
+both true b e = (refl, e)
+both false b e = absurd (false≢true e)
 
 -- an entry of a list under a map
 pub map-at : {A B : Type 0} (f : A → B) (l : List A) (i : ℕ) (d : A) (e : B) → i < length l → getD (map f l) i e ≡ f (getD l i d)
@@ -54,6 +59,10 @@ below-at (suc n) i h =
 -- a map over one number more
 pub map-below : {B : Type 0} (f : ℕ → B) (n : ℕ) → map f (below (suc n)) ≡ map f (below n) ++ (f n ∷ [])
 map-below f n = rw (below-suc n) (map-append f (below n) (n ∷ []))
+
+-- a map over them has n entries
+pub length-map-below : {B : Type 0} (f : ℕ → B) (n : ℕ) → length (map f (below n)) ≡ n
+length-map-below f n = length-map (below n) f ∙ length-below n
 
 -- entry i of a map over them
 pub map-below-at : {B : Type 0} (f : ℕ → B) (n i : ℕ) (e : B) → i < n → getD (map f (below n)) i e ≡ f i

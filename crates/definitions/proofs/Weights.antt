@@ -1,24 +1,20 @@
 -- The laws of multiplicities, matrix and cost, for loops over the entries.
 -- Assumes nothing.
 use mathlib.Core.List.{List, [], _∷_, _++_, map, map-append}
-use mathlib.Core.Path.{_≡_, refl}
+use mathlib.Core.Path.{_≡_}
 use Prim.Native.Nat.{ℕ, suc, _+_, _*_, _/_, _≤_, _<_}
-use native.Mathlib.Nat.{mul-le-mul, mul-le-mul-left, div-le-of-le-mul}
+use native.Mathlib.Nat.{mul-le-mul}
 use native.Mathlib.Omega.{arith}
 use lib.ListN.{length, getD, take, length-map}
 use lib.Seq.{take-suc}
 use Rattle.definitions.specs.Limits.{columnSum}
 use Rattle.definitions.specs.Tools.{sum}
-use Rattle.definitions.specs.Weights.{multiplicity, matrix, cost}
-use Rattle.definitions.proofs.Tools.{sum-zero, sum-suc, sum-bound, map-at}
+use Rattle.definitions.specs.Weights.{multiplicity, matrix}
+use Rattle.definitions.proofs.Tools.{sum-bound, map-at}
 
 -- "the whole part of L times the reliability over 4,096"
 pub multiplicity-whole : (L r : ℕ) → (multiplicity L r * columnSum ≤ L * r) × (L * r < (multiplicity L r + 1) * columnSum)
 multiplicity-whole L r = omega arith
-
--- no multiplicity is above the level
-pub multiplicity-le : (L r : ℕ) → r ≤ columnSum → multiplicity L r ≤ L
-multiplicity-le L r h = div-le-of-le-mul columnSum (let e = mul-le-mul-left L h in omega arith)
 
 -- a matrix has an entry for each reliability
 pub length-matrix : (L : ℕ) (r : List ℕ) → length (matrix L r) ≡ length r
@@ -35,18 +31,6 @@ map-take f l i h = rw (take-suc l i 0 h) (map-append f (take i l) (getD l i 0 �
 -- the cost of the first j entries
 abbrev pub costOf : List ℕ → ℕ → ℕ
 costOf m j = sum j (λ (j : ℕ). getD m j 0 * (getD m j 0 + 1) / 2)
-
--- the cost is that of all entries
-pub cost-is : (m : List ℕ) → cost m ≡ costOf m (length m)
-cost-is m = refl
-
--- no entries cost nothing
-pub cost-zero : (m : List ℕ) → costOf m 0 ≡ 0
-cost-zero m = sum-zero (λ (j : ℕ). getD m j 0 * (getD m j 0 + 1) / 2)
-
--- one entry more
-pub cost-suc : (m : List ℕ) (j : ℕ) → costOf m (suc j) ≡ costOf m j + getD m j 0 * (getD m j 0 + 1) / 2
-cost-suc m j = sum-suc j (λ (j : ℕ). getD m j 0 * (getD m j 0 + 1) / 2)
 
 -- with entries of at most g the first j, all of them too, cost at most j times g(g+1)/2
 pub cost-le : (m : List ℕ) (g : ℕ) → ((i : ℕ) → getD m i 0 ≤ g) → (j : ℕ) → costOf m j ≤ j * (g * (g + 1) / 2)

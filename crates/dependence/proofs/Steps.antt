@@ -1,6 +1,5 @@
 -- What each function of the elimination does to the rows.
 -- Assumes nothing.
-use mathlib.Core.Bool.{_&&_, _||_}
 use mathlib.Core.List.{List, []}
 use mathlib.Core.Logic.{_≢_}
 use mathlib.Core.Path.{_≡_, refl, sym, _∙_, ap, ap₂, subst}
@@ -8,17 +7,14 @@ use Prim.Native.Nat.{ℕ, _+_, _≤_, _<_}
 use native.Mathlib.Decide.{ℕ-discrete}
 use native.Mathlib.Numerals.{add-one}
 use native.Mathlib.Omega.{arith}
-use borrow.Author.Tests.{ne-eqb}
-use lib.Dec.{T, eqb, ltb, eqb→eq, ltb→lt}
 use lib.ListN.{getD, set, length-set}
 use lib.Seq.{getD-set-same, getD-set-other}
-use Rattle.algebra.proofs.Elements.{times-either, inverse-symbol, times-inverse}
+use Rattle.algebra.proofs.Elements.{times-turned, inverse-symbol, times-inverse}
 use Rattle.definitions.proofs.Table.{accepts}
 use Rattle.definitions.specs.Answers.{Answer, refused, valued, inverseAnswer}
 use Rattle.definitions.specs.Code.{Symbols}
-use Rattle.definitions.specs.Field.{numbers, sixteen, sumOf, double, shifted, inverseOf}
+use Rattle.definitions.specs.Field.{numbers, sixteen, inverseOf}
 use Rattle.definitions.specs.Limits.{greatestLimit}
-use Rattle.definitions.specs.Tools.{smallest}
 use Rattle.algebra.specs.Grid.{entryOf}
 use Rattle.elimination.proofs.Pivot.{Pivoted}
 use Rattle.elimination.proofs.Symbols.{plus-nothing, step-solutions, step-units}
@@ -115,7 +111,7 @@ pub inverse-law : (a u : ℕ) → a < sixteen .symbols → a ≢ 0 → valued u 
 inverse-law a u h n e =
     let is : u ≡ inverseOf sixteen a = ap (λ (x : Answer). x .value) (e ∙ sym (accepts refused (valued (inverseOf sixteen a)) (inverse-accepts a (omega arith) n))) in
     let small = inverse-symbol sixteen sixteen-field a h n in
-    (subst (λ (x : ℕ). x < sixteen .symbols) (sym is) small, ap (λ (x : ℕ). sixteen .times x a) is ∙ times-either sixteen sixteen-field (inverseOf sixteen a) a small h ∙ times-inverse sixteen sixteen-field a h n)
+    (subst (λ (x : ℕ). x < sixteen .symbols) (sym is) small, ap (λ (x : ℕ). sixteen .times x a) is ∙ times-turned sixteen sixteen-field (inverseOf sixteen a) a small h ∙ times-inverse sixteen sixteen-field a h n)
 
 -- a symbol that is not zero is not refused
 pub not-refused : (a : ℕ) (r : Refusal) → a < sixteen .symbols → a ≢ 0 → toldRefusal r ≡ inverseAnswer sixteen a → ⊥

@@ -5,7 +5,7 @@ use mathlib.Core.Path.{_≡_, refl, sym, _∙_, ap, ap₂}
 use Prim.Native.Nat.{ℕ, zero, suc, _≤_, _<_}
 use native.Mathlib.Decide.{ℕ-discrete}
 use native.Mathlib.Omega.{arith}
-use Rattle.algebra.proofs.Linear.{dot, dot-equal}
+use Rattle.algebra.proofs.Linear.{dot, dot-none, dot-equal, dot-ended}
 use Rattle.algebra.proofs.RingLaws.{ring, plus-zero, zero-plus, one-times, times-zero, zero-times}
 use Rattle.algebra.specs.Ring.{Ring}
 use Rattle.definitions.specs.Field.{Ops}
@@ -15,11 +15,6 @@ module _ (A : Ring) where
 
   infixl 60 _⊕_
   infixl 70 _⊗_
-  -- one entry more
-  pub dot-suc : (n : ℕ) (r q : ℕ → K) → dot (A .ops) (suc n) r q ≡ dot (A .ops) n r q ⊕ r n ⊗ q n
-  unfolding dot
-  dot-suc n r q = refl
-
   -- equal rows have equal products
   pub dot-rows : (n : ℕ) (r s q : ℕ → K) → ((k : ℕ) → k < n → r k ≡ s k) → dot (A .ops) n r q ≡ dot (A .ops) n s q
   dot-rows n r s q e = dot-equal (A .ops) n r s q q e (λ k h. refl)
@@ -49,10 +44,8 @@ module _ (A : Ring) where
 
   -- a row of zeros
   pub dot-zeros : (n : ℕ) (r q : ℕ → K) → ((k : ℕ) → k < n → r k ≡ o) → dot (A .ops) n r q ≡ o
-  unfolding dot
-  dot-zeros zero r q e = refl
-  dot-zeros (suc n) r q e =
-      ap₂ (λ (x y : K). x ⊕ y ⊗ q n) (dot-zeros n r q (λ k h. e k (omega arith))) (e n (omega arith)) ∙ zero-plus A (o ⊗ q n) ∙ zero-times A (q n)
+  dot-zeros n r q e =
+      dot-ended (A .ops) (plus-zero A) n 0 r q (omega arith) (λ k _ h. ap (λ (x : K). x ⊗ q k) (e k h) ∙ zero-times A (q k)) ∙ dot-none (A .ops) r q
 
   -- a row with 1 at a, and zeros
   pub dot-unit : (n : ℕ) (r q : ℕ → K) (a : ℕ) → a < n → r a ≡ i → ((k : ℕ) → k < n → k ≢ a → r k ≡ o) → dot (A .ops) n r q ≡ q a
@@ -70,12 +63,4 @@ module _ (A : Ring) where
 
   -- a vector that ends before j
   pub dot-ends : (n j : ℕ) (r q : ℕ → K) → j ≤ n → ((k : ℕ) → j ≤ k → k < n → q k ≡ o) → dot (A .ops) n r q ≡ dot (A .ops) j r q
-  dot-ends zero j r q h e = let z : j ≡ zero = omega arith in ap (λ (x : ℕ). dot (A .ops) x r q) (sym z)
-  dot-ends (suc n) j r q h e =
-      elim (ℕ-discrete j (suc n)) [
-        | yes d ↦ ap (λ (x : ℕ). dot (A .ops) x r q) (sym d)
-        | no d ↦
-            dot-suc n r q
-            ∙ ap₂ (λ (x y : K). x ⊕ r n ⊗ y) (dot-ends n j r q (omega arith) (λ k l f. e k l (omega arith))) (e n (omega arith) (omega arith))
-            ∙ ap (λ (x : K). dot (A .ops) j r q ⊕ x) (times-zero A (r n)) ∙ plus-zero A (dot (A .ops) j r q)
-      ]
+  dot-ends n j r q h e = dot-ended (A .ops) (plus-zero A) n j r q h (λ k l f. ap (λ (x : K). r k ⊗ x) (e k l f) ∙ times-zero A (r k))

@@ -1,43 +1,22 @@
 -- The laws of the leading monomial's place.
 -- Assumes nothing.
-use mathlib.Core.Bool.{Bool, true, false, cond, _&&_, true≢false, false≢true}
+use mathlib.Core.Bool.{Bool, true, false, cond, _&&_, true≢false}
 use mathlib.Core.List.{List, [], _∷_}
 use mathlib.Core.Path.{_≡_, refl, sym, _∙_, ap}
 use Prim.Native.Nat.{ℕ, zero, suc, _<_}
 use native.Mathlib.Decide.{decLt}
 use native.Mathlib.Nat.{le-of-suc-le-suc, not-suc-le-zero}
 use native.Mathlib.Omega.{arith}
-use borrow.Author.Tests.{eqb-true}
 use lib.Dec.{eqb}
 use lib.ListN.{getD}
 use Rattle.definitions.proofs.Tools.{split}
+use Rattle.definitions.proofs.Zeros.{isZero-nil, zeros-of-isZero, isZero-false}
 use Rattle.definitions.specs.Polynomial.{isZero, leading}
-
--- of two tests that pass together each passes
-both : (a b : Bool) → (a && b) ≡ true → (a ≡ true) × (b ≡ true)
-both true b e = (refl, e)
-both false b e = absurd (false≢true e)
-
--- every entry of a list that is zero is zero
-pub zeros-of-isZero : (q : List ℕ) → isZero q ≡ true → (k : ℕ) → getD q k 0 ≡ 0
-unfolding isZero
-zeros-of-isZero [] e k = refl
-zeros-of-isZero (c ∷ q) e zero = eqb-true c 0 (both (eqb c 0) (isZero q) e .0)
-zeros-of-isZero (c ∷ q) e (suc k) = zeros-of-isZero q (both (eqb c 0) (isZero q) e .1) k
-
--- with an entry that is not zero the list is not
-pub isZero-false : (q : List ℕ) (k : ℕ) → (getD q k 0 ≡ 0 → ⊥) → isZero q ≡ false
-isZero-false q k n = split (isZero q) (λ e. absurd (n (zeros-of-isZero q e k))) (λ e. e)
 
 -- a zero before zeros
 cons-zero : (c : ℕ) (q : List ℕ) → c ≡ 0 → isZero q ≡ true → isZero (c ∷ q) ≡ true
 unfolding isZero
 cons-zero c q g f = ap (λ (x : ℕ). eqb x 0 && isZero q) g ∙ f
-
--- of no coefficients all are zero
-nil-zero : isZero [] ≡ true
-unfolding isZero
-nil-zero = refl
 
 -- the first coefficient leads where all after it are zero
 leading-last : (c : ℕ) (q : List ℕ) → isZero q ≡ true → leading (c ∷ q) ≡ 0
@@ -59,7 +38,7 @@ zero-after (c ∷ q) (suc k) h =
 
 -- its own is not, where not all are
 pub leading-nonzero : (q : List ℕ) → isZero q ≡ false → getD q (leading q) 0 ≡ 0 → ⊥
-leading-nonzero [] e z = true≢false (sym nil-zero ∙ e)
+leading-nonzero [] e z = true≢false (sym isZero-nil ∙ e)
 leading-nonzero (c ∷ q) e z =
     split (isZero q)
     (λ f. true≢false (sym (cons-zero c q (rw (leading-last c q f) at z) f) ∙ e))

@@ -7,11 +7,11 @@ use mathlib.Core.Path.{_≡_, sym, _∙_, ap, ap₂}
 use Prim.Native.Nat.{ℕ, suc, _≤_, _<_}
 use native.Mathlib.Decide.{ℕ-discrete, decLt}
 use native.Mathlib.Omega.{arith}
-use Rattle.algebra.proofs.Linear.{dot}
+use Rattle.algebra.proofs.Linear.{dot, dot-suc}
 use Rattle.algebra.proofs.RingLaws.{plus-zero, zero-plus, plus-self, times-one, times-zero, zero-times, equal-of-sum, cancel}
 use Rattle.algebra.specs.Ring.{Ring, IsField}
 use Rattle.definitions.specs.Field.{Ops}
-use Rattle.elimination.proofs.Combinations.{dot-suc, dot-rows, dot-added, dot-multiple, dot-zeros, dot-unit, dot-ends}
+use Rattle.elimination.proofs.Combinations.{dot-rows, dot-added, dot-multiple, dot-zeros, dot-unit, dot-ends}
 
 module _ (A : Ops) where
   -- q solves the R rows of m, each of W entries
@@ -153,13 +153,13 @@ module _ (A : Ring) (R W : ℕ) (m : ℕ → ℕ → A .ops .K) (j : ℕ) (hj : 
     -- a row before j, times a vector that ends at j
     row-before : (a : ℕ) → a < j → dot (A .ops) W (m a) q ≡ q a ⊕ m a j ⊗ q j
     row-before a h =
-        dot-ends A W (suc j) (m a) q (omega arith) (λ k l f. ends k (omega arith) f) ∙ dot-suc A j (m a) q
+        dot-ends A W (suc j) (m a) q (omega arith) (λ k l f. ends k (omega arith) f) ∙ dot-suc (A .ops) j (m a) q
         ∙ ap (λ (x : K). x ⊕ m a j ⊗ q j) (dot-unit A j (m a) q a h (units a h .0) (λ k l n. units k l .1 a (omega arith) (λ f. n (sym f))))
 
     -- and one from j on
     row-after : (a : ℕ) → j ≤ a → a < R → dot (A .ops) W (m a) q ≡ o
     row-after a l h =
-        dot-ends A W (suc j) (m a) q (omega arith) (λ k l f. ends k (omega arith) f) ∙ dot-suc A j (m a) q
+        dot-ends A W (suc j) (m a) q (omega arith) (λ k l f. ends k (omega arith) f) ∙ dot-suc (A .ops) j (m a) q
         ∙ ap₂ (λ (x y : K). x ⊕ y ⊗ q j) (dot-zeros A j (m a) q (λ k f. units k f .1 a h (λ g. omega arith))) (dependent a l h)
         ∙ zero-plus A (o ⊗ q j) ∙ zero-times A (q j)
 

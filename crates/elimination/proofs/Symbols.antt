@@ -7,7 +7,7 @@ use mathlib.Core.Path.{_≡_, sym, _∙_, ap}
 use Prim.Native.Nat.{ℕ, suc, _≤_, _<_}
 use native.Mathlib.Omega.{arith}
 use lib.ListN.{getD}
-use Rattle.algebra.proofs.Elements.{number-injective, zero-symbol, one-symbol, plus-symbol, times-symbol, element-zero, element-one, element-plus, element-times}
+use Rattle.algebra.proofs.Elements.{number-injective, symbol-injective, zero-element, zero-symbol, one-symbol, plus-symbol, times-symbol, element-zero, element-one, element-plus, element-times}
 use Rattle.algebra.proofs.Linear.{dot, dot-equal, carry-dot}
 use Rattle.algebra.proofs.RingLaws.{plus-self, plus-zero, zero-times, equal-of-sum}
 use Rattle.algebra.specs.FieldOf.{FieldOf}
@@ -26,29 +26,21 @@ module _ (C : Code) (F : FieldOf C) where
   abbrev N : Ops
   N = numbers C
 
-  -- symbols with the same element are equal
-  symbol-injective : (a b : ℕ) → a < C .symbols → b < C .symbols → F .element a ≡ F .element b → a ≡ b
-  symbol-injective a b ha hb e = sym (F .number-element a ha) ∙ ap (F .number .φ) e ∙ F .number-element b hb
-
-  -- a symbol whose element is zero
-  symbol-zero : (a : ℕ) → a < C .symbols → F .element a ≡ G .o → a ≡ 0
-  symbol-zero a h e = symbol-injective a 0 h (zero-symbol C F) (e ∙ sym (element-zero C F))
-
   -- equal symbols sum to zero, and only they
   pub plus-same : (a : ℕ) → a < C .symbols → C .plus a a ≡ 0
   plus-same a h =
-      symbol-zero (C .plus a a) (plus-symbol C F a a h h) (element-plus C F a a h h ∙ plus-self (F .ring) (F .element a))
+      zero-element C F (C .plus a a) (plus-symbol C F a a h h) (element-plus C F a a h h ∙ plus-self (F .ring) (F .element a))
 
   -- symbols that sum to zero are equal
   pub same-of-plus : (a b : ℕ) → a < C .symbols → b < C .symbols → C .plus a b ≡ 0 → a ≡ b
   same-of-plus a b ha hb e =
-      symbol-injective a b ha hb
+      symbol-injective C F a b ha hb
       (equal-of-sum (F .ring) (F .element a) (F .element b) (sym (element-plus C F a b ha hb) ∙ ap (F .element) e ∙ element-zero C F))
 
   -- a multiple by 0 adds nothing
   pub plus-nothing : (a b : ℕ) → a < C .symbols → b < C .symbols → a ≡ C .plus a (C .times 0 b)
   plus-nothing a b ha hb =
-      symbol-injective a (C .plus a (C .times 0 b)) ha (plus-symbol C F a (C .times 0 b) ha (times-symbol C F 0 b (zero-symbol C F) hb))
+      symbol-injective C F a (C .plus a (C .times 0 b)) ha (plus-symbol C F a (C .times 0 b) ha (times-symbol C F 0 b (zero-symbol C F) hb))
       (sym (element-plus C F a (C .times 0 b) ha (times-symbol C F 0 b (zero-symbol C F) hb)
       ∙ ap (G .add (F .element a)) (element-times C F 0 b (zero-symbol C F) hb ∙ ap (λ (x : G .K). G .mul x (F .element b)) (element-zero C F) ∙ zero-times (F .ring) (F .element b))
       ∙ plus-zero (F .ring) (F .element a)))
@@ -87,8 +79,8 @@ module _ (C : Code) (F : FieldOf C) where
     unit-numbers : (j : ℕ) (m : List (List ℕ)) → SymbolRows C m → UnitColumns G rows j (grid m) → Units rows j m
     unfolding grid
     unit-numbers j m sm u k h = (
-      symbol-injective (entryOf m k k) 1 (sm k k) (one-symbol C F) (u k h .0 ∙ sym (element-one C F)),
-      λ a l n. symbol-zero (entryOf m a k) (sm a k) (u k h .1 a l n),
+      symbol-injective C F (entryOf m k k) 1 (sm k k) (one-symbol C F) (u k h .0 ∙ sym (element-one C F)),
+      λ a l n. zero-element C F (entryOf m a k) (sm a k) (u k h .1 a l n),
     )
 
     -- ---- a step of the elimination
@@ -157,6 +149,6 @@ module _ (C : Code) (F : FieldOf C) where
           → (k : ℕ) → k < w → getD q k 0 ≡ 0
       unfolding vector
       reduced-least q sq s ends k h =
-          symbol-zero (getD q k 0) (sq k)
+          zero-element C F (getD q k 0) (sq k)
           (ends-before (F .ring) rows w (grid m) j hj hr (unit-elements j m (d .0)) zero-below (vector q) (elements-solve m sm q sq s)
           (λ a l f. ap (F .element) (ends a l f) ∙ element-zero C F) k h)

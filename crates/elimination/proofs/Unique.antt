@@ -13,10 +13,11 @@ use Rattle.algebra.proofs.Elements.{zero-symbol}
 use Rattle.algebra.proofs.Solutions.{symbols-plus, through-plus}
 use Rattle.algebra.specs.FieldOf.{FieldOf}
 use Rattle.definitions.proofs.Tools.{split}
+use Rattle.definitions.proofs.Zeros.{zeros-of-isZero}
 use Rattle.definitions.specs.Field.{Code, numbers}
 use Rattle.definitions.specs.Polynomial.{Interpolates, isZero, leading}
 use Rattle.definitions.specs.Roots.{plus}
-use Rattle.elimination.proofs.Leading.{zeros-of-isZero, zero-after, leading-nonzero}
+use Rattle.elimination.proofs.Leading.{zero-after, leading-nonzero}
 use Rattle.elimination.proofs.Symbols.{plus-same, same-of-plus}
 
 -- the sum of lists of one length has that length

@@ -6,16 +6,14 @@ use mathlib.Core.Logic.{_≢_}
 use mathlib.Core.Path.{_≡_, refl, sym, _∙_, ap, ap₂, subst}
 use Prim.Native.Nat.{ℕ, _+_, _*_, _≤_, _<_}
 use native.Mathlib.Decide.{decLt, ℕ-discrete}
-use native.Mathlib.Numerals.{add-one}
 use native.Mathlib.Omega.{arith}
 use borrow.Author.Tests.{lt-ltb, le-ltb, eq-eqb, ne-eqb}
 use lib.Dec.{eqb}
-use lib.ListN.{length, drop, getD, set, length-map, List·getD-eq-default}
+use lib.ListN.{length, drop, getD, List·getD-eq-default}
 use lib.Seq.{sets}
-use Rattle.algebra.proofs.Numbers.{isZero-of-zeros}
 use Rattle.definitions.proofs.Bound.{bound-le, bound-is-least}
-use Rattle.definitions.proofs.Loops.{put-more}
-use Rattle.definitions.proofs.Tools.{below-zero, length-below, map-below, map-below-at}
+use Rattle.definitions.proofs.Tools.{below-zero, length-map-below, map-below-at}
+use Rattle.definitions.proofs.Zeros.{isZero-of-zeros, isZero-false}
 use Rattle.definitions.specs.Bound.{count, bound}
 use Rattle.definitions.specs.Code.{Symbols}
 use Rattle.definitions.specs.Field.{sixteen}
@@ -23,7 +21,7 @@ use Rattle.definitions.specs.Limits.{greatestLimit}
 use Rattle.definitions.specs.Polynomial.{Interpolates, Through, isZero, leading}
 use Rattle.definitions.specs.Tools.{below}
 use Rattle.algebra.specs.Grid.{entryOf}
-use Rattle.elimination.proofs.Leading.{isZero-false, zero-after, leading-is}
+use Rattle.elimination.proofs.Leading.{zero-after, leading-is}
 use Rattle.elimination.proofs.Symbols.{reduced-solves, reduced-least}
 use Rattle.elimination.specs.Rows.{Solves, SameSolutions, Reduced}
 use Rattle.field.proofs.Instance.{sixteen-field}
@@ -54,14 +52,6 @@ module _ (j : ℕ) (m : List (List ℕ)) (k : ℕ) where
 pub written-none : (f : ℕ → ℕ) (out : List ℕ) → out ≡ map f (below 0) ++ drop 0 out
 written-none f out = ap (λ (l : List ℕ). map f l ++ out) (sym below-zero)
 
--- one coefficient more
-pub written-more : (f : ℕ → ℕ) (out now : List ℕ) (k x : ℕ) → k < length out → now ≡ map f (below k) ++ drop k out → x ≡ f k
-    → set now k x ≡ map f (below (k + 1)) ++ drop (k + 1) out
-written-more f out now k x h e ex =
-    rw (e, ex)
-    (put-more 0 (map f (below k)) out k (f k) (length-map (below k) f ∙ length-below k) h
-    ∙ ap (λ (l : List ℕ). l ++ drop (k + 1) out) (sym (map-below f k) ∙ ap (λ (n : ℕ). map f (below n)) (sym (add-one k))))
-
 -- the rows of a matrix within limits are a system
 pub conditions-system : (v d w : ℕ) (a o : List (List ℕ)) → System o → matrixCost a ≤ greatestLimit → System (sets o 0 (matrixRows v d w a))
 conditions-system v d w a o so h =
@@ -77,7 +67,7 @@ module _ (v D : ℕ) (a o b : List (List ℕ)) (pos : 0 < v) (hv : v < sixteen .
   -- they are N(D)
   size : length q ≡ count v D
   unfolding q
-  size = length-map (below (count v D)) (coefficientOf j b) ∙ length-below (count v D)
+  size = length-map-below (coefficientOf j b) (count v D)
 
   -- which fit into a row
   fits : count v D ≤ width

@@ -1,28 +1,27 @@
 -- The rows of a matrix's conditions: as many as it costs, and what solves them is what passes.
 -- Assumes nothing.
-use mathlib.Core.List.{List, [], _∷_, flatMap, List·Memᴰ, List·Memᴰ·head, List·Memᴰ·tail, Memᴰ·map, Memᴰ·of-map, List·Memᴰ·cases-cons, List·Memᴰ·not-nil}
+use mathlib.Core.List.{List, [], _∷_, List·Memᴰ, List·Memᴰ·head, List·Memᴰ·tail, Memᴰ·map, Memᴰ·of-map, List·Memᴰ·cases-cons, List·Memᴰ·not-nil}
 use mathlib.Core.Logic.{⊎-elim}
 use mathlib.Core.Path.{_≡_, refl, sym, _∙_, ap, subst}
 use Prim.Native.Nat.{ℕ, zero, suc, _+_, _-_, _*_, _/_, _≤_, _<_}
-use native.Mathlib.Decide.{decLt, ℕ-discrete}
+use native.Mathlib.Decide.{decLt}
 use native.Mathlib.Nat.{suc-mul, mul-suc}
 use native.Mathlib.Omega.{arith}
-use lib.Bits.{xor-zero-r}
-use lib.Dec.{T, eqb, eqb→eq}
 use lib.ListN.{length, getD, drop, set, replicate, length-replicate, getD-replicate, List·getD-append, List·getD-eq-default}
 use lib.Seq.{sets, sets-eq}
-use Rattle.algebra.proofs.Elements.{times-symbol}
+use Rattle.algebra.proofs.Elements.{times-symbol, times-none}
 use Rattle.algebra.proofs.Numbers.{point-symbol}
-use Rattle.algebra.proofs.Linear.{dot, row, dot-equal}
+use Rattle.algebra.proofs.Linear.{dot, row, dot-equal, dot-ended}
 use Rattle.algebra.proofs.Solutions.{hasse-is-dot-of-numbers}
-use Rattle.algebra.proofs.Tests.{every, every-at}
-use Rattle.definitions.proofs.Joined.{join-nil, join-member, member-join}
+use Rattle.algebra.proofs.Sums.{sum-neutral}
+use Rattle.definitions.proofs.Joined.{join-member, member-join, length-join}
 use Rattle.definitions.proofs.Monomials.{monomials-in-order}
 use Rattle.definitions.proofs.Ordered.{member-at}
-use Rattle.definitions.proofs.Tools.{below-zero, below-member, member-below, sum-zero, sum-suc, sum-ext}
+use Rattle.definitions.proofs.Symbols.{replicate-symbols}
+use Rattle.definitions.proofs.Tools.{below-member, member-below, sum-zero, sum-suc, sum-ext}
 use Rattle.definitions.specs.Bound.{count}
 use Rattle.definitions.specs.Code.{Symbols, point}
-use Rattle.definitions.specs.Field.{numbers, sixteen, sumOf, double, shifted}
+use Rattle.definitions.specs.Field.{numbers, sixteen}
 use Rattle.definitions.specs.Limits.{greatestLimit}
 use Rattle.definitions.specs.Polynomial.{Through, hasse, terms, monomials}
 use Rattle.definitions.specs.Tools.{below, sum}
@@ -35,7 +34,6 @@ use Rattle.dependence.specs.Dependence.{System}
 use Rattle.conditions.proofs.Counts.{orders, length-orders}
 use Rattle.conditions.proofs.Derivatives.{derivatives-symbols}
 use Rattle.rows.proofs.Filled.{filled-symbols}
-use Rattle.conditions.proofs.Placed.{joined-count}
 use Rattle.conditions.proofs.Walk.{product-entry}
 use Rattle.conditions.specs.Conditions.{walked, derivativesRow, productRow, pointRows, columnRows, matrixRows}
 use Rattle.rows.specs.Row.{width}
@@ -43,15 +41,6 @@ use Rattle.weights.proofs.Cost.{matrix-entry}
 use Rattle.weights.specs.Matrix.{matrixOf, columnCost, matrixCost}
 
 -- ---- how many
-
--- joined lists are as long as all of them together
-length-joined : {A : Type 0} (f : ℕ → List A) (n : ℕ) → length (flatMap f (below n)) ≡ sum n (λ j. length (f j))
-length-joined f zero = ap (λ (l : List ℕ). length (flatMap f l)) below-zero ∙ ap length (join-nil f) ∙ sym (sum-zero (λ j. length (f j)))
-length-joined f (suc n) =
-    sym (joined-at n) ∙ ap (λ (x : ℕ). x + length (f n)) (length-joined f n) ∙ sym (sum-suc n (λ j. length (f j)))
-  where
-    joined-at : (n : ℕ) → length (flatMap f (below n)) + length (f n) ≡ length (flatMap f (below (suc n)))
-    joined-at n = joined-count f n ∙ ap (λ (k : ℕ). length (flatMap f (below k))) (let e : n + 1 ≡ suc n = omega arith in e)
 
 -- m + (m - 1) + .. , n numbers of it
 falling-sum : (m n : ℕ) → n ≤ m → 2 * sum n (λ s. m - s) ≡ n * (2 * m + 1 - n)
@@ -78,18 +67,18 @@ module _ (v d w : ℕ) where
   -- the conditions of a point
   length-point : (x y m : ℕ) → length (pointRows v d w x y m) ≡ entryCost m
   length-point x y m =
-      length-joined (orders v d w x y m) m ∙ sum-ext m _ (λ s. m - s) (λ s h. length-orders v d w x y m s) ∙ point-cost m
+      length-join (orders v d w x y m) m ∙ sum-ext m _ (λ s. m - s) (λ s h. length-orders v d w x y m s) ∙ point-cost m
 
   -- of a position
   length-column : (x : ℕ) (column : List ℕ) → length (columnRows v d w x column) ≡ columnCost column
   length-column x column =
-      length-joined (λ b. pointRows v d w x b (getD column b 0)) (sixteen .symbols)
+      length-join (λ b. pointRows v d w x b (getD column b 0)) (sixteen .symbols)
       ∙ sum-ext (sixteen .symbols) _ (λ b. entryCost (getD column b 0)) (λ b h. length-point x b (getD column b 0))
 
   -- there are as many conditions as the matrix costs
   pub length-conditions : (a : List (List ℕ)) → length (matrixRows v d w a) ≡ matrixCost a
   length-conditions a =
-      length-joined (λ i. columnRows v d w (point sixteen i) (getD a i [])) (sixteen .positions)
+      length-join (λ i. columnRows v d w (point sixteen i) (getD a i [])) (sixteen .positions)
       ∙ sum-ext (sixteen .positions) _ (λ i. columnCost (getD a i [])) (λ i h. length-column (point sixteen i) (getD a i []))
 
 -- ---- which
@@ -156,16 +145,9 @@ module _ (v d w : ℕ) (a : List (List ℕ)) where
 zero-rows : (n c : ℕ) → (r : ℕ) → Symbols sixteen (getD (replicate n (replicate c 0)) r [])
 zero-rows n c r k =
     elim (decLt r n) [
-      | yes h ↦ subst (λ (l : List ℕ). getD l k 0 < sixteen .symbols) (sym (getD-replicate n r (replicate c 0) [] h)) (zero-entries c k)
+      | yes h ↦ subst (λ (l : List ℕ). getD l k 0 < sixteen .symbols) (sym (getD-replicate n r (replicate c 0) [] h)) (replicate-symbols sixteen c 0 (omega arith) k)
       | no l ↦ subst (λ (l : List ℕ). getD l k 0 < sixteen .symbols) (sym (List·getD-eq-default (replicate n (replicate c 0)) [] {n = r} (rw (length-replicate n (replicate {A = ℕ} c 0)) (omega arith)))) (omega arith)
     ]
-  where
-    zero-entries : (c k : ℕ) → getD (replicate c 0) k 0 < sixteen .symbols
-    zero-entries c k =
-        elim (decLt k c) [
-          | yes h ↦ subst (λ (x : ℕ). x < sixteen .symbols) (sym (getD-replicate c k 0 0 h)) (omega arith)
-          | no l ↦ subst (λ (x : ℕ). x < sixteen .symbols) (sym (List·getD-eq-default (replicate c 0) 0 {n = k} (rw (length-replicate {A = ℕ} c 0) (omega arith)))) (omega arith)
-        ]
 
 -- a system of zeros
 pub empty-system : (n c : ℕ) → n ≡ greatestLimit → System (replicate n (replicate c 0))
@@ -185,37 +167,6 @@ placed-at o l r h k =
 
 -- ---- what solves passes, and what passes solves
 
--- computed of sixteen symbols
-vanishes : T (every (sixteen .symbols) (λ x. eqb (sixteen .times x 0) 0))
-unfolding every sumOf double shifted
-vanishes = tt
-
--- a product with zero
-times-zero : (x : ℕ) → x < sixteen .symbols → sixteen .times x 0 ≡ 0
-times-zero x h = eqb→eq _ _ (every-at (sixteen .symbols) (λ x. eqb (sixteen .times x 0) 0) vanishes x h)
-
--- a sum with zero
-plus-zero : (x : ℕ) → sixteen .plus x 0 ≡ x
-unfolding sumOf
-plus-zero x = xor-zero-r x
-
--- one entry more
-dot-suc : (n : ℕ) (ρ q : ℕ → ℕ) → dot (numbers sixteen) (suc n) ρ q ≡ sixteen .plus (dot (numbers sixteen) n ρ q) (sixteen .times (ρ n) (q n))
-unfolding dot
-dot-suc n ρ q = refl
-
--- where q has ended the row does not matter
-dot-ended : (n w : ℕ) (ρ q : ℕ → ℕ) → w ≤ n → ((k : ℕ) → ρ k < sixteen .symbols) → ((k : ℕ) → w ≤ k → q k ≡ 0) → dot (numbers sixteen) n ρ q ≡ dot (numbers sixteen) w ρ q
-dot-ended zero w ρ q h sr e = let z : w ≡ 0 = omega arith in ap (λ (n : ℕ). dot (numbers sixteen) n ρ q) (sym z)
-dot-ended (suc n) w ρ q h sr e =
-    elim (ℕ-discrete w (suc n)) [
-      | yes z ↦ ap (λ (n : ℕ). dot (numbers sixteen) n ρ q) (sym z)
-      | no l ↦
-          dot-suc n ρ q
-          ∙ ap (λ (x : ℕ). sixteen .plus (dot (numbers sixteen) n ρ q) x) (ap (sixteen .times (ρ n)) (e n (omega arith)) ∙ times-zero (ρ n) (sr n))
-          ∙ plus-zero (dot (numbers sixteen) n ρ q) ∙ dot-ended n w ρ q (omega arith) sr e
-    ]
-
 module _ (m : List ℕ) (n v D : ℕ) (small : n ≤ sixteen .positions) (size : length m ≡ sixteen .symbols * n) (pos : 0 < v) (fits : count v D ≤ width) (a : List (List ℕ)) (loaded : a ≡ matrixOf m n)
     (q : List ℕ) (sq : Symbols sixteen q) (ended : length q ≡ count v D) where
   -- the row of a condition times q is the derivative
@@ -223,7 +174,9 @@ module _ (m : List ℕ) (n v D : ℕ) (small : n ≤ sixteen .positions) (size :
       → dot (numbers sixteen) width (λ k. getD ρ k 0) (λ k. getD q k 0)
       ≡ hasse (numbers sixteen) (terms (numbers sixteen) q (monomials v D)) (c .s) (c .t) (point sixteen (c .i)) (c .b)
   row-is-hasse ρ c =
-      dot-ended width (count v D) (λ k. getD ρ k 0) (λ k. getD q k 0) fits (condition-symbols v D (count v D) a ρ c) (λ k h. List·getD-eq-default q 0 {n = k} (omega arith))
+      dot-ended (numbers sixteen) sum-neutral width (count v D) (λ k. getD ρ k 0) (λ k. getD q k 0) fits
+      (λ k h _. ap (sixteen .times (getD ρ k 0)) (List·getD-eq-default q 0 {n = k} (omega arith))
+      ∙ times-none sixteen sixteen-field (getD ρ k 0) (condition-symbols v D (count v D) a ρ c k))
       ∙ dot-equal (numbers sixteen) (count v D) (λ k. getD ρ k 0) (row (numbers sixteen) (monomials v D) (c .s) (c .t) (point sixteen (c .i)) (c .b)) (λ k. getD q k 0) (λ k. getD q k 0)
       (λ k h. ap (λ (x : List ℕ). getD x k 0) (sym (c .is-row)) ∙ product-entry v pos D k h (point sixteen (c .i)) (c .b) (c .s) (c .t)) (λ k h. refl)
       ∙ ap (λ (w : ℕ). dot (numbers sixteen) w (row (numbers sixteen) (monomials v D) (c .s) (c .t) (point sixteen (c .i)) (c .b)) (λ k. getD q k 0)) (sym (monomials-in-order v pos D .size))

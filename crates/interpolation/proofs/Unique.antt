@@ -8,6 +8,7 @@ use native.Mathlib.Omega.{arith}
 use lib.ListN.{length, drop, getD}
 use Rattle.definitions.proofs.Bound.{count-zero, bound-le}
 use Rattle.definitions.proofs.Tools.{sum-zero, sum-suc}
+use Rattle.definitions.proofs.Zeros.{isZero-false}
 use Rattle.definitions.specs.Answers.{Answer, refused, interpolated, Interpolated, InterpolationAnswers}
 use Rattle.definitions.specs.Bound.{bound}
 use Rattle.definitions.specs.Code.{Symbols}
@@ -16,7 +17,7 @@ use Rattle.definitions.specs.Polynomial.{Interpolates, leading}
 use Rattle.definitions.specs.Refusals.{Line, tried, interpolationTable}
 use Rattle.definitions.specs.Tools.{sum}
 use Rattle.definitions.specs.Weights.{entryCost, cost}
-use Rattle.elimination.proofs.Leading.{isZero-false, leading-is}
+use Rattle.elimination.proofs.Leading.{leading-is}
 use Rattle.elimination.proofs.Unique.{interpolates-unique}
 use Rattle.field.proofs.Instance.{sixteen-field}
 use Rattle.refusals.proofs.Unique.{same-told, answerOf, refused-back}

@@ -1,25 +1,26 @@
 -- The chain of the list: the roots of what interpolates hold the high scores, their rows are ranked, and that is the list.
 -- Assumes nothing.
 use mathlib.Core.Bool.{false}
-use mathlib.Core.List.{List, [], _∷_, _++_, map, flatten, List·Memᴰ, List·Memᴰ·head, List·Memᴰ·tail}
-use mathlib.Core.Path.{_≡_, refl, sym, _∙_, ap, subst}
-use Prim.Native.Nat.{ℕ, zero, suc, _+_, _*_, _-_, _/_, _≤_, _<_}
+use mathlib.Core.List.{List, [], _∷_, _++_, map, flatten, List·Memᴰ}
+use mathlib.Core.Path.{_≡_, sym, _∙_, ap, subst}
+use Prim.Native.Nat.{ℕ, _+_, _*_, _-_, _/_, _≤_, _<_}
 use native.Mathlib.Decide.{decLt}
 use native.Mathlib.Nat.{mul-le-mul}
 use native.Mathlib.Omega.{arith}
 use lib.Dec.{ltb}
-use lib.ListN.{length, take, drop, getD, replicate, length-append, length-drop}
-use lib.Seq.{getD-drop}
+use lib.ListN.{length, take, drop, getD, length-append, length-drop}
 use Rattle.algebra.proofs.Complete.{roots-hold-high-scores}
 use Rattle.algebra.proofs.Elements.{zero-symbol}
-use Rattle.algebra.proofs.Every.{All}
+use Rattle.algebra.proofs.Every.{All, all-members, length-flatten}
 use Rattle.definitions.proofs.Listing.{falling-in-order}
 use Rattle.definitions.proofs.Messages.{messages-in-order}
+use Rattle.definitions.proofs.Symbols.{append-symbols, drop-symbols}
 use Rattle.definitions.proofs.Tools.{select-from, length-select}
 use Rattle.definitions.specs.Answers.{rowsOnto, scoresOnto}
 use Rattle.definitions.specs.Bound.{count, bound}
 use Rattle.definitions.specs.Code.{Symbols, messages}
 use Rattle.definitions.specs.Field.{sixteen}
+use Rattle.definitions.specs.Limits.{greatestLimit, greatestRows}
 use Rattle.definitions.specs.Listing.{fallingOnto, listOf}
 use Rattle.definitions.specs.Polynomial.{Interpolates, isZero}
 use Rattle.definitions.specs.Roots.{isRoot, rootsOf}
@@ -32,26 +33,16 @@ use Rattle.ranking.proofs.Levels.{all-ranked}
 use Rattle.ranking.proofs.Memory.{rows-read}
 use Rattle.ranking.proofs.Same.{ranked-same, map-same}
 use Rattle.ranking.proofs.Scores.{matrix-score}
-use Rattle.ranking.proofs.Written.{Sized, length-flatten}
+use Rattle.ranking.proofs.Written.{Sized}
 use Rattle.ranking.specs.Rows.{rowsOf, matrixScore, ranked, scoresOf}
 use Rattle.search.proofs.Roots.{roots-at-most}
 use Rattle.weights.specs.Matrix.{matrixOf}
 
--- what holds of every member holds of all
-all-members : {B : Type 0} (P : B → Type 0) (l : List B) → ((x : B) → List·Memᴰ x l → P x) → All P l
-all-members P [] h = tt
-all-members P (x ∷ l) h = (h x (List·Memᴰ·head refl), all-members P l (λ y m. h y (List·Memᴰ·tail m)))
-
 -- lists of symbols, one behind the other
-symbols-append : (a b : List ℕ) → Symbols sixteen a → Symbols sixteen b → Symbols sixteen (a ++ b)
-symbols-append [] b sa sb j = sb j
-symbols-append (x ∷ a) b sa sb zero = sa zero
-symbols-append (x ∷ a) b sa sb (suc j) = symbols-append a b (λ i. sa (suc i)) sb j
-
 symbols-flatten : (rows : List (List ℕ)) → All (λ f. Symbols sixteen f) rows → Symbols sixteen (flatten rows)
 unfolding flatten
 symbols-flatten [] h j = omega arith
-symbols-flatten (f ∷ rows) h j = symbols-append f (flatten rows) (h .0) (symbols-flatten rows (h .1)) j
+symbols-flatten (f ∷ rows) h j = append-symbols sixteen f (flatten rows) (h .0) (symbols-flatten rows (h .1)) j
 
 module _ (D k : ℕ) (q : List ℕ) where
   root-member : (f : List ℕ) → List·Memᴰ f (rootsOf sixteen D k q) → List·Memᴰ f (messages sixteen k)
@@ -68,23 +59,17 @@ module _ (D k : ℕ) (q : List ℕ) where
   pub found-symbols : (before found : List ℕ) → Symbols sixteen before → found ≡ rowsOnto sixteen k (rootsOf sixteen D k q) before → Symbols sixteen found
   found-symbols before found s e =
       subst (λ (l : List ℕ). Symbols sixteen l) (sym e)
-      (symbols-append (flatten (rootsOf sixteen D k q)) (drop (k * length (rootsOf sixteen D k q)) before) (symbols-flatten (rootsOf sixteen D k q) roots-symbols)
-      (λ j. rw (getD-drop (k * length (rootsOf sixteen D k q)) before j 0) (s (k * length (rootsOf sixteen D k q) + j))))
+      (append-symbols sixteen (flatten (rootsOf sixteen D k q)) (drop (k * length (rootsOf sixteen D k q)) before) (symbols-flatten (rootsOf sixteen D k q) roots-symbols)
+      (drop-symbols sixteen (k * length (rootsOf sixteen D k q)) before s))
 
--- zeros are symbols
-pub zeros-symbols : (n : ℕ) → Symbols sixteen (replicate n 0)
-zeros-symbols zero j = omega arith
-zeros-symbols (suc n) zero = omega arith
-zeros-symbols (suc n) (suc j) = zeros-symbols n j
-
-module _ (m q : List ℕ) (n k D : ℕ) (hk : 2 ≤ k) (hn : k ≤ n) (small : n ≤ 15) (size : length m ≡ 16 * n) (cheap : cost m ≤ 150)
+module _ (m q : List ℕ) (n k D : ℕ) (hk : 2 ≤ k) (hn : k ≤ n) (small : n ≤ sixteen .positions) (size : length m ≡ sixteen .symbols * n) (cheap : cost m ≤ greatestLimit)
     (is-bound : D ≡ bound (k - 1) (cost m)) (i : Interpolates sixteen n (k - 1) D m q) where
-  -- at most sixteen, and room for them
-  pub few-roots : (length (rootsOf sixteen D k q) ≤ 16) × (k * (D / (k - 1)) ≤ 240)
+  -- at most as many as a list has rows, and room for them
+  pub few-roots : (length (rootsOf sixteen D k q) ≤ greatestRows) × (k * (D / (k - 1)) ≤ sixteen .positions * greatestRows)
   few-roots =
-      let powers : D / (k - 1) ≤ 16 = subst (λ (d : ℕ). d / (k - 1) ≤ 16) (sym is-bound) (powers-of-y (k - 1) (cost m) (omega arith) (omega arith) cheap) in
+      let powers : D / (k - 1) ≤ greatestRows = subst (λ (d : ℕ). d / (k - 1) ≤ greatestRows) (sym is-bound) (powers-of-y (k - 1) (cost m) (omega arith) (omega arith) cheap) in
       let most = roots-at-most sixteen sixteen-field k D hk q (i .symbols) (let e = i .size in omega arith) (i .nonzero) in
-      (omega arith, mul-le-mul {n₁ = k} {m₁ = D / (k - 1)} {n₂ = 15} {m₂ = 16} (omega arith) powers)
+      (omega arith, mul-le-mul {n₁ = k} {m₁ = D / (k - 1)} {n₂ = sixteen .positions} {m₂ = greatestRows} (omega arith) powers)
 
   -- the ranking of the roots is the list
   list-of-roots : ranked (score sixteen n m) D (rootsOf sixteen D k q) ≡ listOf sixteen n k m
@@ -94,7 +79,7 @@ module _ (m q : List ℕ) (n k D : ℕ) (hk : 2 ≤ k) (hn : k ≤ n) (small : n
       ∙ ap (λ (d : ℕ). select (λ (f : List ℕ). ltb d (score sixteen n m f)) (messages sixteen k)) is-bound)
 
   -- "There are at most 16 rows"
-  few-rows : length (listOf sixteen n k m) ≤ 16
+  few-rows : length (listOf sixteen n k m) ≤ greatestRows
   unfolding ranked
   few-rows =
       let high = select (λ (f : List ℕ). ltb D (score sixteen n m f)) (rootsOf sixteen D k q) in
@@ -144,6 +129,6 @@ length-found D k q before found h e =
     ap length e ∙ length-append (flatten (rootsOf sixteen D k q)) (drop (k * length (rootsOf sixteen D k q)) before)
     ∙ ap (λ (x : ℕ). length (flatten (rootsOf sixteen D k q)) + x) (length-drop (k * length (rootsOf sixteen D k q)) before) ∙ omega arith
 
--- sixteen rows of fifteen symbols
-pub rows-fit : (k many : ℕ) → k ≤ 15 → many ≤ 16 → k * many ≤ 240
-rows-fit k many hk hm = mul-le-mul {n₁ = k} {m₁ = many} {n₂ = 15} {m₂ = 16} hk hm
+-- the most rows of the most symbols
+pub rows-fit : (k many : ℕ) → k ≤ sixteen .positions → many ≤ greatestRows → k * many ≤ sixteen .positions * greatestRows
+rows-fit k many hk hm = mul-le-mul {n₁ = k} {m₁ = many} {n₂ = sixteen .positions} {m₂ = greatestRows} hk hm

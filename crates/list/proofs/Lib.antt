@@ -1,4 +1,4 @@
 pub mod Degrees
 pub mod Laws
 pub mod Facts
-pub mod Order
+pub mod Answers

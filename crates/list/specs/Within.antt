@@ -13,7 +13,7 @@ use Rattle.weights.specs.Matrix.{matrixOf}
 
 -- the matrix was loaded from the bytes of n positions
 abbrev pub Loaded : List (List ℕ) → ℕ → Type 0
-Loaded a n = (m : List ℕ) × (length m ≡ 16 * n) × (a ≡ matrixOf m n)
+Loaded a n = (m : List ℕ) × (length m ≡ sixteen .symbols * n) × (a ≡ matrixOf m n)
 
 -- the list of those bytes: how many rows, never more than the lent memory takes, and the memory after
 pub record Lists (n k : ℕ) (m rows scores : List ℕ) (count : ℕ) (rowsAfter scoresAfter : List ℕ) : Type 0 where
@@ -24,7 +24,7 @@ pub record Lists (n k : ℕ) (m rows scores : List ℕ) (count : ℕ) (rowsAfter
 
 abbrev pub ListsOf : List (List ℕ) → ℕ → ℕ → List ℕ → List ℕ → ℕ → List ℕ → List ℕ → Type 0
 ListsOf a n k rows scores count rowsAfter scoresAfter =
-    (m : List ℕ) → length m ≡ 16 * n → a ≡ matrixOf m n → Lists n k m rows scores count rowsAfter scoresAfter
+    (m : List ℕ) → length m ≡ sixteen .symbols * n → a ≡ matrixOf m n → Lists n k m rows scores count rowsAfter scoresAfter
 
 -- what a table makes of the list: the answer and both memories, refused or listed
 module _ (table : List Line) (n k : ℕ) (m rows scores : List ℕ) where
@@ -37,4 +37,4 @@ module _ (table : List Line) (n k : ℕ) (m rows scores : List ℕ) where
 -- the last line of both tables, the cost
 abbrev pub PricedOf : List (List ℕ) → ℕ → ℕ → ℕ → List ℕ → List ℕ → Answer → List ℕ → List ℕ → Type 0
 PricedOf a n k G rows scores answer rowsAfter scoresAfter =
-    (m : List ℕ) → length m ≡ 16 * n → a ≡ matrixOf m n → Answered (costWithin G m ∷ []) n k m rows scores answer rowsAfter scoresAfter
+    (m : List ℕ) → length m ≡ sixteen .symbols * n → a ≡ matrixOf m n → Answered (costWithin G m ∷ []) n k m rows scores answer rowsAfter scoresAfter

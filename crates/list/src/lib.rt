@@ -8,14 +8,13 @@ ghost use Rattle.definitions.specs.Limits.{greatestRows};
 
 pub mod inside;
 
+use refusals::Checked;
 use refusals::Counted;
 use refusals::Refusal;
-use interpolation::GREATEST_LIMIT;
-use ranking::inside::ROWS;
-use refusals::Checked;
-use weights::inside::SYMBOLS;
-
-const ENTRIES: usize = 240;
+use refusals::limits::GREATEST_ENTRY;
+use refusals::limits::GREATEST_LIMIT;
+use refusals::limits::GREATEST_ROWS;
+use refusals::limits::SYMBOLS;
 
 pub fn list_of_multiplicities(
     n: usize,
@@ -33,9 +32,9 @@ pub fn list_of_multiplicities(
     let checked = Checked::sizes(n, k)
         .or(GREATEST_LIMIT < limit, Refusal::Setting)
         .length(matrix.len(), SYMBOLS, n)
-        .room(rows.len(), ROWS, k)
-        .room(scores.len(), ROWS, 1)
-        .symbols(weights::GREATEST_ENTRY, matrix);
+        .room(rows.len(), GREATEST_ROWS, k)
+        .or(scores.len() < GREATEST_ROWS, Refusal::Room)
+        .symbols(GREATEST_ENTRY, matrix);
     if let Checked::Refused(r) = checked {
         return Counted::Refused(r);
     }
@@ -61,15 +60,12 @@ pub fn list_of_reliabilities(
         .level(level)
         .or(GREATEST_LIMIT < limit, Refusal::Setting)
         .length(reliabilities.len(), SYMBOLS, n)
-        .room(rows.len(), ROWS, k)
-        .room(scores.len(), ROWS, 1);
-    let checked = inside::columns_checked(settled, reliabilities, n);
+        .room(rows.len(), GREATEST_ROWS, k)
+        .or(scores.len() < GREATEST_ROWS, Refusal::Room);
+    let checked = weights::inside::columns_checked(settled, reliabilities, n);
     if let Checked::Refused(r) = checked {
         return Counted::Refused(r);
     }
-    let entries = SYMBOLS * n;
-    let mut matrix = [0u8; ENTRIES];
-    weights::inside::multiplicities_into(level, reliabilities, &mut matrix);
-    let columns = weights::inside::load(&matrix[..entries], n);
+    let columns = weights::inside::weighed(level, reliabilities, n);
     inside::list_priced(&columns, n, k, limit, rows, scores)
 }

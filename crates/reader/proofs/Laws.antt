@@ -1,7 +1,7 @@
 -- From the list's answer to the program's text.
 -- Assumes nothing.
 use mathlib.Core.Bool.{Bool, true, false, cond, not}
-use mathlib.Core.List.{List, [], _∷_, _++_, map, flatten, append-nil, List·Memᴰ, List·Memᴰ·head, List·Memᴰ·tail}
+use mathlib.Core.List.{List, [], _∷_, _++_, map, flatten}
 use mathlib.Core.Path.{_≡_, refl, sym, _∙_, ap, ap₂, subst}
 use Prim.Native.Nat.{ℕ, zero, suc, _+_, _*_, _-_, _/_, _%_, _≤_, _<_}
 use native.Mathlib.Omega.{arith}
@@ -10,7 +10,8 @@ use lib.Dec.{eqb, ltb}
 use lib.ListN.{length, take, drop, getD, length-append, length-drop, length-map, List·getD-append}
 use lib.Seq.{ext-getD, getD-take, length-take-le, take-all, take-at}
 use Rattle.algebra.proofs.Elements.{zero-symbol}
-use Rattle.algebra.proofs.Every.{All}
+use Rattle.algebra.proofs.Every.{all-members, length-flatten}
+use Rattle.definitions.proofs.Joined.{flatten-one, flatten-append}
 use Rattle.definitions.proofs.Listing.{falling-in-order}
 use Rattle.definitions.proofs.Messages.{messages-in-order}
 use Rattle.definitions.proofs.Table.{Gives, stop, pass, Accepts, end, next, gives, accepts, sizes-mean}
@@ -28,7 +29,7 @@ use Rattle.refusals.specs.Refusal.{toldRefusal}
 use Rattle.refusals.specs.declared.Refusal.{Refusal}
 use Rattle.refusals.specs.declared.Refusal.the-variants.{Sizes, Setting, Length, Room, Symbol, Column, Cost, Zero}
 use Rattle.ranking.proofs.Memory.{rows-read}
-use Rattle.ranking.proofs.Written.{Sized, length-flatten, flatten-append}
+use Rattle.ranking.proofs.Written.{Sized}
 use Rattle.ranking.specs.Rows.{rowAt, rowsOf}
 use Rattle.reader.specs.Program.{listText, answerTo, output, answerText, Holds}
 use Rattle.text.proofs.Laws.{none-lines, more-lines}
@@ -52,11 +53,6 @@ outcome : (table : List Line) → Numbered table → Outcome table
 outcome [] h = lists end
 outcome (l ∷ table) h = split (l .given) (λ e. refuses (l .number) (l .place) (h .0) (stop e)) (λ e. outcome-more l table e (outcome table (h .1)))
 
--- what holds of every member holds of all
-all-members : {B : Type 0} (P : B → Type 0) (l : List B) → ((x : B) → List·Memᴰ x l → P x) → All P l
-all-members P [] h = tt
-all-members P (x ∷ l) h = (h x (List·Memᴰ·head refl), all-members P l (λ y m. h y (List·Memᴰ·tail m)))
-
 -- the rows of the list are messages: k symbols each
 list-sized : (n k : ℕ) (m : List ℕ) → Sized k (listOf sixteen n k m)
 list-sized n k m =
@@ -65,15 +61,12 @@ list-sized n k m =
     messages-in-order sixteen (zero-symbol sixteen sixteen-field) k .sized f
     (select-from test (messages sixteen k) f (falling-in-order (score sixteen n m) (select test (messages sixteen k)) .from f h)))
 
--- the lines of the rows in memory, one behind the other
-flatten-one : (f : List ℕ) → flatten (f ∷ []) ≡ f
-unfolding flatten
-flatten-one f = append-nil f
-
+-- no line
 flatten-none : flatten {A = ℕ} [] ≡ []
 unfolding flatten
 flatten-none = refl
 
+-- the lines of the rows in memory, one behind the other
 lines-flat : (k : ℕ) (rows scores : List ℕ) (j : ℕ) → rowLines k rows scores j ≡ flatten (map (lineOf k rows scores) (below j))
 lines-flat k rows scores zero = none-lines k rows scores ∙ sym (ap (λ (l : List ℕ). flatten (map (lineOf k rows scores) l)) below-zero ∙ flatten-none)
 lines-flat k rows scores (suc j) =

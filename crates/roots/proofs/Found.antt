@@ -1,13 +1,14 @@
 -- From the search over the loaded array to the y-roots of document 01: their rows, their number and the room that they take.
 -- Assumes nothing.
 use mathlib.Core.Bool.{false}
-use mathlib.Core.List.{List, [], _∷_, _++_, flatten, List·Memᴰ, List·Memᴰ·head, List·Memᴰ·tail}
-use mathlib.Core.Path.{_≡_, refl, sym, _∙_, ap, ap₂, subst}
+use mathlib.Core.List.{List, [], _∷_, _++_, flatten, List·Memᴰ}
+use mathlib.Core.Path.{_≡_, sym, _∙_, ap, ap₂, subst}
 use Prim.Native.Nat.{ℕ, _+_, _-_, _*_, _/_, _≤_}
-use native.Mathlib.Nat.{mul-le-mul-left, mul-suc}
+use native.Mathlib.Nat.{mul-le-mul-left}
 use native.Mathlib.Omega.{arith}
-use lib.ListN.{length, take, drop, length-append}
+use lib.ListN.{length, take, drop}
 use Rattle.algebra.proofs.Elements.{zero-symbol}
+use Rattle.algebra.proofs.Every.{all-members, length-flatten}
 use Rattle.definitions.proofs.Joined.{join-nil, join-cons}
 use Rattle.definitions.specs.Answers.{rowsOnto}
 use Rattle.definitions.specs.Bound.{count}
@@ -39,12 +40,7 @@ rows-flat (f ∷ rows) = join-cons (λ (f : List ℕ). [] ++ f) f rows ∙ ap (�
 
 -- rows of k symbols each
 rows-length : (k : ℕ) (rows : List (List ℕ)) → ((f : List ℕ) → List·Memᴰ f rows → length f ≡ k) → length (rowsAfter [] rows) ≡ k * length rows
-rows-length k [] h = ap length (join-nil (λ (f : List ℕ). [] ++ f)) ∙ omega arith
-rows-length k (f ∷ rows) h =
-    let a = h f (List·Memᴰ·head refl) in
-    let b = rows-length k rows (λ g m. h g (List·Memᴰ·tail m)) in
-    let c = mul-suc k (length rows) in
-    ap length (join-cons (λ (f : List ℕ). [] ++ f) f rows) ∙ length-append f (rowsAfter [] rows) ∙ omega arith
+rows-length k rows h = ap length (rows-flat rows) ∙ length-flatten k rows (all-members (λ (f : List ℕ). length f ≡ k) rows h)
 
 module _ (D k : ℕ) (q : List ℕ) (two : 2 ≤ k) (small : count (k - 1) D ≤ greatestCount) (full : length q ≡ count (k - 1) D) (s : Symbols sixteen q) where
   -- the array holds every accepted polynomial

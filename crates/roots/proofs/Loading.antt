@@ -1,17 +1,16 @@
 -- The steps of loading a list of coefficients, degree by degree.
 -- Assumes nothing.
-use mathlib.Core.List.{List, [], _∷_, _++_, map, flatMap}
+use mathlib.Core.List.{List, [], _∷_, _++_, map}
 use mathlib.Core.Path.{_≡_, refl, sym, _∙_, ap, ap₂}
-use Prim.Native.Nat.{ℕ, zero, suc, _+_, _-_, _*_, _/_, _≤_, _<_}
-use native.Mathlib.Decide.{decLt}
-use native.Mathlib.Nat.{suc-inj, suc-ne-zero, le-div-iff-mul-le, div-mul-le-self}
+use Prim.Native.Nat.{ℕ, suc, _+_, _-_, _*_, _/_, _≤_, _<_}
+use native.Mathlib.Nat.{suc-inj, suc-ne-zero}
 use native.Mathlib.Numerals.{add-one}
 use native.Mathlib.Omega.{arith}
-use lib.ListN.{length, getD, take, drop, set, length-append, length-map, length-drop}
+use lib.ListN.{length, getD, take, drop, set, length-drop}
 use lib.Seq.{getD-drop, take-suc, take-add, take-all, length-take-le}
-use Rattle.definitions.proofs.Joined.{join-nil, join-below}
-use Rattle.definitions.proofs.Monomials.{monomials-in-order}
-use Rattle.definitions.proofs.Tools.{below-zero, length-below, map-below}
+use Rattle.definitions.proofs.Joined.{join-below}
+use Rattle.definitions.proofs.Monomials.{monomials-in-order, lower, lower-more, lower-grows}
+use Rattle.definitions.proofs.Tools.{length-map-below, map-below}
 use Rattle.definitions.specs.Bound.{count}
 use Rattle.definitions.specs.Field.{numbers, sixteen}
 use Rattle.definitions.specs.Polynomial.{monomialsOf, monomials}
@@ -52,78 +51,44 @@ module _ (h : ℕ) where
   degree-more v d j b q l now k e =
       let n = length-drop j q in
       let m : length (take b (drop j q)) ≡ length (some v d b) =
-      length-take-le b (drop j q) (omega arith) ∙ sym (length-map (below b) (λ (b : ℕ). (d - v * b, b)) ∙ length-below b) in
+      length-take-le b (drop j q) (omega arith) ∙ sym (length-map-below (λ (b : ℕ). (d - v * b, b)) b) in
       ap₂ (λ (x : List ℕ) (c : ℕ). set x ((d - v * b) * h + b) c) e (sym (getD-drop j q b 0))
       ∙ sym (loaded-one (getD (drop j q) b 0) (d - v * b, b) (loaded (numbers sixteen) h (take b (drop j q)) (some v d b) l))
       ∙ sym (loaded-append (take b (drop j q)) (some v d b) (getD (drop j q) b 0 ∷ []) ((d - v * b, b) ∷ []) l m)
       ∙ ap₂ (λ (x : List ℕ) (y : List (ℕ × ℕ)). loaded (numbers sixteen) h x y l) (sym (take-suc (drop j q) b 0 (omega arith))) (sym (map-below (λ (b : ℕ). (d - v * b, b)) b))
       ∙ ap (λ (n : ℕ). loaded (numbers sixteen) h (take n (drop j q)) (some v d n) l) (sym (add-one b))
 
--- the place of a monomial of weighted degree d
-pub degree-place : (v d b : ℕ) → 0 < v → b ≤ d / v → v * b ≤ d
-degree-place v d b pos l = let k : b * v ≤ d = (le-div-iff-mul-le pos) .0 l in omega arith
+module _ (v : ℕ) (pos : 0 < v) (D : ℕ) (q : List ℕ) (full : length q ≡ count v D) where
+  -- all coefficients are of weighted degree at most D
+  size : length (lower v (suc D)) ≡ length q
+  size = ap (λ (n : ℕ). length (lower v n)) (sym (add-one D)) ∙ monomials-in-order v pos D .size ∙ sym full
 
--- a greater degree, as great a power of y
-pub degree-grows : (v d D : ℕ) → 0 < v → d ≤ D → d / v ≤ D / v
-degree-grows v d D pos l = let e = div-mul-le-self d v in (le-div-iff-mul-le pos) .1 (omega arith)
+  -- the coefficients of degree d are there
+  pub degree-within : (d : ℕ) → d ≤ D → length (lower v d) + (d / v + 1) ≤ length q
+  degree-within d l = let a = lower-grows v (suc d) (suc D) (omega arith) in let b = lower-more v d in let c = size in omega arith
 
-module _ (v : ℕ) where
-  -- the monomials of weighted degree below d
-  abbrev pub lower : ℕ → List (ℕ × ℕ)
-  lower d = flatMap (monomialsOf v) (below d)
+  module _ (h : ℕ) (zs : List ℕ) where
+    -- before the first degree
+    pub load-none : zs ≡ loaded (numbers sixteen) h (take 0 q) (lower v 0) zs
+    load-none = sym (loaded-none h (lower v 0) zs)
 
-  -- how many there are of weighted degree d
-  length-of : (d : ℕ) → length (monomialsOf v d) ≡ d / v + 1
-  length-of d = length-map (below (d / v + 1)) (λ (b : ℕ). (d - v * b, b)) ∙ length-below (d / v + 1)
+    -- one degree more
+    pub load-more : (d j : ℕ) (p r : List ℕ) → d ≤ D → j ≡ length (lower v d) → p ≡ loaded (numbers sixteen) h (take j q) (lower v d) zs
+        → r ≡ loaded (numbers sixteen) h (take (d / v + 1) (drop j q)) (monomialsOf v d) p
+        → (j + (d / v + 1) ≡ length (lower v (d + 1))) × (r ≡ loaded (numbers sixteen) h (take (j + (d / v + 1)) q) (lower v (d + 1)) zs)
+    load-more d j p r l ej ep er =
+        let w = degree-within d l in (
+          ap (λ (n : ℕ). n + (d / v + 1)) ej ∙ sym (lower-more v d) ∙ ap (λ (n : ℕ). length (lower v n)) (sym (add-one d)),
+          er ∙ ap (loaded (numbers sixteen) h (take (d / v + 1) (drop j q)) (monomialsOf v d)) ep
+              ∙ sym (loaded-append h (take j q) (lower v d) (take (d / v + 1) (drop j q)) (monomialsOf v d) zs (length-take-le j q (omega arith) ∙ ej))
+              ∙ ap₂ (λ (x : List ℕ) (y : List (ℕ × ℕ)). loaded (numbers sixteen) h x y zs) (sym (take-add j (d / v + 1) q))
+              (sym (join-below (monomialsOf v) d) ∙ ap (lower v) (sym (add-one d))),
+        )
 
-  -- and of those below d + 1
-  lower-more : (d : ℕ) → length (lower (suc d)) ≡ length (lower d) + (d / v + 1)
-  lower-more d = ap length (join-below (monomialsOf v) d) ∙ length-append (lower d) (monomialsOf v d) ∙ ap (λ (n : ℕ). length (lower d) + n) (length-of d)
-
-  -- a greater degree, more of them
-  lower-grows : (d E : ℕ) → d ≤ E → length (lower d) ≤ length (lower E)
-  lower-grows d zero l = let e : d ≡ 0 = omega arith in rw e (omega arith)
-  lower-grows d (suc E) l =
-      elim (decLt d (suc E)) [
-        | yes k ↦ let r = lower-grows d E (omega arith) in let s = lower-more E in omega arith
-        | no n ↦ let e : d ≡ suc E = omega arith in rw e (omega arith)
-      ]
-
-  -- there are none below 0
-  pub none-lower : 0 ≡ length (lower 0)
-  none-lower = sym (ap (λ (l : List ℕ). length (flatMap (monomialsOf v) l)) below-zero ∙ ap length (join-nil (monomialsOf v)))
-
-  module _ (pos : 0 < v) (D : ℕ) (q : List ℕ) (full : length q ≡ count v D) where
-    -- all coefficients are of weighted degree at most D
-    size : length (lower (suc D)) ≡ length q
-    size = ap (λ (n : ℕ). length (lower n)) (sym (add-one D)) ∙ monomials-in-order v pos D .size ∙ sym full
-
-    -- the coefficients of degree d are there
-    pub degree-within : (d : ℕ) → d ≤ D → length (lower d) + (d / v + 1) ≤ length q
-    degree-within d l = let a = lower-grows (suc d) (suc D) (omega arith) in let b = lower-more d in let c = size in omega arith
-
-    module _ (h : ℕ) (zs : List ℕ) where
-      -- before the first degree
-      pub load-none : zs ≡ loaded (numbers sixteen) h (take 0 q) (lower 0) zs
-      load-none = sym (loaded-none h (lower 0) zs)
-
-      -- one degree more
-      pub load-more : (d j : ℕ) (p r : List ℕ) → d ≤ D → j ≡ length (lower d) → p ≡ loaded (numbers sixteen) h (take j q) (lower d) zs
-          → r ≡ loaded (numbers sixteen) h (take (d / v + 1) (drop j q)) (monomialsOf v d) p
-          → (j + (d / v + 1) ≡ length (lower (d + 1))) × (r ≡ loaded (numbers sixteen) h (take (j + (d / v + 1)) q) (lower (d + 1)) zs)
-      load-more d j p r l ej ep er =
-          let w = degree-within d l in (
-            ap (λ (n : ℕ). n + (d / v + 1)) ej ∙ sym (lower-more d) ∙ ap (λ (n : ℕ). length (lower n)) (sym (add-one d)),
-            er ∙ ap (loaded (numbers sixteen) h (take (d / v + 1) (drop j q)) (monomialsOf v d)) ep
-                ∙ sym (loaded-append h (take j q) (lower d) (take (d / v + 1) (drop j q)) (monomialsOf v d) zs (length-take-le j q (omega arith) ∙ ej))
-                ∙ ap₂ (λ (x : List ℕ) (y : List (ℕ × ℕ)). loaded (numbers sixteen) h x y zs) (sym (take-add j (d / v + 1) q))
-                (sym (join-below (monomialsOf v) d) ∙ ap lower (sym (add-one d))),
-          )
-
-      -- after the last degree
-      pub load-all : (d j : ℕ) (p : List ℕ) → d ≡ D + 1 → j ≡ length (lower d) → p ≡ loaded (numbers sixteen) h (take j q) (lower d) zs
-          → p ≡ loaded (numbers sixteen) h q (monomials v D) zs
-      load-all d j p ed ej ep =
-          let s = size in
-          let f : j ≡ length q = ej ∙ ap (λ (n : ℕ). length (lower n)) (ed ∙ add-one D) ∙ s in
-          ep ∙ ap₂ (λ (x : List ℕ) (y : List (ℕ × ℕ)). loaded (numbers sixteen) h x y zs) (take-all j q (omega arith)) (ap lower ed)
+    -- after the last degree
+    pub load-all : (d j : ℕ) (p : List ℕ) → d ≡ D + 1 → j ≡ length (lower v d) → p ≡ loaded (numbers sixteen) h (take j q) (lower v d) zs
+        → p ≡ loaded (numbers sixteen) h q (monomials v D) zs
+    load-all d j p ed ej ep =
+        let s = size in
+        let f : j ≡ length q = ej ∙ ap (λ (n : ℕ). length (lower v n)) (ed ∙ add-one D) ∙ s in
+        ep ∙ ap₂ (λ (x : List ℕ) (y : List (ℕ × ℕ)). loaded (numbers sixteen) h x y zs) (take-all j q (omega arith)) (ap (lower v) ed)

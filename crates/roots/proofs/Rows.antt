@@ -11,7 +11,7 @@ use native.Mathlib.Omega.{arith}
 use borrow.Author.Tests.{eq-eqb, ne-eqb}
 use lib.ListN.{length, take, set, length-append}
 use lib.Seq.{length-take-le, take-suc-set}
-use Rattle.definitions.proofs.Joined.{join-nil, join-cons, join-append, join-below}
+use Rattle.definitions.proofs.Joined.{join-nil, join-cons, join-append, join-below, joined-room}
 use Rattle.definitions.proofs.Tools.{below-zero}
 use Rattle.definitions.specs.Code.{Symbols}
 use Rattle.definitions.specs.Field.{numbers, value, sixteen}
@@ -70,25 +70,6 @@ rows-all prefix left M h =
     let e : left ≡ suc (left - 1) = omega arith in
     ap (λ (n : ℕ). rowsAfter prefix (search sixteen n M)) e ∙ ap (rowsAfter prefix) (search-suc sixteen (left - 1) M)
     ∙ rows-joined prefix (branch sixteen (left - 1) M) (sixteen .symbols)
-
--- more symbols, more rows
-before-grows : (prefix : List ℕ) (n : ℕ) (M : List (List ℕ)) (g m : ℕ) → length (rowsBefore prefix n M g) ≤ length (rowsBefore prefix n M (m + g))
-before-grows prefix n M g zero = let e : zero + g ≡ g = omega arith in rw e (omega arith)
-before-grows prefix n M g (suc m) =
-    let e : suc m + g ≡ m + g + 1 = omega arith in
-    let a = before-grows prefix n M g m in
-    let b = ap length (before-more prefix n M (m + g)) ∙ length-append (rowsBefore prefix n M (m + g)) (rowsOf prefix n M (m + g)) in
-    rw e (omega arith)
-
--- the rows of symbol g have room behind those before it
-before-room : (prefix : List ℕ) (n : ℕ) (M : List (List ℕ)) (g : ℕ) → g < sixteen .symbols
-    → length (rowsBefore prefix n M g) + length (rowsOf prefix n M g) ≤ length (rowsBefore prefix n M (sixteen .symbols))
-before-room prefix n M g h =
-    let e : sixteen .symbols - 1 - g + (g + 1) ≡ sixteen .symbols = omega arith in
-    let a : length (rowsBefore prefix n M (g + 1)) ≤ length (rowsBefore prefix n M (sixteen .symbols)) =
-    subst (λ (m : ℕ). length (rowsBefore prefix n M (g + 1)) ≤ length (rowsBefore prefix n M m)) e (before-grows prefix n M (g + 1) (sixteen .symbols - 1 - g)) in
-    let b = ap length (before-more prefix n M g) ∙ length-append (rowsBefore prefix n M g) (rowsOf prefix n M g) in
-    omega arith
 
 -- ---- the last level
 
@@ -240,7 +221,7 @@ module _ (k left D h : ℕ) (row p : List ℕ) (d : List ℕ) (at : ℕ) (out : 
     -- they have room
     pub handed-room : end + length (rowsAfter (take (k - (left - 1)) (set row (k - left) g)) (search sixteen (left - 1) (polynomial h (D + 1) r))) ≤ length d
     handed-room =
-        let a = before-room prefix (left - 1) M g hg in
+        let a = joined-room (rowsOf prefix (left - 1) M) (sixteen .symbols) g hg in
         let c = ap length handed-rows in
         let f = all-room in
         omega arith
@@ -256,7 +237,7 @@ module _ (k left D h : ℕ) (row p : List ℕ) (d : List ℕ) (at : ℕ) (out : 
         before-more prefix (left - 1) M g ∙ ap (λ (l : List ℕ). rowsBefore prefix (left - 1) M g ++ l) handed-rows in
         let n : length (rowsBefore prefix (left - 1) M (g + 1)) ≡ length (rowsBefore prefix (left - 1) M g) + length rows =
         ap length f ∙ length-append (rowsBefore prefix (left - 1) M g) rows in
-        let a = before-room prefix (left - 1) M g hg in
+        let a = joined-room (rowsOf prefix (left - 1) M) (sixteen .symbols) g hg in
         let w = all-room in (
           omega arith,
           eo ∙ ap (λ (x : List ℕ). laid x end rows) ho ∙ laid-behind d at (rowsBefore prefix (left - 1) M g) rows end (omega arith) he

@@ -5,17 +5,17 @@ use mathlib.Core.List.{List, [], _∷_, _++_, map}
 use mathlib.Core.Path.{_≡_, sym, _∙_, ap, subst}
 use Prim.Native.Nat.{ℕ, _+_, _*_, _-_, _/_, _%_, _≤_, _<_}
 use native.Mathlib.Decide.{decLt}
-use native.Mathlib.Numerals.{add-one}
 use native.Mathlib.Omega.{arith}
 use borrow.Author.Tests.{lt-ltb, le-ltb, eq-eqb, ne-eqb}
 use lib.Bits.{bitXor}
 use lib.Dec.{T, eqb, eqb→eq}
-use lib.ListN.{length, drop, getD, set, replicate, length-append, length-map, length-drop, List·getD-append, List·getD-eq-default, getD-replicate}
+use lib.ListN.{length, drop, getD, set, replicate, length-append, length-drop, List·getD-append}
 use lib.Seq.{getD-append-add, getD-drop, ext-getD}
-use Rattle.algebra.proofs.Elements.{plus-symbol, times-symbol}
+use Rattle.algebra.proofs.Elements.{plus-symbol, times-symbol, none-times}
 use Rattle.algebra.proofs.Tests.{every, everyPair, every-at, everyPair-at}
-use Rattle.definitions.proofs.Loops.{put-more}
-use Rattle.definitions.proofs.Tools.{below-zero, length-below, map-below, map-below-at}
+use Rattle.definitions.proofs.Loops.{map-more}
+use Rattle.definitions.proofs.Tools.{below-zero, length-map-below, map-below, map-below-at}
+use Rattle.definitions.proofs.Zeros.{zero-at}
 use Rattle.definitions.specs.Code.{Symbols}
 use Rattle.definitions.specs.Field.{sixteen, sumOf, double, shifted}
 use Rattle.definitions.specs.Tools.{below}
@@ -23,10 +23,6 @@ use Rattle.field.proofs.Instance.{sixteen-field}
 use Rattle.rows.specs.Row.{width, filled, summedRow, multipleRow, multiplesTo}
 
 module _ (f : ℕ → ℕ) where
-  -- n entries are filled
-  front : (n : ℕ) → length (map f (below n)) ≡ n
-  front n = length-map (below n) f ∙ length-below n
-
   -- nothing is filled yet
   pub filled-none : replicate width 0 ≡ filled 0 f
   unfolding filled
@@ -35,16 +31,13 @@ module _ (f : ℕ → ℕ) where
   -- one entry more
   pub filled-more : (now : List ℕ) (i x : ℕ) → i < width → now ≡ filled i f → x ≡ f i → set now i x ≡ filled (i + 1) f
   unfolding filled
-  filled-more now i x h e ex =
-      rw (e, ex)
-      (put-more 0 (map f (below i)) (replicate width 0) i (f i) (front i) h
-      ∙ ap (λ (l : List ℕ). l ++ drop (i + 1) (replicate width 0)) (sym (map-below f i) ∙ ap (λ (n : ℕ). map f (below n)) (sym (add-one i))))
+  filled-more now i x h e ex = map-more f (replicate width 0) now i x h e ex
 
   -- a row has `width` entries
   pub length-filled : (n : ℕ) → n ≤ width → length (filled n f) ≡ width
   unfolding filled
   length-filled n h =
-      let e = front n in
+      let e = length-map-below f n in
       let d = length-drop {A = ℕ} n (replicate width 0) in
       length-append (map f (below n)) (drop n (replicate width 0)) ∙ omega arith
 
@@ -52,26 +45,18 @@ module _ (f : ℕ → ℕ) where
   pub filled-at : (n k : ℕ) → k < n → getD (filled n f) k 0 ≡ f k
   unfolding filled
   filled-at n k h =
-      let e = front n in
+      let e = length-map-below f n in
       List·getD-append (map f (below n)) (drop n (replicate width 0)) 0 k (omega arith) ∙ map-below-at f n k 0 h
-
-  -- a row of zeros
-  zeros : (k : ℕ) → _≡_ {A = ℕ} (getD (replicate width 0) k 0) 0
-  zeros k =
-      elim (decLt k width) [
-        | yes h ↦ getD-replicate width k 0 0 h
-        | no n ↦ List·getD-eq-default (replicate width 0) 0 {n = k} (omega arith)
-      ]
 
   -- and where it is not
   pub filled-rest : (n k : ℕ) → n ≤ k → getD (filled n f) k 0 ≡ 0
   unfolding filled
   filled-rest n k h =
-      let e : k ≡ length (map f (below n)) + (k - n) = rw (front n) (omega arith) in
+      let e : k ≡ length (map f (below n)) + (k - n) = rw (length-map-below f n) (omega arith) in
       let g : n + (k - n) ≡ k = omega arith in
       ap (λ (j : ℕ). getD (map f (below n) ++ drop n (replicate width 0)) j 0) e
       ∙ getD-append-add (map f (below n)) (drop n (replicate width 0)) (k - n) 0 ∙ getD-drop n (replicate width 0) (k - n) 0
-      ∙ ap (λ (j : ℕ). getD (replicate width 0) j 0) g ∙ zeros k
+      ∙ ap (λ (j : ℕ). getD (replicate width 0) j 0) g ∙ zero-at width k
 
   -- of symbols it is a row of symbols
   pub filled-symbols : (n : ℕ) → ((k : ℕ) → k < n → f k < sixteen .symbols) → Symbols sixteen (filled n f)
@@ -126,11 +111,6 @@ doubled : T (every (sixteen .symbols) (λ x. eqb (double 4 19 x) (sixteen .times
 unfolding every sumOf double shifted
 doubled = tt
 
--- computed of sixteen symbols
-vanishes : T (every (sixteen .symbols) (λ x. eqb (sixteen .times 0 x) 0))
-unfolding every sumOf double shifted
-vanishes = tt
-
 -- twice a symbol, by shift and sum, is the table's product by 2
 pub double-is-product : (x : ℕ) → x < sixteen .symbols → double 4 19 x ≡ sixteen .times 2 x
 double-is-product x h = eqb→eq _ _ (every-at (sixteen .symbols) (λ x. eqb (double 4 19 x) (sixteen .times 2 x)) doubled x h)
@@ -176,37 +156,26 @@ module _ (p : List ℕ) (sp : Symbols sixteen p) where
       filled-none (λ k. sixteen .times 0 (getD p k 0))
       ∙ ext-getD 0 (filled 0 zeroth) (filled width zeroth) (length-filled zeroth 0 (omega arith) ∙ sym (length-filled zeroth width (omega arith)))
       (λ k _. filled-rest zeroth 0 k (omega arith) ∙ sym (elim (decLt k width) [
-        | yes l ↦ filled-at zeroth width k l ∙ times-nothing (getD p k 0) (sp k)
+        | yes l ↦ filled-at zeroth width k l ∙ none-times sixteen sixteen-field (getD p k 0) (sp k)
         | no l ↦ filled-rest zeroth width k (omega arith)
       ]))
     where
       zeroth : ℕ → ℕ
       zeroth k = sixteen .times 0 (getD p k 0)
 
-      times-nothing : (x : ℕ) → x < sixteen .symbols → sixteen .times 0 x ≡ 0
-      times-nothing x h = eqb→eq _ _ (every-at (sixteen .symbols) (λ x. eqb (sixteen .times 0 x) 0) vanishes x h)
-
   module _ (n : ℕ) where
-    -- there are n
-    length-multiples : length (map (λ (c : ℕ). multipleRow c p) (below n)) ≡ n
-    length-multiples = length-map (below n) (λ (c : ℕ). multipleRow c p) ∙ length-below n
-
     -- multiple c is at c
     pub multiple-at : (c : ℕ) → c < n → getD (multiplesTo n p) c [] ≡ multipleRow c p
     unfolding multiplesTo
     multiple-at c h =
-        let e = length-multiples in
+        let e = length-map-below (λ (c : ℕ). multipleRow c p) n in
         List·getD-append (map (λ (c : ℕ). multipleRow c p) (below n)) (drop n (replicate (sixteen .symbols) (replicate width 0))) [] c (omega arith)
         ∙ map-below-at (λ (c : ℕ). multipleRow c p) n c [] h
 
     -- one multiple more
     pub multiples-more : (now : List (List ℕ)) (row : List ℕ) → n < sixteen .symbols → now ≡ multiplesTo n p → row ≡ multipleRow n p → set now n row ≡ multiplesTo (n + 1) p
     unfolding multiplesTo
-    multiples-more now row h e er =
-        rw (e, er)
-        (put-more [] (map (λ (c : ℕ). multipleRow c p) (below n)) (replicate (sixteen .symbols) (replicate width 0)) n (multipleRow n p) length-multiples h
-        ∙ ap (λ (l : List (List ℕ)). l ++ drop (n + 1) (replicate (sixteen .symbols) (replicate width 0)))
-        (sym (map-below (λ (c : ℕ). multipleRow c p) n) ∙ ap (λ (n : ℕ). map (λ (c : ℕ). multipleRow c p) (below n)) (sym (add-one n))))
+    multiples-more now row h e er = map-more (λ (c : ℕ). multipleRow c p) (replicate (sixteen .symbols) (replicate width 0)) now n row h e er
 
   -- of an empty table the multiple 0 is there
   pub multiples-first : replicate (sixteen .symbols) (replicate width 0) ≡ multiplesTo 1 p

@@ -6,7 +6,7 @@ use lib.ListN.{drop, getD, replicate}
 use Rattle.definitions.specs.Field.{sixteen}
 use Rattle.definitions.specs.Tools.{below}
 
--- the entries of a row: for a cost of at most 150 there are at most 160 monomials up to the bound
+-- the entries of a row: for a cost within the greatest limit there are at most so many monomials up to the bound
 abbrev pub width : ℕ
 width = 160
 

@@ -11,13 +11,13 @@ use lib.ListN.{length, getD, take, drop, set, length-set, length-drop, List·get
 use lib.Seq.{getD-take, getD-drop, drop-drop, getD-set-same, getD-set-other, take-set-lt, take-set-le, drop-set-lt, drop-set-add}
 use Rattle.definitions.proofs.Monomials.{Earlier, earlier-irreflexive}
 use Rattle.definitions.proofs.Ordered.{Ordered}
+use Rattle.definitions.proofs.Codeword.{power-zero, power-suc, value-cons}
 use Rattle.definitions.specs.Field.{Ops, power}
 use Rattle.definitions.specs.Polynomial.{terms}
 use Rattle.algebra.specs.Ring.{Ring, Hom}
 use Rattle.algebra.proofs.Carry.{carried}
 use Rattle.algebra.proofs.Composition.{valueAt}
 use Rattle.algebra.proofs.Evaluation.{evaluate}
-use Rattle.algebra.proofs.Polynomials.{power-zero, power-suc, value-cons}
 use Rattle.algebra.proofs.RingLaws.{ring, plus-zero, plus-assoc}
 use Rattle.search.specs.Columns.{coefficient, columns, loaded}
 use Rattle.search.proofs.Values.{valueOf, valueOf-nil, valueOf-cons, value-zeros}

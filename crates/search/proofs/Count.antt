@@ -2,7 +2,7 @@
 -- what is handed on has M(0, y) of degree at most m, and the multiplicities of all symbols together are at most the degree.
 -- Assumes nothing.
 use mathlib.Core.Bool.{Bool, true, false, cond, true≢false}
-use mathlib.Core.List.{List, [], _∷_, map, flatMap}
+use mathlib.Core.List.{List, [], _∷_, map}
 use mathlib.Core.Logic.{_≢_}
 use mathlib.Core.Path.{_≡_, refl, sym, _∙_, ap}
 use Prim.Native.Nat.{ℕ, zero, suc, _+_, _*_, _≤_, _<_}
@@ -11,22 +11,23 @@ use native.Mathlib.Nat.{le-of-suc-le-suc, not-suc-le-zero, zero-add, mul-le-mul-
 use native.Mathlib.Omega.{arith}
 use borrow.Author.Tests.{eqb-true, eqb-false}
 use lib.Dec.{eqb}
-use lib.ListN.{length, getD, length-append, length-map}
-use Rattle.definitions.proofs.Joined.{join-nil, join-below}
-use Rattle.definitions.proofs.Tools.{split, below-zero, sum-zero, sum-suc, sum-one, sum-le}
+use lib.ListN.{length, getD, length-map}
+use Rattle.definitions.proofs.Joined.{length-join}
+use Rattle.definitions.proofs.Tools.{split, sum-zero, sum-suc, sum-one, sum-le}
+use Rattle.definitions.proofs.Zeros.{zeros-of-isZero, isZero-false}
 use Rattle.definitions.specs.Code.{Symbols}
 use Rattle.definitions.specs.Field.{Code, numbers, value}
 use Rattle.definitions.specs.Polynomial.{isZero}
-use Rattle.definitions.specs.Tools.{below, sum}
+use Rattle.definitions.specs.Tools.{sum}
 use Rattle.algebra.proofs.Elements.{element-zero}
 use Rattle.algebra.specs.FieldOf.{FieldOf}
-use Rattle.algebra.proofs.Numbers.{elements, number-value}
+use Rattle.algebra.proofs.Numbers.{elements, number-at, number-value}
 use Rattle.algebra.proofs.RootCounting.{root-counting}
 use Rattle.algebra.proofs.Taylor.{taylor-zero}
 use Rattle.search.specs.Columns.{coefficient, first, shift, substitute}
 use Rattle.search.specs.Tree.{strip, constantsZero, begins, next, search, prefixes, allPrefixes}
 use Rattle.search.proofs.Columns.{Triangular, triangular-substitute, first-column}
-use Rattle.search.proofs.Elements.{zeros-of-isZero, not-isZero, SymbolColumns, number-at, zero-elements, number-shift, shift-element, substitute-coefficient}
+use Rattle.search.proofs.Elements.{SymbolColumns, zero-elements, number-shift, shift-element, substitute-coefficient}
 use Rattle.search.proofs.Search.{strip-yes, strip-no, first-symbols, branch, search-zero, search-suc, next-symbols}
 use Rattle.search.proofs.Values.{shift-coefficient}
 
@@ -35,13 +36,6 @@ sum-times : (n q : ℕ) (f : ℕ → ℕ) → sum n (λ (c : ℕ). q * f c) ≡ 
 sum-times zero q f = rw (sum-zero f, sum-zero (λ (c : ℕ). q * f c)) (omega arith)
 sum-times (suc n) q f =
     rw (sum-suc n f, sum-suc n (λ (c : ℕ). q * f c)) (ap (λ (m : ℕ). m + q * f n) (sum-times n q f) ∙ sym (mul-add q (sum n f) (f n)))
-
--- the length of lists joined
-length-join : {B : Type 0} (f : ℕ → List B) (n : ℕ) → length (flatMap f (below n)) ≡ sum n (λ (c : ℕ). length (f c))
-length-join f zero = rw below-zero (ap length (join-nil f) ∙ sym (sum-zero (λ (c : ℕ). length (f c))))
-length-join f (suc n) =
-    ap length (join-below f n) ∙ length-append (flatMap f (below n)) (f n) ∙ ap (λ (m : ℕ). m + length (f n)) (length-join f n)
-    ∙ sym (sum-suc n (λ (c : ℕ). length (f c)))
 
 -- the zeros before the first other entry
 unfoldable pub zerosBefore : List ℕ → ℕ
@@ -155,7 +149,7 @@ module _ (C : Code) (F : FieldOf C) where
         ap (λ (u : ℕ). coefficient (numbers C) (substitute (numbers C) c M) u m) (sym (zero-add m)) ∙ substitute-coefficient C F c hc M s 0 m
         ∙ ap (λ (q : List ℕ). getD (shift (numbers C) c q) m 0) (first-column (numbers C) M) in
         let r = strip-first C zero m (substitute (numbers C) c M) (triangular-substitute (numbers C) c M)
-        (not-isZero (getD (substitute (numbers C) c M) m []) m (λ w. other-after (shift (numbers C) c p) (shift-nonzero p (first-symbols C M s) z c hc) (sym e ∙ w))) in
+        (isZero-false (getD (substitute (numbers C) c M) m []) m (λ w. other-after (shift (numbers C) c p) (shift-nonzero p (first-symbols C M s) z c hc) (sym e ∙ w))) in
         (rw (zero-add m) at (r .0), r .1)
 
     -- a symbol that is gone on with has multiplicity 1 or more

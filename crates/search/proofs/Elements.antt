@@ -1,40 +1,22 @@
 -- From the elements of a field to the symbols of a code that carries it: columns of symbols, their shifts and M(x, x y + c) are those of the
 -- elements that they stand for.
 -- Assumes nothing.
-use mathlib.Core.Bool.{Bool, true, false, _&&_, false≢true}
+use mathlib.Core.Bool.{true}
 use mathlib.Core.List.{List, [], _∷_, map}
 use mathlib.Core.Path.{_≡_, refl, sym, _∙_, ap, ap₂, subst}
 use Prim.Native.Nat.{ℕ, zero, suc, _+_, _<_}
-use borrow.Author.Tests.{eqb-true}
-use lib.Dec.{eqb}
 use lib.ListN.{getD}
-use Rattle.definitions.proofs.Tools.{split}
+use Rattle.definitions.proofs.Zeros.{zeros-of-isZero, isZero-of-zeros}
 use Rattle.definitions.specs.Code.{Symbols}
 use Rattle.definitions.specs.Field.{Ops, Code, numbers}
 use Rattle.definitions.specs.Polynomial.{isZero}
 use Rattle.algebra.specs.FieldOf.{FieldOf}
-use Rattle.algebra.proofs.Elements.{zero-symbol, element-zero}
-use Rattle.algebra.proofs.Numbers.{elements, numbers-elements, isZero-of-zeros}
+use Rattle.algebra.proofs.Elements.{zero-element, zero-symbol, element-zero}
+use Rattle.algebra.proofs.Numbers.{elements, numbers-elements, number-at, numbers-symbols}
 use Rattle.algebra.proofs.RootCounting.{Zero}
 use Rattle.search.specs.Columns.{coefficient, first, shift, substitute}
 use Rattle.search.proofs.Columns.{carry-shift, carry-substitute, substitute-at}
 use Rattle.search.proofs.Values.{shift-same}
-
--- a test that says two things
-pub both : (a b : Bool) → (a && b) ≡ true → (a ≡ true) × (b ≡ true)
-both true b e = (refl, e)
-both false b e = absurd (false≢true e)
-
--- a list that is zero has no other entry
-pub zeros-of-isZero : (q : List ℕ) → isZero q ≡ true → (t : ℕ) → getD q t 0 ≡ 0
-unfolding isZero
-zeros-of-isZero [] e t = refl
-zeros-of-isZero (c ∷ q) e zero = eqb-true c 0 (both (eqb c 0) (isZero q) e .0)
-zeros-of-isZero (c ∷ q) e (suc t) = zeros-of-isZero q (both (eqb c 0) (isZero q) e .1) t
-
--- a list with another entry is not zero
-pub not-isZero : (q : List ℕ) (t : ℕ) → (getD q t 0 ≡ 0 → ⊥) → isZero q ≡ false
-not-isZero q t n = split (isZero q) (λ y. absurd (n (zeros-of-isZero q y t))) (λ e. e)
 
 -- every entry of every column is a symbol
 abbrev pub SymbolColumns : Code → List (List ℕ) → Type 0
@@ -63,23 +45,13 @@ module _ (C : Code) (F : FieldOf C) where
   element-at (x ∷ p) zero = refl
   element-at (x ∷ p) (suc n) = element-at p n
 
-  -- the number of an entry
-  pub number-at : (p : List (G .K)) (n : ℕ) → getD (map φ p) n 0 ≡ φ (getD p n (G .o))
-  number-at [] n = sym (F .number .φ-zero)
-  number-at (x ∷ p) zero = refl
-  number-at (x ∷ p) (suc n) = number-at p n
-
-  -- what is zero of the elements is zero of the numbers
-  pub zero-element : (a : ℕ) → a < C .symbols → F .element a ≡ F .ring .ops .o → a ≡ 0
-  zero-element a h e = sym (F .number-element a h) ∙ ap φ e ∙ F .number .φ-zero
-
   -- a list of zeros is one of zero elements
   pub elements-zero : (p : List ℕ) → isZero p ≡ true → Zero (F .ring .ops) (elements C F p)
   elements-zero p z t = element-at p t ∙ ap (F .element) (zeros-of-isZero p z t) ∙ element-zero C F
 
   -- and the other way round
   pub zero-elements : (p : List ℕ) → Symbols C p → Zero (F .ring .ops) (elements C F p) → isZero p ≡ true
-  zero-elements p s z = isZero-of-zeros p (λ t. zero-element (getD p t 0) (s t) (sym (element-at p t) ∙ z t))
+  zero-elements p s z = isZero-of-zeros p (λ t. zero-element C F (getD p t 0) (s t) (sym (element-at p t) ∙ z t))
 
   -- from elements to numbers and back
   elements-numbers : (l : List (G .K)) → elements C F (map φ l) ≡ l
@@ -97,16 +69,10 @@ module _ (C : Code) (F : FieldOf C) where
   numbers-columnElements (p ∷ M) s =
       ap₂ (λ (q : List ℕ) (L : List (List ℕ)). q ∷ L) (numbers-elements C F p (s zero)) (numbers-columnElements M (λ a. s (suc a)))
 
-  -- the numbers of elements are symbols
-  number-symbols : (l : List (G .K)) → Symbols C (map φ l)
-  number-symbols [] j = zero-symbol C F
-  number-symbols (x ∷ l) zero = F .number-symbol x
-  number-symbols (x ∷ l) (suc j) = number-symbols l j
-
-  -- of columns
+  -- the numbers of columns of elements are symbols
   number-columns : (M : List (List (G .K))) → SymbolColumns C (map (map φ) M)
   number-columns [] a = λ j. zero-symbol C F
-  number-columns (p ∷ M) zero = number-symbols p
+  number-columns (p ∷ M) zero = numbers-symbols C F p
   number-columns (p ∷ M) (suc a) = number-columns M a
 
   -- a column's elements
@@ -131,7 +97,7 @@ module _ (C : Code) (F : FieldOf C) where
   pub shift-element : (c : ℕ) → c < C .symbols → (p : List ℕ) → Symbols C p → (n : ℕ)
       → getD (shift (F .ring .ops) (F .element c) (elements C F p)) n (F .ring .ops .o) ≡ F .element (getD (shift (numbers C) c p) n 0)
   shift-element c hc p s n =
-      sym (ap (F .element) (ap (λ (l : List ℕ). getD l n 0) (sym (number-shift c hc p s)) ∙ number-at (shift G (F .element c) (elements C F p)) n)
+      sym (ap (F .element) (ap (λ (l : List ℕ). getD l n 0) (sym (number-shift c hc p s)) ∙ number-at C F (shift G (F .element c) (elements C F p)) n)
       ∙ F .element-number (getD (shift G (F .element c) (elements C F p)) n (G .o)))
 
   module _ (c : ℕ) (hc : c < C .symbols) (M : List (List ℕ)) (s : SymbolColumns C M) where
@@ -155,19 +121,19 @@ module _ (C : Code) (F : FieldOf C) where
         ∙ coefficient-number (substitute G (F .element c) (columnElements M)) (u + t) t
         ∙ ap φ (substitute-at (F .ring) (F .element c) (columnElements M) u t
         ∙ ap (λ (p : List (G .K)). getD (shift G (F .element c) p) t (G .o)) (column-elements M u))
-        ∙ sym (number-at (shift G (F .element c) (elements C F (getD M u []))) t)
+        ∙ sym (number-at C F (shift G (F .element c) (elements C F (getD M u []))) t)
         ∙ ap (λ (l : List ℕ). getD l t 0) (number-shift c hc (getD M u []) (s u))
       where
         -- the number of a coefficient
         coefficient-number : (L : List (List (G .K))) (a b : ℕ) → coefficient N (map (map φ) L) a b ≡ φ (coefficient G L a b)
         coefficient-number [] a b = sym (F .number .φ-zero)
-        coefficient-number (p ∷ L) zero b = number-at p b
+        coefficient-number (p ∷ L) zero b = number-at C F p b
         coefficient-number (p ∷ L) (suc a) b = coefficient-number L a b
 
   -- a shift of symbols sees only coefficients
   pub shift-sees : (c : ℕ) → c < C .symbols → (p q : List ℕ) → Symbols C p → Symbols C q → ((n : ℕ) → getD p n 0 ≡ getD q n 0)
       → (n : ℕ) → getD (shift (numbers C) c p) n 0 ≡ getD (shift (numbers C) c q) n 0
   shift-sees c hc p q sp sq e n =
-      ap (λ (l : List ℕ). getD l n 0) (sym (number-shift c hc p sp)) ∙ number-at (shift G (F .element c) (elements C F p)) n
+      ap (λ (l : List ℕ). getD l n 0) (sym (number-shift c hc p sp)) ∙ number-at C F (shift G (F .element c) (elements C F p)) n
       ∙ ap φ (shift-same (F .ring) (F .element c) (elements C F p) (elements C F q) (λ m. element-at p m ∙ ap (F .element) (e m) ∙ sym (element-at q m)) n)
-      ∙ sym (number-at (shift G (F .element c) (elements C F q)) n) ∙ ap (λ (l : List ℕ). getD l n 0) (number-shift c hc q sq)
+      ∙ sym (number-at C F (shift G (F .element c) (elements C F q)) n) ∙ ap (λ (l : List ℕ). getD l n 0) (number-shift c hc q sq)

@@ -13,18 +13,20 @@ use borrow.Author.Tests.{eqb-true, eq-eqb}
 use lib.Dec.{eqb}
 use lib.ListN.{length, getD, take, List·getD-eq-default}
 use lib.Seq.{getD-take}
-use Rattle.definitions.proofs.Tools.{split}
+use Rattle.definitions.proofs.Symbols.{take-symbols}
+use Rattle.definitions.proofs.Tools.{split, both}
+use Rattle.definitions.proofs.Zeros.{isZero-nil, zeros-of-isZero, isZero-of-zeros}
 use Rattle.definitions.specs.Code.{Symbols}
 use Rattle.definitions.specs.Field.{Ops, Code, numbers, value}
 use Rattle.definitions.specs.Polynomial.{isZero}
 use Rattle.algebra.specs.FieldOf.{FieldOf}
 use Rattle.algebra.proofs.Elements.{zero-symbol}
-use Rattle.algebra.proofs.Numbers.{elements, number-value, isZero-of-zeros}
+use Rattle.algebra.proofs.Numbers.{elements, number-value}
 use Rattle.search.specs.Columns.{coefficient, first, shift, substitute, columns}
 use Rattle.search.specs.Tree.{Same, Under, strip, constantsZero, begins, next, search}
 use Rattle.search.proofs.Arrays.{take-short, columns-within, columns-beyond, columns-above}
 use Rattle.search.proofs.Columns.{first-column, substitute-above, length-shift}
-use Rattle.search.proofs.Elements.{both, zeros-of-isZero, SymbolColumns, element-at, substitute-coefficient, shift-sees}
+use Rattle.search.proofs.Elements.{SymbolColumns, element-at, substitute-coefficient, shift-sees}
 use Rattle.search.proofs.Roots.{columns-symbols}
 use Rattle.search.proofs.Search.{equal-tests, join-equal, strip-nil, strip-yes, strip-no, first-symbols, branch, search-zero, search-suc, next-symbols}
 use Rattle.search.proofs.Values.{value-same}
@@ -86,19 +88,14 @@ module _ (C : Code) where
   zero-same : (p q : List ℕ) → ((n : ℕ) → getD p n 0 ≡ getD q n 0) → isZero p ≡ true → isZero q ≡ true
   zero-same p q h e = isZero-of-zeros q (λ n. sym (h n) ∙ zeros-of-isZero p e n)
 
-  -- the empty list is zero
-  nil-zero : isZero [] ≡ true
-  unfolding isZero
-  nil-zero = refl
-
   -- columns with the same coefficients are stripped alike
   pub strip-same : (M L : List (List ℕ)) → Same C M L → Same C (strip M) (strip L)
   strip-same [] [] h s t = refl
   strip-same [] (q ∷ L) h s t =
       strip-same [] L (λ u w. h (suc u) w) s t
-      ∙ ap (λ (X : List (List ℕ)). coefficient (numbers C) X s t) (sym (strip-yes q L (zero-same [] q (h zero) nil-zero)))
+      ∙ ap (λ (X : List (List ℕ)). coefficient (numbers C) X s t) (sym (strip-yes q L (zero-same [] q (h zero) isZero-nil)))
   strip-same (p ∷ M) [] h s t =
-      ap (λ (X : List (List ℕ)). coefficient (numbers C) X s t) (strip-yes p M (zero-same [] p (λ n. sym (h zero n)) nil-zero))
+      ap (λ (X : List (List ℕ)). coefficient (numbers C) X s t) (strip-yes p M (zero-same [] p (λ n. sym (h zero n)) isZero-nil))
       ∙ strip-same M [] (λ u w. h (suc u) w) s t
   strip-same (p ∷ M) (q ∷ L) h s t =
       split (isZero p)
@@ -173,17 +170,10 @@ module _ (C : Code) (F : FieldOf C) where
 
   -- ---- the degree
 
-  -- a part of symbols
-  pub take-symbols : (t : ℕ) (p : List ℕ) → Symbols C p → Symbols C (take t p)
-  take-symbols zero p s j = zero-symbol C F
-  take-symbols (suc t) [] s j = zero-symbol C F
-  take-symbols (suc t) (x ∷ p) s zero = s zero
-  take-symbols (suc t) (x ∷ p) s (suc j) = take-symbols t p (λ k. s (suc k)) j
-
   -- a shift keeps the degree
   shift-degree : (c : ℕ) → c < C .symbols → (p : List ℕ) → Symbols C p → (t : ℕ) → ((n : ℕ) → t ≤ n → getD p n 0 ≡ 0) → getD (shift N c p) t 0 ≡ 0
   shift-degree c hc p s t h =
-      shift-sees C F c hc p (take t p) s (take-symbols t p s) cut t
+      shift-sees C F c hc p (take t p) s (take-symbols C (zero-symbol C F) t p s) cut t
       ∙ List·getD-eq-default (shift N c (take t p)) 0 (le-trans (length-shift N c (take t p)) (take-short t p))
     where
       -- what is cut off is zero

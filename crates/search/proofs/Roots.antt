@@ -11,6 +11,7 @@ use native.Mathlib.Omega.{arith}
 use lib.ListN.{length, getD, take, drop, set, length-replicate, length-map}
 use Rattle.definitions.proofs.Monomials.{monomials-in-order}
 use Rattle.definitions.proofs.Tools.{split}
+use Rattle.definitions.proofs.Zeros.{zeros-of-isZero, isZero-of-zeros, zero-at}
 use Rattle.definitions.specs.Bound.{count}
 use Rattle.definitions.specs.Code.{Symbols, messages}
 use Rattle.definitions.specs.Field.{Ops, Code, numbers}
@@ -21,7 +22,7 @@ use Rattle.algebra.specs.FieldOf.{FieldOf}
 use Rattle.algebra.proofs.Carry.{carried}
 use Rattle.algebra.proofs.Elements.{number-injective, zero-symbol, element-zero}
 use Rattle.algebra.proofs.Composition.{valueAt, evaluate-compose}
-use Rattle.algebra.proofs.Numbers.{elements, isZero-of-zeros, number-compose, compose-zero}
+use Rattle.algebra.proofs.Numbers.{elements, number-at, number-compose, compose-zero}
 use Rattle.algebra.proofs.RingLaws.{zero-plus}
 use Rattle.algebra.proofs.Series.{Series, constants, linear}
 use Rattle.algebra.proofs.Taylor.{taylor}
@@ -29,16 +30,14 @@ use Rattle.search.specs.Columns.{coefficient, first, columns, loaded}
 use Rattle.search.specs.Tree.{zeros, strip, search, prefixes, allPrefixes, grid}
 use Rattle.search.proofs.Arrays.{take-short, columns-within, columns-beyond, columns-above, loaded-keeps, loaded-zero, value-columns-zero, value-loaded, place-once}
 use Rattle.search.proofs.Count.{rows-at-most-prefixes, prefixes-at-most, all-prefixes-at-most}
-use Rattle.search.proofs.Elements.{zeros-of-isZero, SymbolColumns, columnElements, element-at, number-at}
+use Rattle.search.proofs.Elements.{SymbolColumns, columnElements, element-at}
 use Rattle.search.proofs.Search.{Decides, strip-nil, strip-yes, strip-no, strip-symbols, strip-root, root-strip, search-selects}
 use Rattle.search.proofs.Values.{valueOf, along, series-coefficient}
 
 -- zeros are zero wherever they are read
 pub zeros-at : (n i : ℕ) → getD (zeros n) i 0 ≡ 0
 unfolding zeros
-zeros-at zero i = refl
-zeros-at (suc n) zero = refl
-zeros-at (suc n) (suc i) = zeros-at n i
+zeros-at n i = zero-at n i
 
 -- n of them
 pub length-zeros : (n : ℕ) → length (zeros n) ≡ n

@@ -11,18 +11,19 @@ use lib.Dec.{eqb}
 use lib.ListN.{getD}
 use Rattle.definitions.proofs.Joined.{join-nil, join-below}
 use Rattle.definitions.proofs.Messages.{messages-zero, messages-suc, messages-in-order, beginning}
-use Rattle.definitions.proofs.Tools.{split, below-zero, select-nil, select-yes, select-no, select-none, select-append, select-map}
+use Rattle.definitions.proofs.Symbols.{cons-symbols}
+use Rattle.definitions.proofs.Tools.{split, both, below-zero, select-nil, select-yes, select-no, select-none, select-append, select-map}
 use Rattle.definitions.specs.Code.{Symbols, messages}
 use Rattle.definitions.specs.Field.{Code, numbers, value}
 use Rattle.definitions.specs.Polynomial.{isZero}
 use Rattle.definitions.specs.Tools.{below, select}
 use Rattle.algebra.specs.FieldOf.{FieldOf}
-use Rattle.algebra.proofs.Elements.{zero-symbol, element-zero}
+use Rattle.algebra.proofs.Elements.{zero-element, zero-symbol, element-zero}
 use Rattle.algebra.proofs.Numbers.{elements, number-value}
 use Rattle.search.specs.Columns.{first, substitute}
 use Rattle.search.specs.Tree.{strip, constantsZero, begins, next, search}
 use Rattle.search.proofs.Columns.{first-column}
-use Rattle.search.proofs.Elements.{both, SymbolColumns, columnElements, element-at, zero-element, elements-zero, first-elements, substitute-elements, substitute-symbols}
+use Rattle.search.proofs.Elements.{SymbolColumns, columnElements, element-at, elements-zero, first-elements, substitute-elements, substitute-symbols}
 use Rattle.search.proofs.Values.{Root, root-rest, rest-root, root-freed, freed-root, root-first, empty-first, empty-next, empty-root}
 
 -- equal lists for each number, equal lists joined
@@ -161,11 +162,6 @@ module _ (C : Code) (F : FieldOf C) where
   abbrev pub Decides : (List ℕ → Bool) → List (List ℕ) → Type 0
   Decides t M = (f : List ℕ) → Symbols C f → (t f ≡ true → IsRoot M f) × (IsRoot M f → t f ≡ true)
 
-  -- a symbol before symbols
-  cons-symbols : (c : ℕ) (f : List ℕ) → c < C .symbols → Symbols C f → Symbols C (c ∷ f)
-  cons-symbols c f h s zero = h
-  cons-symbols c f h s (suc j) = s j
-
   -- one message, of no symbols
   none-left : (t : List ℕ → Bool) → select t (messages C 0) ≡ cond (t []) ([] ∷ []) []
   none-left t =
@@ -182,7 +178,7 @@ module _ (C : Code) (F : FieldOf C) where
       (ap (map (λ (f : List ℕ). c ∷ f)) (sym (select-none (λ (f : List ℕ). t (c ∷ f)) (messages C k)
       (λ f m. split (t (c ∷ f))
       (λ y. absurd (true≢false (sym (root-begins c hc M s f
-      (d (c ∷ f) (cons-symbols c f hc (messages-in-order C (zero-symbol C F) k .symbols f m)) .0 y)) ∙ n)))
+      (d (c ∷ f) (cons-symbols C c f hc (messages-in-order C (zero-symbol C F) k .symbols f m)) .0 y)) ∙ n)))
       (λ e. e))))
       ∙ sym (select-map t (λ (f : List ℕ). c ∷ f) (messages C k))))
 
@@ -200,7 +196,7 @@ module _ (C : Code) (F : FieldOf C) where
       (λ c hc. branch-select k M c hc s t d
       (search-selects k (next C c M) (next-symbols c hc M s) (λ (f : List ℕ). t (c ∷ f))
       (λ f sf. (
-        λ e. root-next c hc M s f (d (c ∷ f) (cons-symbols c f hc sf) .0 e),
-        λ r. d (c ∷ f) (cons-symbols c f hc sf) .1 (next-root c hc M s f r),
+        λ e. root-next c hc M s f (d (c ∷ f) (cons-symbols C c f hc sf) .0 e),
+        λ r. d (c ∷ f) (cons-symbols C c f hc sf) .1 (next-root c hc M s f r),
       ))))
       ∙ sym (select-join t (beginning C k) (C .symbols)) ∙ ap (select t) (sym (messages-suc C k))

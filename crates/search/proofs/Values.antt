@@ -5,11 +5,12 @@ use mathlib.Core.List.{List, [], _∷_, map}
 use mathlib.Core.Path.{_≡_, refl, sym, _∙_, ap, ap₂}
 use Prim.Native.Nat.{ℕ, zero, suc}
 use lib.ListN.{getD}
+use Rattle.definitions.proofs.Codeword.{value-nil, value-cons}
 use Rattle.definitions.specs.Field.{Ops, value}
 use Rattle.definitions.specs.Roots.{plus, scaled}
 use Rattle.algebra.specs.Ring.{Ring, Hom}
 use Rattle.algebra.proofs.Evaluation.{evaluate, evaluate-sum, evaluate-multiple}
-use Rattle.algebra.proofs.Polynomials.{value-nil, value-cons, coefficient-plus}
+use Rattle.algebra.proofs.Polynomials.{coefficient-plus}
 use Rattle.algebra.proofs.RingLaws.{ring, zero-plus, plus-self, equal-of-sum}
 use Rattle.algebra.proofs.RootCounting.{Zero}
 use Rattle.algebra.proofs.Series.{Series, series, addS, mulS, constant, constants, zeroS, linear, addS-at, addS-comm, zeroS-at, mulS-zero, constant-zero, constant-suc, linear-add, linear-mul-zero, linear-mul-suc}

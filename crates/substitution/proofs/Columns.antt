@@ -15,12 +15,11 @@ use lib.Seq.{take-all, getD-take, getD-drop, drop-drop, drop-cons, take-suc, tak
 use Rattle.algebra.proofs.Elements.{plus-symbol, times-symbol}
 use Rattle.code.proofs.Laws.{value-more, value-so-far}
 use Rattle.definitions.proofs.Codeword.{value-nil}
-use Rattle.definitions.proofs.Loops.{put-more}
+use Rattle.definitions.proofs.Symbols.{take-symbols}
 use Rattle.definitions.specs.Code.{Symbols}
 use Rattle.definitions.specs.Field.{numbers, value, sixteen, sumOf}
 use Rattle.definitions.specs.Roots.{plus, scaled}
 use Rattle.field.proofs.Instance.{sixteen-field}
-use Rattle.search.proofs.Levels.{take-symbols}
 use Rattle.search.specs.Columns.{shift, columns}
 use Rattle.search.specs.Tree.{constantsZero}
 use Rattle.substitution.specs.Array.{passed}
@@ -43,20 +42,9 @@ first-value-more p h g b y x pos l k ey ex =
 
 -- what it has come to is a symbol
 pub first-value-symbol : (p : List ℕ) (h g b y : ℕ) → g < sixteen .symbols → Symbols sixteen p → y ≡ value (numbers sixteen) g (drop b (take h p)) → y < sixteen .symbols
-first-value-symbol p h g b y hg s e = value-so-far g (take h p) b y hg (take-symbols sixteen sixteen-field h p s) e
+first-value-symbol p h g b y hg s e = value-so-far g (take h p) b y hg (take-symbols sixteen (omega arith) h p s) e
 
 -- ---- entries copied to the front of zeros
-
--- one entry more
-pub copied-more : (p rest now : List ℕ) (from b : ℕ) → from + b < length p → b < length rest → now ≡ take b (drop from p) ++ drop b rest
-    → set now b (getD p (from + b) 0) ≡ take (b + 1) (drop from p) ++ drop (b + 1) rest
-copied-more p rest now from b h k e =
-    let n = length-drop from p in
-    rw e
-    (put-more 0 (take b (drop from p)) rest b (getD p (from + b) 0) (length-take-le b (drop from p) (omega arith)) k
-    ∙ ap (λ (l : List ℕ). l ++ drop (b + 1) rest)
-    (ap (λ (x : ℕ). take b (drop from p) ++ (x ∷ [])) (sym (getD-drop from p b 0)) ∙ sym (take-suc (drop from p) b 0 (omega arith))
-    ∙ ap (λ (j : ℕ). take j (drop from p)) (sym (add-one b))))
 
 -- they stand at the front
 pub copied-front : (p rest r : List ℕ) (from h : ℕ) → from + h ≤ length p → r ≡ take h (drop from p) ++ rest → take h r ≡ take h (drop from p)

@@ -13,8 +13,10 @@ use lib.Dec.{eqb}
 use lib.ListN.{length, getD, take, drop, set, length-drop, List·getD-append}
 use lib.Seq.{getD-take, getD-drop, getD-set-same, getD-set-other, getD-append-add, length-take-le}
 use Rattle.algebra.proofs.Elements.{zero-symbol}
-use Rattle.algebra.proofs.Numbers.{isZero-of-zeros}
+use Rattle.definitions.proofs.Loops.{row-within}
 use Rattle.definitions.proofs.Tools.{smallest-le, smallest-fails, smallest-passes, smallest-is}
+use Rattle.definitions.proofs.Symbols.{append-symbols, replicate-symbols, drop-symbols, take-symbols}
+use Rattle.definitions.proofs.Zeros.{isZero-of-zeros, isZero-false}
 use Rattle.definitions.specs.Code.{Symbols}
 use Rattle.definitions.specs.Field.{numbers, sixteen}
 use Rattle.definitions.specs.Polynomial.{isZero}
@@ -22,8 +24,7 @@ use Rattle.definitions.specs.Tools.{smallest}
 use Rattle.field.proofs.Instance.{sixteen-field}
 use Rattle.search.proofs.Arrays.{place-once, place-within, columns-within, columns-beyond, columns-above, columns-at}
 use Rattle.search.proofs.Columns.{substitute-above}
-use Rattle.search.proofs.Elements.{not-isZero}
-use Rattle.search.proofs.Levels.{take-symbols, strip-at, substitute-cell}
+use Rattle.search.proofs.Levels.{strip-at, substitute-cell}
 use Rattle.search.proofs.Roots.{zeros-at, columns-symbols}
 use Rattle.search.specs.Columns.{shift, columns}
 use Rattle.search.specs.Tree.{zeros}
@@ -192,7 +193,7 @@ module _ (h w : ℕ) (pos : 0 < h) (p : List ℕ) (full : length p ≡ places) (
             let ht : t < h = omega arith in
             let uw : u < w = (div-lt-iff-lt-mul pos) .1 l in
             let e : u * h + t ≡ i = omega arith in
-            inl (not-isZero (getD (polynomial h w p) u []) t
+            inl (isZero-false (getD (polynomial h w p) u []) t
             (λ z. eqb-false (getD p i 0) 0 (not-true (eqb (getD p i 0) 0) (smallest-passes (isOther p) (w * h) l))
             (ap (λ (j : ℕ). getD p j 0) (sym e) ∙ sym (columns-within (numbers sixteen) h w p u t uw ht) ∙ z)))
         | no n ↦
@@ -245,29 +246,17 @@ module _ (h w : ℕ) (pos : 0 < h) (p : List ℕ) (full : length p ≡ places) (
       front : length (take (w * h - u * h) (drop (u * h) p)) ≡ w * h - u * h
       front = length-take-le (w * h - u * h) (drop (u * h) p) (rw (length-drop (u * h) p) (omega arith))
 
--- entries copied to the front of zeros are symbols
-pub copied-symbols : (p : List ℕ) (n from size : ℕ) → Symbols sixteen p → Symbols sixteen (take n (drop from p) ++ drop n (zeros size))
-copied-symbols p n from size s j =
-    elim (decLt j (length front)) [
-      | yes l ↦ rw (List·getD-append front back 0 j l) (take-symbols sixteen sixteen-field n (drop from p) (λ i. rw (getD-drop from p i 0) (s (from + i))) j)
-      | no m ↦
-          let e : j ≡ length front + (j - length front) = omega arith in
-          rw (e, getD-append-add front back (j - length front) 0, getD-drop n (zeros size) (j - length front) 0, zeros-at size (n + (j - length front)))
-          (zero-symbol sixteen sixteen-field)
-    ]
-  where
-    -- what is moved
-    front : List ℕ
-    front = take n (drop from p)
-
-    -- and the zeros after it
-    back : List ℕ
-    back = drop n (zeros size)
-
 -- zeros are symbols
 pub zeros-symbols : (n : ℕ) → Symbols sixteen (zeros n)
-zeros-symbols n j = rw (zeros-at n j) (zero-symbol sixteen sixteen-field)
+unfolding zeros
+zeros-symbols n = replicate-symbols sixteen n 0 (omega arith)
+
+-- entries copied to the front of zeros are symbols
+pub copied-symbols : (p : List ℕ) (n from size : ℕ) → Symbols sixteen p → Symbols sixteen (take n (drop from p) ++ drop n (zeros size))
+copied-symbols p n from size s =
+    append-symbols sixteen (take n (drop from p)) (drop n (zeros size)) (take-symbols sixteen (omega arith) n (drop from p) (drop-symbols sixteen from p s))
+    (drop-symbols sixteen n (zeros size) (zeros-symbols size))
 
 -- a column lies within the array
 pub column-within : (a h w : ℕ) → a < w → a * h + h ≤ w * h
-column-within a h w l = let m : suc a * h ≤ w * h = mul-le-mul-right h l in let n = suc-mul a h in omega arith
+column-within a h w l = let r = row-within h a w (h * w) l (omega arith) in omega arith

@@ -4,14 +4,13 @@ use mathlib.Core.Bool.{Bool, cond}
 use mathlib.Core.List.{List, [], _++_, map}
 use mathlib.Core.Path.{_≡_, refl, sym, _∙_, ap, subst}
 use Prim.Native.Nat.{ℕ, suc, _+_, _*_, _-_, _/_, _%_, _≤_, _<_}
-use native.Mathlib.Nat.{mul-suc, mul-le-mul-left}
 use native.Mathlib.Numerals.{add-one}
 use native.Mathlib.Omega.{arith}
 use borrow.Author.Tests.{eq-eqb, ne-eqb}
 use lib.ListN.{length, take, drop, getD, set, length-append, length-drop, length-map}
 use lib.Seq.{length-take-le, take-all}
-use Rattle.definitions.proofs.Loops.{put-more}
-use Rattle.definitions.proofs.Tools.{below-zero, length-below, map-at, map-below}
+use Rattle.definitions.proofs.Loops.{map-more}
+use Rattle.definitions.proofs.Tools.{below-zero, length-map-below, map-at}
 use Rattle.definitions.specs.Field.{sixteen}
 use Rattle.definitions.specs.Tools.{below}
 use Rattle.memory.proofs.Laid.{length-laid, laid-none, laid-turned, laid-behind, laid-within}
@@ -61,18 +60,14 @@ module _ (bytes out : List ℕ) where
 
   pub read-turned : (now : List ℕ) (i x : ℕ) → i < length out → now ≡ map (numberAt bytes) (below i) ++ drop i out → x ≡ numberAt bytes i
       → set now i x ≡ map (numberAt bytes) (below (i + 1)) ++ drop (i + 1) out
-  read-turned now i x h e ex =
-      rw (e, ex)
-      (put-more 0 (map (numberAt bytes) (below i)) out i (numberAt bytes i) (length-map (below i) (numberAt bytes) ∙ length-below i) h
-      ∙ ap (λ (l : List ℕ). l ++ drop (i + 1) out)
-      (sym (map-below (numberAt bytes) i) ∙ ap (λ (n : ℕ). map (numberAt bytes) (below n)) (sym (add-one i))))
+  read-turned now i x h e ex = map-more (numberAt bytes) out now i x h e ex
 
   pub all-read : (now : List ℕ) (i : ℕ) → length bytes % 2 ≡ 0 → i ≡ length bytes / 2 → now ≡ map (numberAt bytes) (below i) ++ drop i out
       → (length bytes / 2 ≡ length (numbersOf bytes)) × (now ≡ numbersOf bytes ++ drop (length (numbersOf bytes)) out)
   all-read now i even ei e =
       let all : numbersOf bytes ≡ map (numberAt bytes) (below (length bytes / 2)) =
       ap (λ (b : Bool). cond b (map (numberAt bytes) (below (length bytes / 2))) []) (eq-eqb (length bytes % 2) 0 even) in
-      let size : length (map (numberAt bytes) (below (length bytes / 2))) ≡ length bytes / 2 = length-map (below (length bytes / 2)) (numberAt bytes) ∙ length-below (length bytes / 2) in
+      let size : length (map (numberAt bytes) (below (length bytes / 2))) ≡ length bytes / 2 = length-map-below (numberAt bytes) (length bytes / 2) in
       rw (all, size) (refl, e ∙ ap (λ (n : ℕ). map (numberAt bytes) (below n) ++ drop n out) ei)
 
 -- the lines of rows: no row, and one row more
@@ -106,10 +101,6 @@ module _ (k : ℕ) (rows scores : List ℕ) where
       ap (λ (n : ℕ). rowLine score (take n (drop (k * j) rows))) size ∙ ap (λ (s : ℕ). rowLine s (take k (drop (k * j) rows))) es in
       let end-size : length (take (k * j + k - k * j) (drop (k * j) rows)) ≡ k = ap (λ (n : ℕ). length (take n (drop (k * j) rows))) size ∙ long in
       (subst (λ (w : List ℕ). Puts out at w end after) same p, omega arith)
-
--- a row of those that are there lies within the memory
-pub row-within : (k r many size : ℕ) → r < many → k * many ≤ size → k * r + k ≤ size
-row-within k r many size h l = let one-more = mul-le-mul-left k h in let grown = mul-suc k r in omega arith
 
 -- what is put ends within the memory
 pub puts-within : (out after w : List ℕ) (at end : ℕ) → at ≤ length out → Puts out at w end after → (end ≤ length after) × (end ≡ length (take end after))

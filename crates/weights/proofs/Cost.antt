@@ -5,10 +5,10 @@ use mathlib.Core.Path.{_≡_, sym, _∙_, ap}
 use Prim.Native.Nat.{ℕ, _+_, _*_, _-_, _≤_, _<_}
 use native.Mathlib.Decide.{decLt}
 use native.Mathlib.Omega.{arith}
-use lib.ListN.{length, take, drop, getD, replicate, length-map, List·getD-append, List·getD-eq-default, getD-replicate}
+use lib.ListN.{length, take, drop, getD, replicate, List·getD-append, List·getD-eq-default, getD-replicate}
 use lib.Seq.{getD-take, getD-drop, getD-append-add}
 use Rattle.definitions.proofs.Sums.{sum-blocks, sum-tail}
-use Rattle.definitions.proofs.Tools.{length-below, map-below-at, sum-ext}
+use Rattle.definitions.proofs.Tools.{length-map-below, map-below-at, sum-ext}
 use Rattle.definitions.proofs.Weights.{cost-le}
 use Rattle.definitions.specs.Field.{sixteen}
 use Rattle.definitions.specs.Limits.{greatestLevel}
@@ -18,19 +18,16 @@ use Rattle.algebra.specs.Grid.{entryOf}
 use Rattle.weights.specs.Matrix.{columnOf, zeroColumns, matrixOf, matrixCost}
 
 module _ (m : List ℕ) (n : ℕ) (small : n ≤ sixteen .positions) (size : length m ≡ sixteen .symbols * n) where
-  length-columns : length (map (columnOf m) (below n)) ≡ n
-  length-columns = length-map (below n) (columnOf m) ∙ length-below n
-
   used : (i b : ℕ) → i < n → b < sixteen .symbols → entryOf (matrixOf m n) i b ≡ entry sixteen m i b
   used i b h k =
       ap (λ (col : List ℕ). getD col b 0)
-      (List·getD-append (map (columnOf m) (below n)) (drop n zeroColumns) [] i (rw length-columns h)
+      (List·getD-append (map (columnOf m) (below n)) (drop n zeroColumns) [] i (rw (length-map-below (columnOf m) n) h)
       ∙ map-below-at (columnOf m) n i [] h)
       ∙ getD-take (sixteen .symbols) (drop (sixteen .symbols * i) m) b 0 k ∙ getD-drop (sixteen .symbols * i) m b 0
 
   unused : (i b : ℕ) → n ≤ i → i < sixteen .positions → b < sixteen .symbols → entryOf (matrixOf m n) i b ≡ entry sixteen m i b
   unused i b h k l =
-      let e : i ≡ length (map (columnOf m) (below n)) + (i - n) = rw length-columns (omega arith) in
+      let e : i ≡ length (map (columnOf m) (below n)) + (i - n) = rw (length-map-below (columnOf m) n) (omega arith) in
       let f : n + (i - n) ≡ i = omega arith in
       ap (λ (col : List ℕ). getD col b 0)
       (ap (λ (j : ℕ). getD (matrixOf m n) j []) e

@@ -1,19 +1,20 @@
 -- The steps of the loops over weights and columns, and that their numbers fit.
 -- Assumes nothing.
 use mathlib.Core.Bool.{false, not}
-use mathlib.Core.List.{List, [], _∷_, _++_, map}
+use mathlib.Core.List.{List, _++_, map}
 use mathlib.Core.Path.{_≡_, refl, sym, _∙_, ap}
 use Prim.Native.Nat.{ℕ, suc, _+_, _*_, _-_, _/_, _≤_, _<_}
-use native.Mathlib.Nat.{mul-comm, mul-le-mul, le-div-iff-mul-le, div-le-self}
+use native.Mathlib.Nat.{mul-le-mul, div-le-self}
 use native.Mathlib.Numerals.{add-one}
 use native.Mathlib.Omega.{arith}
 use borrow.Author.Count.{below-more}
 use borrow.Author.Tests.{eq-eqb, ne-eqb}
-use lib.ListN.{length, take, drop, getD, set, length-drop, length-map}
-use lib.Seq.{take-suc, length-take-le, getD-drop}
+use lib.ListN.{length, take, drop, getD, set, length-map}
+use lib.Seq.{length-take-le}
 use Rattle.definitions.proofs.Bound.{count-above, bound-is}
-use Rattle.definitions.proofs.Loops.{put-more}
-use Rattle.definitions.proofs.Tools.{below-zero, length-below, map-below, smallest-is}
+use Rattle.definitions.proofs.Loops.{put-more, map-more}
+use Rattle.definitions.proofs.Monomials.{power-within}
+use Rattle.definitions.proofs.Tools.{below-zero, smallest-is}
 use Rattle.definitions.proofs.Weights.{map-take}
 use Rattle.definitions.specs.Bound.{count, bound}
 use Rattle.definitions.specs.Field.{sixteen}
@@ -31,23 +32,10 @@ multiplicity-more L r out now i x hr ho e ex =
     (put-more 0 (matrix L (take i r)) out i (multiplicity L (getD r i 0)) (length-map (take i r) (multiplicity L) ∙ length-take-le i r (omega arith)) ho
     ∙ ap (λ (l : List ℕ). l ++ drop (i + 1) out) (sym (map-take (multiplicity L) r i hr) ∙ ap (λ (n : ℕ). matrix L (take n r)) (sym (add-one i))))
 
--- one entry more of a column is copied
-pub entry-more : (m rest now : List ℕ) (at b x : ℕ) → b < length rest → at + b < length m → now ≡ take b (drop at m) ++ drop b rest
-    → x ≡ getD m (at + b) 0 → set now b x ≡ take (b + 1) (drop at m) ++ drop (b + 1) rest
-entry-more m rest now at b x h l e ex =
-    let long : b < length (drop at m) = rw length-drop (omega arith) in
-    let size : length (take b (drop at m)) ≡ b = length-take-le b (drop at m) (omega arith) in
-    let grown : take (b + 1) (drop at m) ≡ take b (drop at m) ++ (x ∷ []) =
-    rw (add-one, take-suc (drop at m) b 0 long, getD-drop at m b 0, ex) in
-    rw (e, grown) (put-more 0 (take b (drop at m)) rest b x size h)
-
 -- one column more is loaded
 pub column-more : (m : List ℕ) (rest now : List (List ℕ)) (i : ℕ) (col : List ℕ) → i < length rest → now ≡ map (columnOf m) (below i) ++ drop i rest
     → col ≡ columnOf m i → set now i col ≡ map (columnOf m) (below (i + 1)) ++ drop (i + 1) rest
-column-more m rest now i col h e ec =
-    rw (e, ec)
-    (put-more [] (map (columnOf m) (below i)) rest i (columnOf m i) (length-map (below i) (columnOf m) ∙ length-below i) h
-    ∙ ap (λ (l : List (List ℕ)). l ++ drop (i + 1) rest) (sym (map-below (columnOf m) i) ∙ ap (λ (n : ℕ). map (columnOf m) (below n)) (sym (add-one i))))
+column-more m rest now i col h e ec = map-more (columnOf m) rest now i col h e ec
 
 -- a level within limits times a reliability
 pub level-fits : (L r : ℕ) → L ≤ greatestLevel → r < 65536 → L * r ≤ greatestLevel * 65535
@@ -59,11 +47,7 @@ cost-fits m h = mul-le-mul {n₁ = m} {m₁ = m + 1} {n₂ = 255} {m₂ = 256} (
 
 -- a power of y that is counted
 pub power-fits : (v d b : ℕ) → 0 < v → b ≤ d / v → (v * b ≤ d) × (b ≤ d)
-power-fits v d b pos h =
-    let product : b * v ≤ d = (le-div-iff-mul-le pos) .0 h in
-    let turned = mul-comm v b in
-    let quotient = div-le-self d v in
-    (omega arith, omega arith)
+power-fits v d b pos h = let quotient = div-le-self d v in (power-within v d b h, omega arith)
 
 -- no column is loaded yet
 pub none-loaded : (m : List ℕ) → zeroColumns ≡ matrixOf m 0

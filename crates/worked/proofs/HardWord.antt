@@ -10,8 +10,8 @@ use borrow.Author.Tests.{eq-eqb, ne-eqb}
 use lib.Dec.{T, eqb, leb, ltb, eqb→eq, leb→le, ltb→lt}
 use lib.ListN.{length, getD, List·getD-eq-default}
 use lib.Seq.{ext-getD}
-use Rattle.algebra.proofs.Numbers.{isZero-of-zeros}
 use Rattle.algebra.proofs.Tests.{every, everyPair, every-at, everyPair-at, first-passes, second-passes}
+use Rattle.definitions.proofs.Zeros.{isZero-of-zeros}
 use Rattle.definitions.specs.Bound.{count}
 use Rattle.definitions.specs.Code.{Symbols, point}
 use Rattle.definitions.specs.Field.{numbers, sixteen, sumOf, double, shifted, power}

@@ -4,7 +4,8 @@ use Prim.Native.Nat.{ℕ, _+_, _-_, _≤_}
 use lib.ListN.{length, getD}
 use lib.Seq.{sets}
 use Rattle.definitions.specs.Tools.{below}
-use Rattle.conditions.proofs.Placed.{joined-none, none-counted, joined-more, count-more, joined-room}
+use Rattle.conditions.proofs.Placed.{joined-none, none-counted, joined-more, count-more}
+use Rattle.definitions.proofs.Joined.{joined-room}
 use Rattle.conditions.specs.Conditions.{pointRows}
 use native.Mathlib.Omega.{arith}
 use borrow.Author.Needs.{needs}

@@ -10,7 +10,8 @@ use Rattle.definitions.specs.Code.{point}
 use Rattle.definitions.specs.Field.{numbers, sixteen}
 use Rattle.definitions.specs.Tools.{below}
 use Rattle.field.proofs.Instance.{sixteen-field}
-use Rattle.conditions.proofs.Placed.{joined-none, none-counted, joined-more, count-more, joined-room}
+use Rattle.conditions.proofs.Placed.{joined-none, none-counted, joined-more, count-more}
+use Rattle.definitions.proofs.Joined.{joined-room}
 use Rattle.conditions.specs.Conditions.{columnRows, matrixRows}
 use native.Mathlib.Omega.{arith}
 use Rattle.definitions.specs.Limits.{greatestLimit}

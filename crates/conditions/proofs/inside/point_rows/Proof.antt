@@ -10,7 +10,8 @@ use Rattle.definitions.specs.Field.{sixteen}
 use Rattle.definitions.specs.Tools.{below}
 use Rattle.conditions.proofs.Counts.{orders, length-orders}
 use Rattle.conditions.proofs.Derivatives.{lead, lower, lead-symbol, lower-symbols, next-order, derivatives-symbols}
-use Rattle.conditions.proofs.Placed.{joined-none, none-counted, joined-more, count-more, joined-room}
+use Rattle.conditions.proofs.Placed.{joined-none, none-counted, joined-more, count-more}
+use Rattle.definitions.proofs.Joined.{joined-room}
 use Rattle.conditions.specs.Conditions.{orderRows}
 use native.Mathlib.Omega.{arith}
 use Rattle.definitions.specs.Limits.{greatestLimit}

@@ -3,7 +3,8 @@ use mathlib.Core.Path.{_≡_, refl, _∙_}
 use Prim.Native.Nat.{_-_, _≤_}
 use lib.ListN.{length, drop, length-set}
 use Rattle.definitions.specs.Tools.{below}
-use Rattle.interpolation.proofs.Coefficients.{written-none, written-more}
+use Rattle.definitions.proofs.Loops.{map-more}
+use Rattle.interpolation.proofs.Coefficients.{written-none}
 use Rattle.interpolation.specs.Found.{coefficientOf}
 use native.Mathlib.Omega.{arith}
 use borrow.Author.Needs.{needs}
@@ -39,7 +40,7 @@ loop-again c =
     let a = l .before .before .args in (
       omega arith,
       length-set (l .loop .out) (l .loop .k) (c .coefficient .result) ∙ l .loop .inv .1,
-      written-more (coefficientOf (a .j) (a .system .now)) (a .out .now) (l .loop .out) (l .loop .k) (c .coefficient .result) (omega arith) (l .loop .inv .2) (c .coefficient .ensures),
+      map-more (coefficientOf (a .j) (a .system .now)) (a .out .now) (l .loop .out) (l .loop .k) (c .coefficient .result) (omega arith) (l .loop .inv .2) (c .coefficient .ensures),
     )
 
 same-length : tie.Need-same-length Inv-loop μ-loop

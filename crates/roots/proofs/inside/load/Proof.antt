@@ -7,7 +7,8 @@ use Rattle.definitions.specs.Field.{numbers, sixteen}
 use Rattle.search.specs.Columns.{loaded}
 use Rattle.search.specs.Tree.{zeros}
 use Rattle.substitution.specs.Array.{places}
-use Rattle.roots.proofs.Loading.{lower, none-lower, load-none, load-more, load-all, degree-within, degree-grows}
+use Rattle.definitions.proofs.Monomials.{lower, none-lower, degree-grows}
+use Rattle.roots.proofs.Loading.{load-none, load-more, load-all, degree-within}
 use Rattle.roots.proofs.inside.load.Statement.{statement}
 use Rattle.roots.proofs.inside.load.Tie as tie
 use Rattle.roots.proofs.inside.load.Reads as reads

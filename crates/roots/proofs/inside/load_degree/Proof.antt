@@ -4,7 +4,8 @@ use lib.ListN.{length, getD, take, drop, length-set}
 use Rattle.definitions.specs.Field.{numbers, sixteen}
 use Rattle.search.proofs.Arrays.{place-within}
 use Rattle.search.specs.Columns.{loaded}
-use Rattle.roots.proofs.Loading.{some, degree-none, degree-more, degree-place}
+use Rattle.definitions.proofs.Monomials.{power-within}
+use Rattle.roots.proofs.Loading.{some, degree-none, degree-more}
 use native.Mathlib.Omega.{arith}
 use Rattle.roots.proofs.inside.load_degree.Statement.{statement}
 use Rattle.roots.proofs.inside.load_degree.Tie as tie
@@ -31,21 +32,21 @@ mul-p : tie.Need-mul-p Inv-loop μ-loop
 mul-p c =
     let l = c .before .before in
     let s = l .before in
-    let low = degree-place (s .args .v) (s .args .d) (l .loop .b) (s .pre .0 .0) (c .before .loop-test .taken) in
+    let low = power-within (s .args .v) (s .args .d) (l .loop .b) (c .before .loop-test .taken) in
     omega arith
 
 sub-p : tie.Need-sub-p Inv-loop μ-loop
 sub-p c =
     let l = c .before .before in
     let s = l .before in
-    let low = degree-place (s .args .v) (s .args .d) (l .loop .b) (s .pre .0 .0) (c .before .loop-test .taken) in
+    let low = power-within (s .args .v) (s .args .d) (l .loop .b) (c .before .loop-test .taken) in
     omega arith
 
 mul-p-2 : tie.Need-mul-p-2 Inv-loop μ-loop
 mul-p-2 c =
     let l = c .before .before in
     let s = l .before in
-    let low = degree-place (s .args .v) (s .args .d) (l .loop .b) (s .pre .0 .0) (c .before .loop-test .taken) in
+    let low = power-within (s .args .v) (s .args .d) (l .loop .b) (c .before .loop-test .taken) in
     let i = place-within (s .args .h) (s .args .d - s .args .v * l .loop .b) (l .loop .b) (s .args .d + 1) (omega arith) (omega arith) in
     omega arith
 
@@ -53,7 +54,7 @@ add-p-2 : tie.Need-add-p-2 Inv-loop μ-loop
 add-p-2 c =
     let l = c .before .before in
     let s = l .before in
-    let low = degree-place (s .args .v) (s .args .d) (l .loop .b) (s .pre .0 .0) (c .before .loop-test .taken) in
+    let low = power-within (s .args .v) (s .args .d) (l .loop .b) (c .before .loop-test .taken) in
     let i = place-within (s .args .h) (s .args .d - s .args .v * l .loop .b) (l .loop .b) (s .args .d + 1) (omega arith) (omega arith) in
     omega arith
 
@@ -61,7 +62,7 @@ slice-write-p : tie.Need-slice-write-p Inv-loop μ-loop
 slice-write-p c =
     let l = c .before .before in
     let s = l .before in
-    let low = degree-place (s .args .v) (s .args .d) (l .loop .b) (s .pre .0 .0) (c .before .loop-test .taken) in
+    let low = power-within (s .args .v) (s .args .d) (l .loop .b) (c .before .loop-test .taken) in
     let i = place-within (s .args .h) (s .args .d - s .args .v * l .loop .b) (l .loop .b) (s .args .d + 1) (omega arith) (omega arith) in
     omega arith
 
@@ -75,7 +76,7 @@ loop-again : tie.Need-loop-again Inv-loop μ-loop
 loop-again c =
     let l = c .before .before in
     let s = l .before in
-    let low = degree-place (s .args .v) (s .args .d) (l .loop .b) (s .pre .0 .0) (c .before .loop-test .taken) in (
+    let low = power-within (s .args .v) (s .args .d) (l .loop .b) (c .before .loop-test .taken) in (
       omega arith,
       length-set (l .loop .p) ((s .args .d - s .args .v * l .loop .b) * s .args .h + l .loop .b) (getD (s .args .coefficients .now) (s .args .j + l .loop .b) 0) ∙ l .loop .inv .1,
       degree-more (s .args .h) (s .args .v) (s .args .d) (s .args .j) (l .loop .b) (s .args .coefficients .now) (s .args .p .now) (l .loop .p) (omega arith) (l .loop .inv .2),

@@ -1,4 +1,4 @@
-use Rattle.weights.proofs.Laws.{entry-more}
+use Rattle.definitions.proofs.Loops.{copied-more}
 use mathlib.Core.Path.{_≡_, refl, sym, _∙_, ap}
 use Prim.Native.Nat.{ℕ, _+_, _*_, _-_, _/_, _≤_, _<_}
 use mathlib.Core.List.{_++_, append-nil}
@@ -40,7 +40,7 @@ loop-again c =
     let l = c .before .before in
     let s = l .before in (
       omega arith,
-      entry-more (s .args .matrix .now) (replicate (sixteen .symbols) 0) (l .loop .col) (sixteen .symbols * s .args .i) (l .loop .b) _ (c .before .loop-test .taken) (omega arith) (l .loop .inv .1) refl,
+      copied-more (s .args .matrix .now) (replicate (sixteen .symbols) 0) (l .loop .col) (sixteen .symbols * s .args .i) (l .loop .b) (omega arith) (c .before .loop-test .taken) (l .loop .inv .1),
     )
 
 returns : tie.Need-returns Inv-loop μ-loop

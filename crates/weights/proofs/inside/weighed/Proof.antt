@@ -1,10 +1,9 @@
 -- The loop holds the columns of the first i positions of the matrix.
 use mathlib.Core.Path.{_≡_, refl, sym, _∙_, ap}
 use Prim.Native.Nat.{ℕ, suc, _+_, _*_, _-_, _≤_, _<_}
-use lib.ListN.{replicate}
 use Rattle.definitions.specs.Weights.{matrix}
 use Rattle.weights.proofs.Laws.{none-loaded, column-more}
-use Rattle.weights.specs.Matrix.{matrixOf}
+use Rattle.weights.specs.Matrix.{zeroColumns, matrixOf}
 use native.Mathlib.Omega.{arith}
 use Rattle.weights.proofs.inside.weighed.Statement.{statement}
 use Rattle.weights.proofs.inside.weighed.Tie as tie
@@ -37,7 +36,7 @@ loop-again : tie.Need-loop-again Inv-loop μ-loop
 loop-again c =
     let l = c .before .before in
     let s = l .before .before in
-    (omega arith, column-more (matrix (s .args .level) (s .args .reliabilities .now)) (replicate 15 (replicate 16 0)) (l .loop .columns) (l .loop .i) (c .weighed-column .result) (omega arith) (l .loop .inv .1) (c .weighed-column .ensures))
+    (omega arith, column-more (matrix (s .args .level) (s .args .reliabilities .now)) zeroColumns (l .loop .columns) (l .loop .i) (c .weighed-column .result) (omega arith) (l .loop .inv .1) (c .weighed-column .ensures))
 
 returns : tie.Need-returns Inv-loop μ-loop
 returns c =

@@ -1,13 +1,13 @@
 -- The loop holds the first b multiplicities of the column.
 use mathlib.Core.List.{_++_, append-nil}
-use mathlib.Core.Path.{_≡_, refl, sym, _∙_}
+use mathlib.Core.Path.{_≡_, refl, sym, _∙_, ap}
 use Prim.Native.Nat.{ℕ, _+_, _*_, _-_, _≤_, _<_}
 use native.Mathlib.Omega.{arith}
-use lib.ListN.{length, take, drop, replicate}
+use lib.ListN.{length, take, drop, set, replicate}
 use Rattle.definitions.proofs.Weights.{length-matrix, matrix-at}
 use Rattle.definitions.specs.Field.{sixteen}
 use Rattle.definitions.specs.Weights.{matrix}
-use Rattle.weights.proofs.Laws.{entry-more}
+use Rattle.definitions.proofs.Loops.{copied-more}
 use Rattle.weights.proofs.inside.weighed_column.Statement.{statement}
 use Rattle.weights.proofs.inside.weighed_column.Tie as tie
 
@@ -27,8 +27,8 @@ loop-again c =
     let size = length-matrix (a .level) r in
     let inside : at < length r = omega arith in (
       omega arith,
-      entry-more (matrix (a .level) r) (replicate (sixteen .symbols) 0) (l .loop .col) (sixteen .symbols * a .i) (l .loop .b) (c .multiplicity-of .result) (omega arith) (omega arith) (l .loop .inv .1)
-          (c .multiplicity-of .ensures ∙ sym (matrix-at (a .level) r at inside)),
+      ap (λ (x : ℕ). set (l .loop .col) (l .loop .b) x) (c .multiplicity-of .ensures ∙ sym (matrix-at (a .level) r at inside))
+          ∙ copied-more (matrix (a .level) r) (replicate (sixteen .symbols) 0) (l .loop .col) (sixteen .symbols * a .i) (l .loop .b) (omega arith) (omega arith) (l .loop .inv .1),
     )
 
 returns : tie.Need-returns Inv-loop μ-loop
