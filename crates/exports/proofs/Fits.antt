@@ -6,20 +6,19 @@ use mathlib.Core.Path.{_≡_}
 use Prim.Native.Nat.{ℕ, _*_, _-_, _≤_, _<_}
 use native.Mathlib.Nat.{div-le-self}
 use native.Mathlib.Omega.{arith}
-use borrow.Author.Tests.{not-false, eqb-true, ltb-true, ltb-false}
+use borrow.Author.Tests.{ltb-true}
 use lib.Dec.{eqb}
 use lib.ListN.{length}
 use Rattle.algebra.proofs.Elements.{plus-symbol, times-symbol}
 use Rattle.definitions.proofs.Bound.{bound-le, count-above}
-use Rattle.definitions.proofs.Refusals.{none-above}
-use Rattle.definitions.proofs.Table.{Whatever, last, or, whatever, sizes-mean, size-means}
+use Rattle.definitions.proofs.Table.{Whatever, last, or, whatever, sizes-mean, size-means, limit-means, degree-means, entries-mean, above-means, cost-means}
 use Rattle.definitions.proofs.Tools.{smallest-le}
 use Rattle.definitions.specs.Answers.{Answer, refused, valued, counted, costed, sumAnswer, productAnswer, inverseAnswer, encodeAnswer, multiplicitiesAnswer, costAnswer, interpolated, Interpolated, InterpolationAnswers, rootsAnswer, listAnswer, readAnswer}
 use Rattle.definitions.specs.Bound.{count, bound}
 use Rattle.definitions.specs.Field.{sixteen, inverseOf}
-use Rattle.definitions.specs.Limits.{greatestRows}
+use Rattle.definitions.specs.Limits.{greatestLevel, greatestRows}
 use Rattle.definitions.specs.Listing.{listOf}
-use Rattle.definitions.specs.Refusals.{Line, tried, sizesFit, sizeFits, noneAbove, firstAbove, badColumn, columns, fieldTable, inverseTable, encodeTable, multiplicitiesTable, costTable, interpolationTable, rootsTable, listTable, readTable}
+use Rattle.definitions.specs.Refusals.{Line, tried, noneAbove, firstAbove, badColumn, columns, fieldTable, inverseTable, encodeTable, multiplicitiesTable, costTable, interpolationTable, rootsTable, listTable, readTable}
 use Rattle.definitions.specs.Roots.{rootsOf}
 use Rattle.definitions.specs.Tools.{smallest}
 use Rattle.definitions.specs.Weights.{matrix, cost}
@@ -62,13 +61,13 @@ at-bad-column n r h e = refused-narrow 6 (smallest (badColumn sixteen r) n) (let
 
 module _ (a b : ℕ) where
   -- one of two is no symbol, or both are
-  field-narrow : (x : ℕ) → (a < 16 → b < 16 → x < 16) → Narrow (tried (fieldTable sixteen a b) refused (valued x))
+  field-narrow : (x : ℕ) → (a < sixteen .symbols → b < sixteen .symbols → x < sixteen .symbols) → Narrow (tried (fieldTable sixteen a b) refused (valued x))
   field-narrow x small =
-      narrow (valued x) (fieldTable sixteen a b) (or (at-first 15 (a ∷ b ∷ []) (omega arith)) (λ e.
-      let none = none-above 15 (a ∷ b ∷ []) (ltb-false (firstAbove 15 (a ∷ b ∷ [])) 2 e) in
+      narrow (valued x) (fieldTable sixteen a b) (or (at-first (sixteen .symbols - 1) (a ∷ b ∷ []) (omega arith)) (λ e.
+      let none = above-means (sixteen .symbols - 1) (a ∷ b ∷ []) e in
       let ha = none 0 in
       let hb = none 1 in
-      let h : x < 16 = small (omega arith) (omega arith) in
+      let h : x < sixteen .symbols = small (omega arith) (omega arith) in
       last (valued-narrow x (omega arith))))
 
   pub sum-narrow : Narrow (sumAnswer sixteen a b)
@@ -79,34 +78,34 @@ module _ (a b : ℕ) where
 
 pub inverse-narrow : (a : ℕ) → Narrow (inverseAnswer sixteen a)
 inverse-narrow a =
-    let small = smallest-le (λ (b : ℕ). eqb (sixteen .times a b) 1) 16 in
+    let small = smallest-le (λ (b : ℕ). eqb (sixteen .times a b) 1) (sixteen .symbols) in
     narrow (valued (inverseOf sixteen a)) (inverseTable sixteen a)
-    (or (at-first 15 (a ∷ []) (omega arith)) (λ _. or (λ _. at-none) (λ _. last (valued-narrow (inverseOf sixteen a) (omega arith)))))
+    (or (at-first (sixteen .symbols - 1) (a ∷ []) (omega arith)) (λ _. or (λ _. at-none) (λ _. last (valued-narrow (inverseOf sixteen a) (omega arith)))))
 
 pub encode-narrow : (n k : ℕ) (f out : List ℕ) → Narrow (encodeAnswer sixteen n k f out)
 encode-narrow n k f out =
     narrow (counted n) (encodeTable sixteen n k f (length out)) (or (λ _. at-none) (λ s.
-    let fits = sizes-mean sixteen n k (not-false (sizesFit sixteen n k) s) in
+    let fits = sizes-mean sixteen n k s in
     or (λ _. at-none) (λ l.
-    let full = eqb-true (length f) k (not-false (eqb (length f) k) l) in
-    or (λ _. at-none) (λ _. or (at-first 15 f (omega arith)) (λ _. last (counted-narrow n (omega arith)))))))
+    let full = entries-mean k f l in
+    or (λ _. at-none) (λ _. or (at-first (sixteen .symbols - 1) f (omega arith)) (λ _. last (counted-narrow n (omega arith)))))))
 
 pub multiplicities-narrow : (n L : ℕ) (r out : List ℕ) → Narrow (multiplicitiesAnswer sixteen n L r out)
 multiplicities-narrow n L r out =
-    narrow (counted (16 * n)) (multiplicitiesTable sixteen n L r (length out)) (or (λ _. at-none) (λ s.
-    let fits = size-means sixteen n (not-false (sizeFits sixteen n) s) in
+    narrow (counted (sixteen .symbols * n)) (multiplicitiesTable sixteen n L r (length out)) (or (λ _. at-none) (λ s.
+    let fits = size-means sixteen n s in
     or (λ _. at-none) (λ _. or (λ _. at-none) (λ _. or (λ _. at-none) (λ _. or
     (at-bad-column n r (omega arith))
-    (λ _. last (counted-narrow (16 * n) (omega arith))))))))
+    (λ _. last (counted-narrow (sixteen .symbols * n) (omega arith))))))))
 
 pub cost-narrow : (n k : ℕ) (m : List ℕ) → Narrow (costAnswer sixteen n k m)
 cost-narrow n k m =
     narrow (costed (cost m) (bound (k - 1) (cost m))) (costTable sixteen n k m) (or (λ _. at-none) (λ s.
-    let fits = sizes-mean sixteen n k (not-false (sizesFit sixteen n k) s) in
+    let fits = sizes-mean sixteen n k s in
     or (λ _. at-none) (λ l.
-    let full = eqb-true (length m) (16 * n) (not-false (eqb (length m) (16 * n)) l) in
-    or (at-first 4 m (omega arith)) (λ e.
-    let none = none-above 4 m (ltb-false (firstAbove 4 m) (length m) e) in
+    let full = entries-mean (sixteen .symbols * n) m l in
+    or (at-first greatestLevel m (omega arith)) (λ e.
+    let none = above-means greatestLevel m e in
     let small = cost-small m n (fits .2) full none in
     let degree = bound-le (k - 1) (omega arith) (cost m) in
     last (costed-narrow (cost m) (bound (k - 1) (cost m)) (omega arith) (omega arith))))))
@@ -120,13 +119,13 @@ interpolation-narrow n k G m out answer after =
     whatever (λ (X : Type 0). X → Narrow answer) (λ number place. (answer ≡ refused number place) × (after ≡ out)) (Interpolated sixteen n k m out answer after)
     (interpolationTable sixteen n k G m (length out))
     (or (λ _. so at-none) (λ s.
-    let fits = sizes-mean sixteen n k (not-false (sizesFit sixteen n k) s) in
+    let fits = sizes-mean sixteen n k s in
     or (λ _. so at-none) (λ g.
-    let limit = ltb-false 150 G g in
+    let limit = limit-means G g in
     or (λ _. so at-none) (λ l.
-    let full = eqb-true (length m) (16 * n) (not-false (eqb (length m) (16 * n)) l) in
-    or (λ _. so at-none) (λ _. or (λ e. so (at-first 4 m (omega arith) e)) (λ _. or (λ _. so at-none) (λ c.
-    let paid = ltb-false G (cost m) c in
+    let full = entries-mean (sixteen .symbols * n) m l in
+    or (λ _. so at-none) (λ _. or (λ e. so (at-first greatestLevel m (omega arith) e)) (λ _. or (λ _. so at-none) (λ c.
+    let paid = cost-means G m c in
     last (λ found.
     let size = found .1 .size in
     let wide = width-fits (k - 1) (cost m) (omega arith) (omega arith) (omega arith) in
@@ -139,13 +138,13 @@ interpolation-narrow n k G m out answer after =
 pub roots-narrow : (D k : ℕ) (q out : List ℕ) → Narrow (rootsAnswer sixteen D k q out)
 roots-narrow D k q out =
     narrow (counted (length (rootsOf sixteen D k q))) (rootsTable sixteen D k q (length out)) (or (λ _. at-none) (λ s.
-    let fits = size-means sixteen k (not-false (sizeFits sixteen k) s) in
+    let fits = size-means sixteen k s in
     or (λ _. at-none) (λ d.
-    let few = ltb-false 256 (count (k - 1) D) d in
+    let few = degree-means (k - 1) D d in
     or (λ _. at-none) (λ l.
-    let full = eqb-true (length q) (count (k - 1) D) (not-false (eqb (length q) (count (k - 1) D)) l) in
-    or (λ _. at-none) (λ _. or (at-first 15 q (omega arith)) (λ e.
-    let none = none-above 15 q (ltb-false (firstAbove 15 q) (length q) e) in
+    let full = entries-mean (count (k - 1) D) q l in
+    or (λ _. at-none) (λ _. or (at-first (sixteen .symbols - 1) q (omega arith)) (λ e.
+    let none = above-means (sixteen .symbols - 1) q e in
     or (λ _. at-none) (λ z.
     let most = roots-at-most sixteen sixteen-field k D (fits .0) q (λ j. let h = none j in omega arith) (omega arith) z in
     let degree = count-above (k - 1) (omega arith) D in
@@ -162,16 +161,16 @@ few-narrow accepted = whatever Few refused (counted accepted)
 pub list-narrow : (n k G : ℕ) (m rows scores : List ℕ) → Few (listAnswer sixteen n k G m rows scores)
 list-narrow n k G m rows scores =
     few-narrow (length (listOf sixteen n k m)) (listTable sixteen n k G m (length rows) (length scores)) (or (λ _ _. at-none) (λ s.
-    let fits = sizes-mean sixteen n k (not-false (sizesFit sixteen n k) s) in
+    let fits = sizes-mean sixteen n k s in
     or (λ _ _. at-none) (λ _. or (λ _ _. at-none) (λ l.
-    let full = eqb-true (length m) (16 * n) (not-false (eqb (length m) (16 * n)) l) in
-    or (λ _ _. at-none) (λ _. or (λ _ _. at-none) (λ _. or (λ e _. at-first 4 m (omega arith) e) (λ _. or (λ _ _. at-none) (λ _.
+    let full = entries-mean (sixteen .symbols * n) m l in
+    or (λ _ _. at-none) (λ _. or (λ _ _. at-none) (λ _. or (λ e _. at-first greatestLevel m (omega arith) e) (λ _. or (λ _ _. at-none) (λ _.
     last (λ few. counted-narrow (length (listOf sixteen n k m)) (omega arith))))))))))
 
 pub read-narrow : (n k L G : ℕ) (r rows scores : List ℕ) → Few (readAnswer sixteen n k L G r rows scores)
 read-narrow n k L G r rows scores =
     few-narrow (length (listOf sixteen n k (matrix L r))) (readTable sixteen n k L G r (length rows) (length scores)) (or (λ _ _. at-none) (λ s.
-    let fits = sizes-mean sixteen n k (not-false (sizesFit sixteen n k) s) in
+    let fits = sizes-mean sixteen n k s in
     or (λ _ _. at-none) (λ _. or (λ _ _. at-none) (λ _. or (λ _ _. at-none) (λ _. or (λ _ _. at-none) (λ _. or (λ _ _. at-none) (λ _. or
     (λ e _. at-bad-column n r (omega arith) e) (λ _. or (λ _ _. at-none) (λ _.
     last (λ few. counted-narrow (length (listOf sixteen n k (matrix L r))) (omega arith)))))))))))

@@ -6,14 +6,14 @@ ghost use Rattle.definitions.specs.Answers.{sumAnswer, productAnswer, inverseAn
 ghost use Rattle.definitions.specs.Field.{sixteen};
 ghost use Rattle.definitions.specs.Limits.{greatestRows};
 ghost use Rattle.exports.specs.Crossing.{answerOf, Narrow};
-ghost use Rattle.refusals.specs.Refusal.{toldRefusal}
+ghost use Rattle.refusals.specs.Refusal.{toldRefusal};
 ghost use Rattle.field.specs.Element.{toldElement};
 ghost use Rattle.interpolation.specs.Interpolated.{toldInterpolated};
 ghost use Rattle.weights.specs.Costed.{toldCosted};
-use refusals::Counted;
 use field::Element;
-use refusals::Refusal;
 use interpolation::Interpolated;
+use refusals::Counted;
+use refusals::Refusal;
 use weights::Costed;
 
 #[repr(C)]
@@ -33,43 +33,13 @@ fn narrow(x: usize) -> u16
     x as u16
 }
 
-fn number_of(r: Refusal) -> u16
-    ensures { λ n. ⌜ n ≡ toldRefusal r .number ⌝ }
-{
-    match r {
-        Refusal::Sizes => 1,
-        Refusal::Setting => 2,
-        Refusal::Length => 3,
-        Refusal::Room => 4,
-        Refusal::Symbol(_) => 5,
-        Refusal::Column(_) => 6,
-        Refusal::Cost => 7,
-        Refusal::Zero => 8,
-    }
-}
-
-fn place_of(r: Refusal) -> usize
-    ensures { λ p. ⌜ p ≡ toldRefusal r .place ⌝ }
-{
-    match r {
-        Refusal::Sizes => 0,
-        Refusal::Setting => 0,
-        Refusal::Length => 0,
-        Refusal::Room => 0,
-        Refusal::Symbol(place) => place,
-        Refusal::Column(place) => place,
-        Refusal::Cost => 0,
-        Refusal::Zero => 0,
-    }
-}
-
 fn refused(r: Refusal) -> Answer
     requires { ⌜ Narrow (toldRefusal r) ⌝ }
     ensures { λ a. ⌜ answerOf a ≡ toldRefusal r ⌝ }
 {
     Answer {
-        number: number_of(r),
-        place: narrow(place_of(r)),
+        number: narrow(r.number()),
+        place: narrow(r.place()),
         count: 0,
         value: 0,
         cost: 0,

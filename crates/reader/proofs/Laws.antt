@@ -114,7 +114,7 @@ module _ (n k L G : ℕ) (r rows₀ scores₀ : List ℕ) (a : Answer) (rows sco
       (λ e. omega arith, (λ e. omega arith, (λ e. omega arith, (λ e. omega arith, (λ e. omega arith, (λ e. omega arith, (λ e. omega arith, (λ e. omega arith, tt))))))))
 
   few-symbols : Accepts table → k ≤ 15
-  few-symbols (next e later) = let fits = sizes-mean sixteen n k (not-false (sizesFit sixteen n k) e) in omega arith
+  few-symbols (next e later) = let fits = sizes-mean sixteen n k e in omega arith
 
   module _ (number place : ℕ) (nonzero : number ≡ 0 → ⊥) (g : Gives table number place) where
     refused-is : a ≡ refused number place
@@ -223,7 +223,7 @@ sizes-refuse g s t f x y eg = rw eg refl
 wrong-lengths : (n k L G : ℕ) (r q : List ℕ) → ((n : ℕ) → 2 ≤ n → n ≤ 15 → length r ≡ 16 * n → ⊥) → ((n : ℕ) → 2 ≤ n → n ≤ 15 → length q ≡ 16 * n → ⊥)
     → answerTo n k L G r ≡ answerTo n k L G q
 wrong-lengths n k L G r q wr wq = split (sizesFit sixteen n k) (λ e.
-    let fits = sizes-mean sixteen n k e in
+    let fits = sizes-mean sixteen n k (ap not e) in
     both-refuse (sizes sixteen n k) (level L) (limit G) (not (eqb (length r) (16 * n))) (not (eqb (length q) (16 * n)))
     (room (16 * k) 240 ∷ room 16 16 ∷ columns sixteen n r ∷ costWithin G (matrix L r) ∷ [])
     (room (16 * k) 240 ∷ room 16 16 ∷ columns sixteen n q ∷ costWithin G (matrix L q) ∷ []) refusedLine (listText n k (matrix L r)) (listText n k (matrix L q))

@@ -8,9 +8,9 @@ ghost use Rattle.refusals.specs.Refusal.{toldRefusal};
 ghost use Rattle.io.specs.Counts.{Counts};
 ghost use Rattle.reader.specs.Program.{answerTo, output, answerText, Holds};
 ghost use Rattle.text.specs.Text.{listedLine, rowLines, Puts};
+use ranking::inside::ROWS;
 use refusals::Counted;
 use refusals::Refusal;
-use ranking::inside::ROWS;
 
 const HEADER: usize = 4;
 

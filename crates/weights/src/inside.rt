@@ -12,7 +12,6 @@ ghost use Rattle.definitions.specs.Tools.{smallest};
 ghost use Rattle.definitions.specs.Weights.{sumOfColumn, multiplicity, matrix};
 ghost use Rattle.refusals.specs.Checked.{orLine, toldChecked};
 ghost use Rattle.weights.specs.Matrix.{columnOf, matrixOf, columnCost, matrixCost};
-
 use refusals::Checked;
 use refusals::Refusal;
 use refusals::limits::COLUMN_SUM;

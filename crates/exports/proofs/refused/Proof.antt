@@ -1,20 +1,23 @@
-use mathlib.Core.Path.{_∙_}
-use Rattle.exports.proofs.Laws.{refused-told}
+-- A refusal is its number and place, both narrow.
+use mathlib.Core.Path.{sym, _∙_, ap₂}
+use Rattle.definitions.specs.Answers.{refused}
+use Rattle.refusals.proofs.Chain.{told-is}
 use borrow.Author.Needs.{needs}
 use Rattle.exports.proofs.refused.Statement.{statement}
 use Rattle.exports.proofs.refused.Tie as tie
 
-number-of-requires : tie.Need-number-of-requires
-number-of-requires c κs = search needs
-
-place-of-requires : tie.Need-place-of-requires
-place-of-requires c κs = search needs
-
-narrow-requires : tie.Need-narrow-requires
-narrow-requires c κs = search needs
-
 returns : tie.Need-returns
-returns c = refused-told (c .before .before .before .args .r) (c .before .before .number-of .result) (c .narrow .result) (c .before .before .number-of .ensures) (c .narrow .ensures ∙ c .before .place-of .ensures)
+returns c =
+    let place = c .before in
+    let number = place .before in
+    ap₂ refused (number .narrow .ensures ∙ number .before .number .ensures .0) (c .narrow2 .ensures ∙ place .place .ensures) ∙ sym (told-is (number .before .before .args .r))
 
 pub refused-spec : {M : Type 1} → statement M
-refused-spec = tie.close (tie.spec number-of-requires place-of-requires narrow-requires returns)
+refused-spec =
+    tie.close
+    (tie.spec
+    (λ c κs. search needs)
+    (λ c κs. search needs)
+    (λ c κs. search needs)
+    (λ c κs. search needs)
+    returns)
