@@ -1,13 +1,13 @@
--- The steps of loops that add up, fill a list from the front or lay one list over another, over plain numbers and lists.
+-- The steps of loops that add up or fill a list from the front, over plain numbers and lists.
 -- Assumes nothing.
-use mathlib.Core.List.{List, [], _∷_, _++_, map, append-assoc, append-nil}
+use mathlib.Core.List.{List, [], _∷_, _++_, map, append-assoc}
 use mathlib.Core.Path.{_≡_, sym, _∙_, ap, ap₂}
 use Prim.Native.Nat.{ℕ, suc, _+_, _*_, _≤_, _<_}
-use native.Mathlib.Nat.{add-zero, mul-suc, mul-le-mul-left}
+use native.Mathlib.Nat.{mul-suc, mul-le-mul-left}
 use native.Mathlib.Numerals.{add-one}
 use native.Mathlib.Omega.{arith}
-use lib.ListN.{length, take, drop, getD, set, length-append, length-drop, take-append-drop}
-use lib.Seq.{drop-cons, set-at, take-suc, take-at, getD-drop, drop-drop, drop-append-add, length-take-le}
+use lib.ListN.{length, take, drop, getD, set, length-drop}
+use lib.Seq.{drop-cons, set-at, take-suc, getD-drop, length-take-le}
 use Rattle.definitions.proofs.Tools.{length-map-below, map-below, sum-zero, sum-suc}
 use Rattle.definitions.specs.Tools.{below, sum}
 
@@ -42,30 +42,6 @@ copied-more p rest now from b h k e =
     ∙ ap (λ (l : List ℕ). l ++ drop (b + 1) rest)
     (ap (λ (x : ℕ). take b (drop from p) ++ (x ∷ [])) (sym (getD-drop from p b 0)) ∙ sym (take-suc (drop from p) b 0 (omega arith))
     ∙ ap (λ (j : ℕ). take j (drop from p)) (sym (add-one b))))
-
--- no list is laid over another yet
-pub over-none : (d : List ℕ) (at : ℕ) → d ≡ take at d ++ [] ++ drop (at + 0) d
-over-none d at = sym (rw (add-zero, append-nil, take-append-drop))
-
--- what lies before the end of a list that is laid over another
-pub length-over : (d : List ℕ) (at : ℕ) (l : List ℕ) → at ≤ length d → length (take at d ++ l) ≡ at + length l
-length-over d at l h = length-append (take at d) l ∙ ap (λ (n : ℕ). n + length l) (length-take-le at d h)
-
--- one list behind another
-pub over-more : (d : List ℕ) (at : ℕ) (l m : List ℕ) → at ≤ length d
-    → take (at + length l) (take at d ++ l ++ drop (at + length l) d) ++ m ++ drop (at + length l + length m) (take at d ++ l ++ drop (at + length l) d)
-    ≡ take at d ++ (l ++ m) ++ drop (at + length (l ++ m)) d
-over-more d at l m h =
-    let front = length-over d at l h in
-    let both = length-append l m in
-    let end : at + length l + length m ≡ at + length (l ++ m) = omega arith in
-    let rest : drop (at + length l + length m) (take at d ++ l ++ drop (at + length l) d) ≡ drop (at + length (l ++ m)) d =
-    ap (λ (n : ℕ). drop (n + length m) (take at d ++ l ++ drop (at + length l) d)) (sym front)
-    ∙ drop-append-add (take at d ++ l) (drop (at + length l) d) (length m)
-    ∙ drop-drop (length m) (at + length l) d ∙ ap (λ (n : ℕ). drop n d) end in
-    ap (λ (x : List ℕ). x ++ m ++ drop (at + length l + length m) (take at d ++ l ++ drop (at + length l) d))
-    (take-at (take at d ++ l) (drop (at + length l) d) (at + length l) front)
-    ∙ ap (λ (x : List ℕ). take at d ++ l ++ m ++ x) rest ∙ ap (λ (x : List ℕ). x ++ drop (at + length (l ++ m)) d) (append-assoc (take at d) l m)
 
 -- a row of those that are there lies within the memory
 pub row-within : (k r many size : ℕ) → r < many → k * many ≤ size → k * r + k ≤ size

@@ -2,10 +2,10 @@
 -- Assumes nothing.
 use mathlib.Core.Bool.{Bool, true, false, cond, not}
 use mathlib.Core.List.{List, [], _∷_, _++_, map, flatten}
-use mathlib.Core.Path.{_≡_, refl, sym, _∙_, ap, ap₂, subst}
+use mathlib.Core.Path.{_≡_, refl, sym, _∙_, ap, ap₂}
 use Prim.Native.Nat.{ℕ, zero, suc, _+_, _*_, _-_, _/_, _%_, _≤_, _<_}
 use native.Mathlib.Omega.{arith}
-use borrow.Author.Tests.{ne-eqb, lt-ltb, le-ltb, not-false}
+use borrow.Author.Tests.{ne-eqb, lt-ltb, le-ltb}
 use lib.Dec.{eqb, ltb}
 use lib.ListN.{length, take, drop, getD, length-append, length-drop, length-map, List·getD-append}
 use lib.Seq.{ext-getD, getD-take, length-take-le, take-all, take-at}
@@ -20,6 +20,7 @@ use Rattle.definitions.specs.Answers.{Answer, refused, counted, rowsOnto, score
 use Rattle.definitions.specs.Bound.{bound}
 use Rattle.definitions.specs.Code.{messages}
 use Rattle.definitions.specs.Field.{sixteen}
+use Rattle.definitions.specs.Limits.{greatestRows}
 use Rattle.definitions.specs.Listing.{listOf}
 use Rattle.definitions.specs.Refusals.{Line, tried, line, sizesFit, sizes, level, limit, entries, room, columns, costWithin, readTable}
 use Rattle.definitions.specs.Tools.{below, select}
@@ -30,8 +31,9 @@ use Rattle.refusals.specs.declared.Refusal.{Refusal}
 use Rattle.refusals.specs.declared.Refusal.the-variants.{Sizes, Setting, Length, Room, Symbol, Column, Cost, Zero}
 use Rattle.ranking.proofs.Memory.{rows-read}
 use Rattle.ranking.proofs.Written.{Sized}
-use Rattle.ranking.specs.Rows.{rowAt, rowsOf}
-use Rattle.reader.specs.Program.{listText, answerTo, output, answerText, Holds}
+use Rattle.ranking.specs.Rows.{rowAt}
+use Rattle.reader.specs.Program.{listText, symbolsOfRows, answerTo, headerBytes, output, answerText, Holds}
+use Rattle.reader.specs.Rooms.{greatestNumbers, longest}
 use Rattle.text.proofs.Laws.{none-lines, more-lines}
 use Rattle.text.specs.Text.{numberAt, numbersOf, listedLine, rowLine, lineOf, rowLines, refusedLine}
 
@@ -113,7 +115,7 @@ module _ (n k L G : ℕ) (r rows₀ scores₀ : List ℕ) (a : Answer) (rows sco
   numbered =
       (λ e. omega arith, (λ e. omega arith, (λ e. omega arith, (λ e. omega arith, (λ e. omega arith, (λ e. omega arith, (λ e. omega arith, (λ e. omega arith, tt))))))))
 
-  few-symbols : Accepts table → k ≤ 15
+  few-symbols : Accepts table → k ≤ sixteen .positions
   few-symbols (next e later) = let fits = sizes-mean sixteen n k e in omega arith
 
   module _ (number place : ℕ) (nonzero : number ≡ 0 → ⊥) (g : Gives table number place) where
@@ -139,7 +141,7 @@ module _ (n k L G : ℕ) (r rows₀ scores₀ : List ℕ) (a : Answer) (rows sco
     scores-are : scores ≡ scoresOnto sixteen n (matrix L r) listed scores₀
     scores-are = es ∙ sym (accepts (λ _ _. scores₀) (scoresOnto sixteen n (matrix L r) listed scores₀) t)
 
-    list-held : a .count ≤ 16 → (k ≤ 15) × (a .count ≤ 16) × (k * a .count ≤ length rows) × (a .count ≤ length scores)
+    list-held : a .count ≤ greatestRows → (k ≤ sixteen .positions) × (a .count ≤ greatestRows) × (k * a .count ≤ length rows) × (a .count ≤ length scores)
     list-held few =
         let symbols = few-symbols t in
         let many : a .count ≡ length listed = ap (λ (x : Answer). x .count) counted-is in
@@ -158,13 +160,13 @@ module _ (n k L G : ℕ) (r rows₀ scores₀ : List ℕ) (a : Answer) (rows sco
         (lines-of-list k listed (score sixteen n (matrix L r)) rows₀ (drop (length listed) scores₀) rows scores (list-sized n k (matrix L r)) rows-are scores-are)
         ∙ accepts refusedLine (listText n k (matrix L r)) t
 
-  pub holds : a .count ≤ 16 → Holds k a rows scores
+  pub holds : a .count ≤ greatestRows → Holds k a rows scores
   holds few = elim (outcome table numbered) [
     | refuses number place nonzero g ↦ λ e. absurd (no-list number place nonzero g e)
     | lists t ↦ λ _. list-held t few
   ]
 
-  pub text-is : length rows₀ ≡ 240 → length scores₀ ≡ 16 → answerText k a rows scores ≡ answerTo n k L G r
+  pub text-is : length rows₀ ≡ symbolsOfRows → length scores₀ ≡ greatestRows → answerText k a rows scores ≡ answerTo n k L G r
   text-is hr hs =
       let either : answerText k a rows scores ≡ tried table refusedLine (listText n k (matrix L r)) =
       elim (outcome table numbered) [
@@ -188,16 +190,16 @@ pub refusal-text : (k : ℕ) (rows scores : List ℕ) (r : Refusal) (number plac
     → refusedLine number place ≡ answerText k (toldRefusal r) rows scores
 refusal-text k rows scores r number place en ep = ap₂ refusedLine en ep ∙ told-text k rows scores r
 
--- fewer than four bytes, and others
-pub no-header : (input : List ℕ) → length input < 4 → refusedLine 3 0 ≡ output input
+-- fewer bytes than the header has, and others
+pub no-header : (input : List ℕ) → length input < headerBytes → refusedLine 3 0 ≡ output input
 no-header input h =
-    sym (ap (λ (b : Bool). cond b (refusedLine 3 0) (answerTo (getD input 0 0) (getD input 1 0) (getD input 2 0) (getD input 3 0) (numbersOf (drop 4 input)))) (lt-ltb (length input) 4 h))
+    sym (ap (λ (b : Bool). cond b (refusedLine 3 0) (answerTo (getD input 0 0) (getD input 1 0) (getD input 2 0) (getD input 3 0) (numbersOf (drop headerBytes input)))) (lt-ltb (length input) headerBytes h))
 
-pub header : (input r : List ℕ) (n k L G : ℕ) → 4 ≤ length input → n ≡ getD input 0 0 → k ≡ getD input 1 0 → L ≡ getD input 2 0 → G ≡ getD input 3 0
-    → r ≡ numbersOf (drop 4 input) → answerTo n k L G r ≡ output input
+pub header : (input r : List ℕ) (n k L G : ℕ) → headerBytes ≤ length input → n ≡ getD input 0 0 → k ≡ getD input 1 0 → L ≡ getD input 2 0 → G ≡ getD input 3 0
+    → r ≡ numbersOf (drop headerBytes input) → answerTo n k L G r ≡ output input
 header input r n k L G h en ek eL eG er =
     rw (en, ek, eL, eG, er)
-    (sym (ap (λ (b : Bool). cond b (refusedLine 3 0) (answerTo (getD input 0 0) (getD input 1 0) (getD input 2 0) (getD input 3 0) (numbersOf (drop 4 input)))) (le-ltb (length input) 4 h)))
+    (sym (ap (λ (b : Bool). cond b (refusedLine 3 0) (answerTo (getD input 0 0) (getD input 1 0) (getD input 2 0) (getD input 3 0) (numbersOf (drop headerBytes input)))) (le-ltb (length input) headerBytes h)))
 
 -- the numbers in front of a memory
 pub in-front : (words rest now : List ℕ) (count : ℕ) → count ≡ length words → now ≡ words ++ rest → take count now ≡ words
@@ -208,8 +210,8 @@ pub front-within : (words rest now : List ℕ) (count : ℕ) → count ≡ lengt
 front-within words rest now count ec en = let size : length now ≡ length words + length rest = ap length en ∙ length-append words rest in omega arith
 
 -- the bytes behind the header
-pub bytes-are : (input : List ℕ) → take (length input - 4) (drop 4 input) ≡ drop 4 input
-bytes-are input = let size = length-drop 4 input in take-all (length input - 4) (drop 4 input) (omega arith)
+pub bytes-are : (input : List ℕ) → take (length input - headerBytes) (drop headerBytes input) ≡ drop headerBytes input
+bytes-are input = let size = length-drop headerBytes input in take-all (length input - headerBytes) (drop headerBytes input) (omega arith)
 
 -- tables that begin alike and then both refuse a length, whatever they would make of it later
 both-refuse : (a b c : Line) (g h : Bool) (s t : List Line) (f : ℕ → ℕ → List ℕ) (x y : List ℕ) → g ≡ true → h ≡ true
@@ -220,19 +222,19 @@ sizes-refuse : (g : Bool) (s t : List Line) (f : ℕ → ℕ → List ℕ) (x y 
 sizes-refuse g s t f x y eg = rw eg refl
 
 -- two inputs of a wrong length
-wrong-lengths : (n k L G : ℕ) (r q : List ℕ) → ((n : ℕ) → 2 ≤ n → n ≤ 15 → length r ≡ 16 * n → ⊥) → ((n : ℕ) → 2 ≤ n → n ≤ 15 → length q ≡ 16 * n → ⊥)
+wrong-lengths : (n k L G : ℕ) (r q : List ℕ) → ((n : ℕ) → 2 ≤ n → n ≤ sixteen .positions → length r ≡ sixteen .symbols * n → ⊥) → ((n : ℕ) → 2 ≤ n → n ≤ sixteen .positions → length q ≡ sixteen .symbols * n → ⊥)
     → answerTo n k L G r ≡ answerTo n k L G q
 wrong-lengths n k L G r q wr wq = split (sizesFit sixteen n k) (λ e.
     let fits = sizes-mean sixteen n k (ap not e) in
-    both-refuse (sizes sixteen n k) (level L) (limit G) (not (eqb (length r) (16 * n))) (not (eqb (length q) (16 * n)))
-    (room (16 * k) 240 ∷ room 16 16 ∷ columns sixteen n r ∷ costWithin G (matrix L r) ∷ [])
-    (room (16 * k) 240 ∷ room 16 16 ∷ columns sixteen n q ∷ costWithin G (matrix L q) ∷ []) refusedLine (listText n k (matrix L r)) (listText n k (matrix L q))
-    (ap not (ne-eqb (length r) (16 * n) (wr n (omega arith) (omega arith)))) (ap not (ne-eqb (length q) (16 * n) (wq n (omega arith) (omega arith)))))
-    (λ e. sizes-refuse (not (sizesFit sixteen n k)) (level L ∷ limit G ∷ entries (16 * n) r ∷ room (16 * k) 240 ∷ room 16 16 ∷ columns sixteen n r ∷ costWithin G (matrix L r) ∷ [])
-    (level L ∷ limit G ∷ entries (16 * n) q ∷ room (16 * k) 240 ∷ room 16 16 ∷ columns sixteen n q ∷ costWithin G (matrix L q) ∷ []) refusedLine (listText n k (matrix L r)) (listText n k (matrix L q)) (ap not e))
+    both-refuse (sizes sixteen n k) (level L) (limit G) (not (eqb (length r) (sixteen .symbols * n))) (not (eqb (length q) (sixteen .symbols * n)))
+    (room (greatestRows * k) symbolsOfRows ∷ room greatestRows greatestRows ∷ columns sixteen n r ∷ costWithin G (matrix L r) ∷ [])
+    (room (greatestRows * k) symbolsOfRows ∷ room greatestRows greatestRows ∷ columns sixteen n q ∷ costWithin G (matrix L q) ∷ []) refusedLine (listText n k (matrix L r)) (listText n k (matrix L q))
+    (ap not (ne-eqb (length r) (sixteen .symbols * n) (wr n (omega arith) (omega arith)))) (ap not (ne-eqb (length q) (sixteen .symbols * n) (wq n (omega arith) (omega arith)))))
+    (λ e. sizes-refuse (not (sizesFit sixteen n k)) (level L ∷ limit G ∷ entries (sixteen .symbols * n) r ∷ room (greatestRows * k) symbolsOfRows ∷ room greatestRows greatestRows ∷ columns sixteen n r ∷ costWithin G (matrix L r) ∷ [])
+    (level L ∷ limit G ∷ entries (sixteen .symbols * n) q ∷ room (greatestRows * k) symbolsOfRows ∷ room greatestRows greatestRows ∷ columns sixteen n q ∷ costWithin G (matrix L q) ∷ []) refusedLine (listText n k (matrix L r)) (listText n k (matrix L q)) (ap not e))
 
--- more than 481 bytes hold no list's numbers
-too-many : (b : List ℕ) → 481 < length b → (n : ℕ) → 2 ≤ n → n ≤ 15 → length (numbersOf b) ≡ 16 * n → ⊥
+-- more bytes than those of the greatest numbers, and one, hold no list's numbers
+too-many : (b : List ℕ) → 2 * greatestNumbers + 1 < length b → (n : ℕ) → 2 ≤ n → n ≤ sixteen .positions → length (numbersOf b) ≡ sixteen .symbols * n → ⊥
 too-many b h n low high e = split (eqb (length b % 2) 0) (λ t.
     let size : length (numbersOf b) ≡ length b / 2 = rw t (length-map (below (length b / 2)) (numberAt b) ∙ length-below (length b / 2)) in
     omega arith)
@@ -241,13 +243,13 @@ too-many b h n low high e = split (eqb (length b % 2) 0) (λ t.
     omega arith)
 
 -- an input that is too long is answered as its beginning is
-pub beginning : (input : List ℕ) → 486 < length input → output (take 486 input) ≡ output input
+pub beginning : (input : List ℕ) → longest < length input → output (take longest input) ≡ output input
 beginning input h =
-    let size : length (take 486 input) ≡ 486 = length-take-le 486 input (omega arith) in
-    let short = length-drop 4 (take 486 input) in
-    let long = length-drop 4 input in
-    sym (header (take 486 input) (numbersOf (drop 4 (take 486 input))) (getD input 0 0) (getD input 1 0) (getD input 2 0) (getD input 3 0) (omega arith)
-    (sym (getD-take 486 input 0 0 (omega arith))) (sym (getD-take 486 input 1 0 (omega arith))) (sym (getD-take 486 input 2 0 (omega arith))) (sym (getD-take 486 input 3 0 (omega arith))) refl)
-    ∙ wrong-lengths (getD input 0 0) (getD input 1 0) (getD input 2 0) (getD input 3 0) (numbersOf (drop 4 (take 486 input))) (numbersOf (drop 4 input))
-    (too-many (drop 4 (take 486 input)) (omega arith)) (too-many (drop 4 input) (omega arith))
-    ∙ header input (numbersOf (drop 4 input)) (getD input 0 0) (getD input 1 0) (getD input 2 0) (getD input 3 0) (omega arith) refl refl refl refl refl
+    let size : length (take longest input) ≡ longest = length-take-le longest input (omega arith) in
+    let short = length-drop headerBytes (take longest input) in
+    let long = length-drop headerBytes input in
+    sym (header (take longest input) (numbersOf (drop headerBytes (take longest input))) (getD input 0 0) (getD input 1 0) (getD input 2 0) (getD input 3 0) (omega arith)
+    (sym (getD-take longest input 0 0 (omega arith))) (sym (getD-take longest input 1 0 (omega arith))) (sym (getD-take longest input 2 0 (omega arith))) (sym (getD-take longest input 3 0 (omega arith))) refl)
+    ∙ wrong-lengths (getD input 0 0) (getD input 1 0) (getD input 2 0) (getD input 3 0) (numbersOf (drop headerBytes (take longest input))) (numbersOf (drop headerBytes input))
+    (too-many (drop headerBytes (take longest input)) (omega arith)) (too-many (drop headerBytes input) (omega arith))
+    ∙ header input (numbersOf (drop headerBytes input)) (getD input 0 0) (getD input 1 0) (getD input 2 0) (getD input 3 0) (omega arith) refl refl refl refl refl

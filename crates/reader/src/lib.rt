@@ -1,61 +1,35 @@
 // From the program's input to its output.
-ghost use mathlib.Core.Path.{_≡_};
 ghost use mathlib.Core.List.{_++_};
-ghost use Prim.Native.Nat.{_+_, _*_, _≤_, _<_};
+ghost use Prim.Native.Nat.{_*_, _≤_};
 ghost use lib.ListN.{length};
+ghost use Rattle.definitions.specs.Field.{sixteen};
+ghost use Rattle.definitions.specs.Limits.{greatestRows};
 ghost use Rattle.refusals.specs.Counted.{toldCounted};
-ghost use Rattle.refusals.specs.Refusal.{toldRefusal};
 ghost use Rattle.io.specs.Counts.{Counts};
 ghost use Rattle.reader.specs.Program.{answerTo, output, answerText, Holds};
+ghost use Rattle.reader.specs.Rooms.{longest, answerRoom};
 ghost use Rattle.text.specs.Text.{listedLine, rowLines, Puts};
-use ranking::inside::ROWS;
 use refusals::Counted;
-use refusals::Refusal;
+use refusals::limits::ENTRIES;
+use refusals::limits::GREATEST_ROWS;
+use refusals::limits::POSITIONS;
+use text::rooms::LISTED_ROOM;
+use text::rooms::ROWS_ROOM;
 
 const HEADER: usize = 4;
 
-// One number more than any list takes.
-pub const LONGEST: usize = 486;
+// One more than any list takes.
+const NUMBERS: usize = ENTRIES + 1;
 
-const NUMBERS: usize = 241;
+// The header, and two bytes for each number.
+pub const LONGEST: usize = HEADER + 2 * NUMBERS;
 
-// The line of the count, and sixteen rows of fifteen symbols.
-pub const ROOM: usize = 844;
+const SYMBOLS_OF_ROWS: usize = GREATEST_ROWS * POSITIONS;
 
-const SYMBOLS_OF_ROWS: usize = 240;
-
-fn number_of(r: Refusal) -> usize
-    ensures { λ n. ⌜ n ≡ toldRefusal r .number ⌝ }
-{
-    match r {
-        Refusal::Sizes => 1,
-        Refusal::Setting => 2,
-        Refusal::Length => 3,
-        Refusal::Room => 4,
-        Refusal::Symbol(_) => 5,
-        Refusal::Column(_) => 6,
-        Refusal::Cost => 7,
-        Refusal::Zero => 8,
-    }
-}
-
-fn place_of(r: Refusal) -> usize
-    ensures { λ p. ⌜ p ≡ toldRefusal r .place ⌝ }
-{
-    match r {
-        Refusal::Sizes => 0,
-        Refusal::Setting => 0,
-        Refusal::Length => 0,
-        Refusal::Room => 0,
-        Refusal::Symbol(place) => place,
-        Refusal::Column(place) => place,
-        Refusal::Cost => 0,
-        Refusal::Zero => 0,
-    }
-}
+pub const ROOM: usize = LISTED_ROOM + ROWS_ROOM;
 
 fn put_list(out: &mut [u8], k: usize, count: usize, rows: &[u8], scores: &[u16]) -> usize
-    requires { ⌜ (k ≤ 15) × (count ≤ 16) × (k * count ≤ length (now rows)) × (count ≤ length (now scores)) × (844 ≤ length (now out)) ⌝ }
+    requires { ⌜ (k ≤ sixteen .positions) × (count ≤ greatestRows) × (k * count ≤ length (now rows)) × (count ≤ length (now scores)) × (answerRoom ≤ length (now out)) ⌝ }
     ensures { λ r. ⌜ Puts (now (out .entry)) 0 (listedLine count ++ rowLines k (now (rows .entry)) (now (scores .entry)) count) r (now (out .exit)) ⌝ }
 {
     let end = text::inside::put_listed(out, 0, count);
@@ -64,12 +38,12 @@ fn put_list(out: &mut [u8], k: usize, count: usize, rows: &[u8], scores: &[u16])
 
 fn put_answer(out: &mut [u8], k: usize, answer: Counted, rows: &[u8], scores: &[u16]) -> usize
     requires { ⌜ Holds k (toldCounted answer) (now rows) (now scores) ⌝ }
-    requires { ⌜ 844 ≤ length (now out) ⌝ }
+    requires { ⌜ answerRoom ≤ length (now out) ⌝ }
     ensures { λ r. ⌜ Puts (now (out .entry)) 0 (answerText k (toldCounted answer) (now (rows .entry)) (now (scores .entry))) r (now (out .exit)) ⌝ }
 {
     match answer {
         Counted::Count(count) => put_list(out, k, count, rows, scores),
-        Counted::Refused(r) => text::inside::put_refused(out, 0, number_of(r), place_of(r)),
+        Counted::Refused(r) => text::inside::put_refused(out, 0, r.number(), r.place()),
     }
 }
 
@@ -81,11 +55,11 @@ fn answer(
     reliabilities: &[u16],
     out: &mut [u8],
 ) -> usize
-    requires { ⌜ 844 ≤ length (now out) ⌝ }
+    requires { ⌜ answerRoom ≤ length (now out) ⌝ }
     ensures { λ r. ⌜ Puts (now (out .entry)) 0 (answerTo n k level limit (now (reliabilities .entry))) r (now (out .exit)) ⌝ }
 {
     let mut rows = [0u8; SYMBOLS_OF_ROWS];
-    let mut scores = [0u16; ROWS];
+    let mut scores = [0u16; GREATEST_ROWS];
     let told = list::list_of_reliabilities(
         n,
         k,
@@ -100,7 +74,7 @@ fn answer(
 
 // The answer to an input of which no more than one number too many was read.
 fn answer_to(input: &[u8], out: &mut [u8]) -> usize
-    requires { ⌜ (length (now input) ≤ 486) × (844 ≤ length (now out)) ⌝ }
+    requires { ⌜ (length (now input) ≤ longest) × (answerRoom ≤ length (now out)) ⌝ }
     ensures { λ r. ⌜ Puts (now (out .entry)) 0 (output (now (input .entry))) r (now (out .exit)) ⌝ }
 {
     if input.len() < HEADER {
@@ -115,9 +89,9 @@ fn answer_to(input: &[u8], out: &mut [u8]) -> usize
     answer(n, k, level, limit, &numbers[..count], out)
 }
 
-// What the program writes for its input: at most 844 bytes, in front of out.
+// What the program writes for its input: at most ROOM bytes, in front of out.
 pub fn read(input: &[u8], out: &mut [u8]) -> usize
-    requires { ⌜ 844 ≤ length (now out) ⌝ }
+    requires { ⌜ answerRoom ≤ length (now out) ⌝ }
     ensures { λ r. ⌜ Puts (now (out .entry)) 0 (output (now (input .entry))) r (now (out .exit)) ⌝ }
     ensures { λ r. ⌜ Counts r (now (out .exit)) ⌝ }
 {

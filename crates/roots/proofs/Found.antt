@@ -4,7 +4,7 @@ use mathlib.Core.Bool.{false}
 use mathlib.Core.List.{List, [], _∷_, _++_, flatten, List·Memᴰ}
 use mathlib.Core.Path.{_≡_, sym, _∙_, ap, ap₂, subst}
 use Prim.Native.Nat.{ℕ, _+_, _-_, _*_, _/_, _≤_}
-use native.Mathlib.Nat.{mul-le-mul-left, mul-le-mul-right}
+use native.Mathlib.Nat.{mul-le-mul-left}
 use native.Mathlib.Omega.{arith}
 use lib.ListN.{length, take, drop}
 use Rattle.algebra.proofs.Elements.{zero-symbol}
@@ -14,6 +14,7 @@ use Rattle.definitions.specs.Answers.{rowsOnto}
 use Rattle.definitions.specs.Bound.{count}
 use Rattle.definitions.specs.Code.{Symbols}
 use Rattle.definitions.specs.Field.{numbers, sixteen}
+use Rattle.definitions.specs.Limits.{greatestCount}
 use Rattle.definitions.specs.Polynomial.{monomials, isZero}
 use Rattle.definitions.specs.Roots.{rootsOf}
 use Rattle.field.proofs.Instance.{sixteen-field}
@@ -25,8 +26,10 @@ use Rattle.search.proofs.Search.{strip-symbols}
 use Rattle.search.proofs.Size.{array-size, column-height}
 use Rattle.search.specs.Columns.{loaded}
 use Rattle.search.specs.Tree.{zeros, strip, search}
-use Rattle.substitution.specs.Array.{polynomial, Freed}
-use Rattle.roots.specs.Rows.{DegreeWithin, rowsAfter, laidOver}
+use Rattle.substitution.specs.Array.{places, height, polynomial, Freed}
+use Rattle.memory.proofs.Laid.{laid-front}
+use Rattle.memory.specs.Laid.{laid}
+use Rattle.roots.specs.Rows.{DegreeWithin, rowsAfter}
 use Rattle.substitution.proofs.Substitution.{zeros-symbols}
 
 -- rows after no prefix
@@ -39,36 +42,27 @@ rows-flat (f ∷ rows) = join-cons (λ (f : List ℕ). [] ++ f) f rows ∙ ap (�
 rows-length : (k : ℕ) (rows : List (List ℕ)) → ((f : List ℕ) → List·Memᴰ f rows → length f ≡ k) → length (rowsAfter [] rows) ≡ k * length rows
 rows-length k rows h = ap length (rows-flat rows) ∙ length-flatten k rows (all-members (λ (f : List ℕ). length f ≡ k) rows h)
 
--- the room is a machine number
-pub room-fits : (k D : ℕ) → 2 ≤ k → k ≤ 15 → count (k - 1) D ≤ 256 → k * (D / (k - 1)) ≤ 15 * 512
-room-fits k D two fifteen small =
-    let v = k - 1 in
-    let a = array-size (k - 1) (omega arith) D in
-    let b : 1 * (D / (k - 1) + 1) ≤ (D + 1) * (D / (k - 1) + 1) = mul-le-mul-right (D / (k - 1) + 1) (omega arith) in
-    let c : k * (D / (k - 1)) ≤ 15 * (D / (k - 1)) = mul-le-mul-right (D / (k - 1)) fifteen in
-    omega arith
-
-module _ (D k : ℕ) (q : List ℕ) (two : 2 ≤ k) (small : count (k - 1) D ≤ 256) (full : length q ≡ count (k - 1) D) (s : Symbols sixteen q) where
+module _ (D k : ℕ) (q : List ℕ) (two : 2 ≤ k) (small : count (k - 1) D ≤ greatestCount) (full : length q ≡ count (k - 1) D) (s : Symbols sixteen q) where
   -- the array holds every accepted polynomial
-  pub array-fits : (D + 1) * (D / (k - 1) + 1) ≤ 512
+  pub array-fits : (D + 1) * (D / (k - 1) + 1) ≤ places
   array-fits = let a = array-size (k - 1) (omega arith) D in omega arith
 
   -- and its columns are low
-  pub columns-low : D / (k - 1) + 1 ≤ 32
+  pub columns-low : D / (k - 1) + 1 ≤ height
   columns-low = let a = column-height (k - 1) D (omega arith) array-fits in omega arith
 
   -- the loaded array
   abbrev start : List ℕ
-  start = loaded (numbers sixteen) (D / (k - 1) + 1) q (monomials (k - 1) D) (zeros 512)
+  start = loaded (numbers sixteen) (D / (k - 1) + 1) q (monomials (k - 1) D) (zeros places)
 
-  module _ (l : List ℕ) (el : l ≡ loaded (numbers sixteen) (D / (k - 1) + 1) q (monomials (k - 1) D) (zeros 512)) where
-    -- of 512 entries
-    pub loaded-length : length l ≡ 512
-    loaded-length = ap length el ∙ length-loaded (numbers sixteen) (D / (k - 1) + 1) q (monomials (k - 1) D) (zeros 512) ∙ length-zeros 512
+  module _ (l : List ℕ) (el : l ≡ loaded (numbers sixteen) (D / (k - 1) + 1) q (monomials (k - 1) D) (zeros places)) where
+    -- of as many entries as there are places
+    pub loaded-length : length l ≡ places
+    loaded-length = ap length el ∙ length-loaded (numbers sixteen) (D / (k - 1) + 1) q (monomials (k - 1) D) (zeros places) ∙ length-zeros places
 
     -- which are symbols
     start-symbols : Symbols sixteen start
-    start-symbols = loaded-symbols sixteen (D / (k - 1) + 1) q (monomials (k - 1) D) (zeros 512) s (zeros-symbols 512)
+    start-symbols = loaded-symbols sixteen (D / (k - 1) + 1) q (monomials (k - 1) D) (zeros places) s (zeros-symbols places)
 
     -- also under another name
     pub loaded-are-symbols : Symbols sixteen l
@@ -84,7 +78,7 @@ module _ (D k : ℕ) (q : List ℕ) (two : 2 ≤ k) (small : count (k - 1) D ≤
       within a b h =
           freed-start a b
           ∙ under-strip sixteen (k - 1) D (polynomial (D / (k - 1) + 1) (D + 1) start)
-          (under-grid sixteen sixteen-field 512 (k - 1) D (omega arith) array-fits q s) a b h
+          (under-grid sixteen sixteen-field places (k - 1) D (omega arith) array-fits q s) a b h
 
       -- the search finds the roots
       found : search sixteen k (polynomial (D / (k - 1) + 1) (D + 1) p) ≡ rootsOf sixteen D k q
@@ -93,7 +87,7 @@ module _ (D k : ℕ) (q : List ℕ) (two : 2 ≤ k) (small : count (k - 1) D ≤
           (columns-symbols sixteen (zero-symbol sixteen sixteen-field) (D / (k - 1) + 1) (D + 1) p sp)
           (strip-symbols sixteen (polynomial (D / (k - 1) + 1) (D + 1) start)
           (columns-symbols sixteen (zero-symbol sixteen sixteen-field) (D / (k - 1) + 1) (D + 1) start start-symbols)) freed-start
-          ∙ search-is-roots sixteen sixteen-field k D two q s 512 array-fits
+          ∙ search-is-roots sixteen sixteen-field k D two q s places array-fits
 
       -- each root is a message of k symbols
       row-size : (f : List ℕ) → List·Memᴰ f (rootsOf sixteen D k q) → length f ≡ k
@@ -127,9 +121,8 @@ module _ (D k : ℕ) (q : List ℕ) (two : 2 ≤ k) (small : count (k - 1) D ≤
             ap (λ (m : ℕ). m / k) g ∙ place-column k n 0 (omega arith)
 
         -- the rows one after the other, and what lies after them
-        pub rows-written : (d r : List ℕ) → r ≡ laidOver d 0 (rowsAfter (take (k - k) row) (search sixteen k (polynomial (D / (k - 1) + 1) (D + 1) p)))
+        pub rows-written : (d r : List ℕ) → r ≡ laid d 0 (rowsAfter (take (k - k) row) (search sixteen k (polynomial (D / (k - 1) + 1) (D + 1) p)))
             → r ≡ rowsOnto sixteen k (rootsOf sixteen D k q) d
         rows-written d r h =
-            let f = rows-number in
-            let g : 0 + length (rowsAfter (take (k - k) row) (search sixteen k (polynomial (D / (k - 1) + 1) (D + 1) p))) ≡ k * length (rootsOf sixteen D k q) = omega arith in
-            h ∙ ap₂ (λ (x : List ℕ) (m : ℕ). x ++ drop m d) (rows-found ∙ rows-flat (rootsOf sixteen D k q)) g
+            h ∙ laid-front d (rowsAfter (take (k - k) row) (search sixteen k (polynomial (D / (k - 1) + 1) (D + 1) p))) (k * length (rootsOf sixteen D k q)) rows-number
+            ∙ ap (λ (x : List ℕ). x ++ drop (k * length (rootsOf sixteen D k q)) d) (rows-found ∙ rows-flat (rootsOf sixteen D k q))

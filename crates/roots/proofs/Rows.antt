@@ -10,9 +10,8 @@ use native.Mathlib.Numerals.{add-one}
 use native.Mathlib.Omega.{arith}
 use borrow.Author.Tests.{eq-eqb, ne-eqb}
 use lib.ListN.{length, take, set, length-append}
-use lib.Seq.{length-take-le, take-suc-set, paste}
+use lib.Seq.{length-take-le, take-suc-set}
 use Rattle.definitions.proofs.Joined.{join-nil, join-cons, join-append, join-below, joined-room}
-use Rattle.definitions.proofs.Loops.{over-none, over-more}
 use Rattle.definitions.proofs.Tools.{below-zero}
 use Rattle.definitions.specs.Code.{Symbols}
 use Rattle.definitions.specs.Field.{numbers, value, sixteen}
@@ -22,8 +21,10 @@ use Rattle.search.proofs.Levels.{search-handed, under-handed}
 use Rattle.search.proofs.Search.{branch, search-zero, search-suc}
 use Rattle.search.specs.Columns.{first, columns}
 use Rattle.search.specs.Tree.{constantsZero, begins, next, search}
-use Rattle.substitution.specs.Array.{polynomial, Handed}
-use Rattle.roots.specs.Rows.{DegreeWithin, rowsAfter, laidOver}
+use Rattle.substitution.specs.Array.{places, polynomial, Handed}
+use Rattle.memory.proofs.Laid.{laid-none, laid-behind}
+use Rattle.memory.specs.Laid.{laid}
+use Rattle.roots.specs.Rows.{DegreeWithin, rowsAfter}
 
 -- ---- rows after a prefix
 
@@ -64,11 +65,11 @@ before-more : (prefix : List ℕ) (n : ℕ) (M : List (List ℕ)) (g : ℕ) → 
 before-more prefix n M g = ap (rowsBefore prefix n M) (add-one g) ∙ join-below (rowsOf prefix n M) g
 
 -- all symbols
-pub rows-all : (prefix : List ℕ) (left : ℕ) (M : List (List ℕ)) → 0 < left → rowsAfter prefix (search sixteen left M) ≡ rowsBefore prefix (left - 1) M 16
+pub rows-all : (prefix : List ℕ) (left : ℕ) (M : List (List ℕ)) → 0 < left → rowsAfter prefix (search sixteen left M) ≡ rowsBefore prefix (left - 1) M (sixteen .symbols)
 rows-all prefix left M h =
     let e : left ≡ suc (left - 1) = omega arith in
     ap (λ (n : ℕ). rowsAfter prefix (search sixteen n M)) e ∙ ap (rowsAfter prefix) (search-suc sixteen (left - 1) M)
-    ∙ rows-joined prefix (branch sixteen (left - 1) M) 16
+    ∙ rows-joined prefix (branch sixteen (left - 1) M) (sixteen .symbols)
 
 -- ---- the last level
 
@@ -91,9 +92,9 @@ module _ (row : List ℕ) (k left : ℕ) (M : List (List ℕ)) (z : left ≡ 0) 
   leaf-root-length e h = ap length (leaf-root e) ∙ length-take-le k row h
 
   -- its row is what is written
-  pub leaf-written : true ≡ constantsZero M → k ≤ length row → (d r : List ℕ) (at : ℕ) → r ≡ paste d at row k
-      → r ≡ laidOver d at (rowsAfter (take (k - left) row) (search sixteen left M))
-  leaf-written e h d r at w = w ∙ rw (leaf-root-length e h, leaf-root e)
+  pub leaf-written : true ≡ constantsZero M → (d r : List ℕ) (at : ℕ) → r ≡ laid d at (take k row)
+      → r ≡ laid d at (rowsAfter (take (k - left) row) (search sixteen left M))
+  leaf-written e d r at w = w ∙ ap (laid d at) (sym (leaf-root e))
 
   -- none
   leaf-none : false ≡ constantsZero M → rowsAfter (take (k - left) row) (search sixteen left M) ≡ []
@@ -101,16 +102,16 @@ module _ (row : List ℕ) (k left : ℕ) (M : List (List ℕ)) (z : left ≡ 0) 
 
   -- so nothing is written
   pub leaf-nothing : false ≡ constantsZero M → (d : List ℕ) (at : ℕ)
-      → (at ≡ at + length (rowsAfter (take (k - left) row) (search sixteen left M))) × (d ≡ laidOver d at (rowsAfter (take (k - left) row) (search sixteen left M)))
-  leaf-nothing e d at = (rw (leaf-none e) (sym (add-zero at)), rw (leaf-none e) (over-none d at))
+      → (at ≡ at + length (rowsAfter (take (k - left) row) (search sixteen left M))) × (d ≡ laid d at (rowsAfter (take (k - left) row) (search sixteen left M)))
+  leaf-nothing e d at = (rw (leaf-none e) (sym (add-zero at)), rw (leaf-none e) (laid-none d at))
 
 -- before the first symbol nothing is written
 pub before-nothing : (prefix : List ℕ) (n : ℕ) (M : List (List ℕ)) (d : List ℕ) (at : ℕ)
-    → (at ≡ at + length (rowsBefore prefix n M 0)) × (d ≡ laidOver d at (rowsBefore prefix n M 0))
-before-nothing prefix n M d at = (rw (before-none prefix n M) (sym (add-zero at)), rw (before-none prefix n M) (over-none d at))
+    → (at ≡ at + length (rowsBefore prefix n M 0)) × (d ≡ laid d at (rowsBefore prefix n M 0))
+before-nothing prefix n M d at = (rw (before-none prefix n M) (sym (add-zero at)), rw (before-none prefix n M) (laid-none d at))
 
 -- what is tried is a symbol
-pub symbol : (g n : ℕ) → g < n → n ≤ 16 → g < 16
+pub symbol : (g n : ℕ) → g ≤ n → n < sixteen .symbols → g < sixteen .symbols
 symbol g n h k = omega arith
 
 -- a level that is not the last
@@ -133,12 +134,12 @@ fewer-fit n k h = omega arith
 pub same-room : (a n m : ℕ) → m ≡ n → a ≤ n → a ≤ m
 same-room a n m e h = omega arith
 
--- a row has fifteen entries
-pub row-holds : (row : List ℕ) (k : ℕ) → length row ≡ 15 → k ≤ 15 → k ≤ length row
+-- a row has an entry for each symbol of a message
+pub row-holds : (row : List ℕ) (k : ℕ) → length row ≡ sixteen .positions → k ≤ sixteen .positions → k ≤ length row
 row-holds row k e h = omega arith
 
--- there are at most 512 columns
-pub columns-fit : (h w : ℕ) → 0 < h → w * h ≤ 512 → w ≤ 512
+-- there are no more columns than places
+pub columns-fit : (h w : ℕ) → 0 < h → w * h ≤ places → w ≤ places
 columns-fit h w pos l = let m : w * 1 ≤ w * h = mul-le-mul-left w pos in omega arith
 
 -- ---- one symbol tried
@@ -167,10 +168,10 @@ module _ (h D g : ℕ) (p : List ℕ) (y : ℕ) (e : y ≡ value (numbers sixtee
   unfolding begins
   begins-no n = ne-eqb (value (numbers sixteen) g (first (numbers sixteen) (polynomial h (D + 1) p))) 0 (λ z. n (sym first-value ∙ z))
 
-module _ (k left D h : ℕ) (row p : List ℕ) (d : List ℕ) (at : ℕ) (out : List ℕ) (end g : ℕ) (hg : g < 16) (pos : 0 < left) (fits : left ≤ k) (k15 : k ≤ length row)
+module _ (k left D h : ℕ) (row p : List ℕ) (d : List ℕ) (at : ℕ) (out : List ℕ) (end g : ℕ) (hg : g < sixteen .symbols) (pos : 0 < left) (fits : left ≤ k) (long : k ≤ length row)
     (room : at + length (rowsAfter (take (k - left) row) (search sixteen left (polynomial h (D + 1) p))) ≤ length d)
     (he : end ≡ at + length (rowsBefore (take (k - left) row) (left - 1) (polynomial h (D + 1) p) g))
-    (ho : out ≡ laidOver d at (rowsBefore (take (k - left) row) (left - 1) (polynomial h (D + 1) p) g)) where
+    (ho : out ≡ laid d at (rowsBefore (take (k - left) row) (left - 1) (polynomial h (D + 1) p) g)) where
   -- the polynomial
   abbrev M : List (List ℕ)
   M = polynomial h (D + 1) p
@@ -182,7 +183,7 @@ module _ (k left D h : ℕ) (row p : List ℕ) (d : List ℕ) (at : ℕ) (out : 
   -- a symbol that begins no root
   pub tried-none : begins sixteen g (polynomial h (D + 1) p) ≡ false
       → (end ≡ at + length (rowsBefore (take (k - left) row) (left - 1) (polynomial h (D + 1) p) (g + 1)))
-      × (out ≡ laidOver d at (rowsBefore (take (k - left) row) (left - 1) (polynomial h (D + 1) p) (g + 1)))
+      × (out ≡ laid d at (rowsBefore (take (k - left) row) (left - 1) (polynomial h (D + 1) p) (g + 1)))
   tried-none b =
       let f : rowsOf prefix (left - 1) M g ≡ [] =
       ap (λ (b : Bool). rowsAfter prefix (cond b (map (λ (f : List ℕ). g ∷ f) (search sixteen (left - 1) (next sixteen g M))) [])) b ∙ rows-none prefix in
@@ -214,13 +215,13 @@ module _ (k left D h : ℕ) (row p : List ℕ) (d : List ℕ) (at : ℕ) (out : 
         ∙ ap₂ rowsAfter (sym longer) (sym (search-handed sixteen sixteen-field h D h0 g hg p (q .0) r sp (q .1) sr (q .2) (q .3) (left - 1) u))
 
     -- all symbols have room
-    all-room : at + length (rowsBefore prefix (left - 1) M 16) ≤ length d
+    all-room : at + length (rowsBefore prefix (left - 1) M (sixteen .symbols)) ≤ length d
     all-room = subst (λ (l : List ℕ). at + length l ≤ length d) (rows-all prefix left M pos) room
 
     -- they have room
     pub handed-room : end + length (rowsAfter (take (k - (left - 1)) (set row (k - left) g)) (search sixteen (left - 1) (polynomial h (D + 1) r))) ≤ length d
     handed-room =
-        let a = joined-room (rowsOf prefix (left - 1) M) 16 g hg in
+        let a = joined-room (rowsOf prefix (left - 1) M) (sixteen .symbols) g hg in
         let c = ap length handed-rows in
         let f = all-room in
         omega arith
@@ -228,17 +229,17 @@ module _ (k left D h : ℕ) (row p : List ℕ) (d : List ℕ) (at : ℕ) (out : 
     -- and are written behind those before
     pub tried-some : (e : ℕ) (o : List ℕ)
         → e ≡ end + length (rowsAfter (take (k - (left - 1)) (set row (k - left) g)) (search sixteen (left - 1) (polynomial h (D + 1) r)))
-        → o ≡ laidOver out end (rowsAfter (take (k - (left - 1)) (set row (k - left) g)) (search sixteen (left - 1) (polynomial h (D + 1) r)))
+        → o ≡ laid out end (rowsAfter (take (k - (left - 1)) (set row (k - left) g)) (search sixteen (left - 1) (polynomial h (D + 1) r)))
         → (e ≡ at + length (rowsBefore (take (k - left) row) (left - 1) (polynomial h (D + 1) p) (g + 1)))
-        × (o ≡ laidOver d at (rowsBefore (take (k - left) row) (left - 1) (polynomial h (D + 1) p) (g + 1)))
+        × (o ≡ laid d at (rowsBefore (take (k - left) row) (left - 1) (polynomial h (D + 1) p) (g + 1)))
     tried-some e o ee eo =
         let f : rowsBefore prefix (left - 1) M (g + 1) ≡ rowsBefore prefix (left - 1) M g ++ rows =
         before-more prefix (left - 1) M g ∙ ap (λ (l : List ℕ). rowsBefore prefix (left - 1) M g ++ l) handed-rows in
         let n : length (rowsBefore prefix (left - 1) M (g + 1)) ≡ length (rowsBefore prefix (left - 1) M g) + length rows =
         ap length f ∙ length-append (rowsBefore prefix (left - 1) M g) rows in
-        let a = joined-room (rowsOf prefix (left - 1) M) 16 g hg in
+        let a = joined-room (rowsOf prefix (left - 1) M) (sixteen .symbols) g hg in
         let w = all-room in (
           omega arith,
-          eo ∙ ap₂ (λ (x : List ℕ) (y : ℕ). laidOver x y rows) ho he ∙ over-more d at (rowsBefore prefix (left - 1) M g) rows (omega arith)
-              ∙ ap (laidOver d at) (sym f),
+          eo ∙ ap (λ (x : List ℕ). laid x end rows) ho ∙ laid-behind d at (rowsBefore prefix (left - 1) M g) rows end (omega arith) he
+              ∙ ap (laid d at) (sym f),
         )

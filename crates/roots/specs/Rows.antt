@@ -1,8 +1,7 @@
--- What the search promises: the rows below a prefix, laid over the lent memory.
+-- What the search promises: the rows below a prefix.
 -- Assumes nothing.
 use mathlib.Core.List.{List, _++_, flatMap}
 use Prim.Native.Nat.{ℕ, _+_}
-use lib.ListN.{length, take, drop}
 use Rattle.definitions.specs.Field.{sixteen}
 use Rattle.search.specs.Tree.{Under}
 use Rattle.substitution.specs.Array.{polynomial}
@@ -14,7 +13,3 @@ DegreeWithin v D h l = Under sixteen v D (polynomial h (D + 1) l)
 -- rows after a prefix, one after the other
 abbrev pub rowsAfter : List ℕ → List (List ℕ) → List ℕ
 rowsAfter prefix rows = flatMap (λ (f : List ℕ). prefix ++ f) rows
-
--- d with the list l laid over it from place `at` on
-abbrev pub laidOver : List ℕ → ℕ → List ℕ → List ℕ
-laidOver d at l = take at d ++ l ++ drop (at + length l) d

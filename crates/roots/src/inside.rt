@@ -3,18 +3,22 @@ ghost use mathlib.Core.Bool.{false};
 ghost use mathlib.Core.Path.{_≡_};
 ghost use Prim.Native.Nat.{_+_, _-_, _*_, _/_, _≤_, _<_};
 ghost use lib.ListN.{length, take, drop};
-ghost use lib.Seq.{paste};
 ghost use Rattle.definitions.specs.Answers.{rowsOnto};
 ghost use Rattle.definitions.specs.Bound.{count};
 ghost use Rattle.definitions.specs.Code.{Symbols};
 ghost use Rattle.definitions.specs.Field.{numbers, sixteen};
+ghost use Rattle.definitions.specs.Limits.{greatestCount};
 ghost use Rattle.definitions.specs.Polynomial.{monomialsOf, monomials, isZero};
 ghost use Rattle.definitions.specs.Roots.{rootsOf};
 ghost use Rattle.field.specs.Table.{Products};
 ghost use Rattle.search.specs.Columns.{loaded};
 ghost use Rattle.search.specs.Tree.{zeros, search};
-ghost use Rattle.substitution.specs.Array.{polynomial};
-ghost use Rattle.roots.specs.Rows.{DegreeWithin, rowsAfter, laidOver};
+ghost use Rattle.substitution.specs.Array.{places, height, polynomial};
+ghost use Rattle.memory.specs.Laid.{laid};
+ghost use Rattle.roots.specs.Rows.{DegreeWithin, rowsAfter};
+use refusals::limits::GREATEST_SYMBOL;
+use refusals::limits::POSITIONS;
+use substitution::PLACES;
 
 pub fn all_zero(list: &[u8]) -> bool
     ensures { λ r. ⌜ r ≡ isZero (now (list .entry)) ⌝ }
@@ -43,12 +47,12 @@ fn load_degree(p: &mut [u8], coefficients: &[u8], j: usize, d: usize, v: usize, 
 }
 
 // The coefficients of a polynomial with degree limit `degree`, each to its place.
-fn load(coefficients: &[u8], degree: usize, v: usize) -> [u8; 512]
-    requires { ⌜ (0 < v) × ((degree + 1) * (degree / v + 1) ≤ 512) ⌝ }
+fn load(coefficients: &[u8], degree: usize, v: usize) -> [u8; PLACES]
+    requires { ⌜ (0 < v) × ((degree + 1) * (degree / v + 1) ≤ places) ⌝ }
     requires { ⌜ length (now coefficients) ≡ count v degree ⌝ }
-    ensures { λ r. ⌜ r ≡ loaded (numbers sixteen) (degree / v + 1) (now (coefficients .entry)) (monomials v degree) (zeros 512) ⌝ }
+    ensures { λ r. ⌜ r ≡ loaded (numbers sixteen) (degree / v + 1) (now (coefficients .entry)) (monomials v degree) (zeros places) ⌝ }
 {
-    let mut p = [0u8; 512];
+    let mut p = [0u8; PLACES];
     let h = degree / v + 1;
     let mut j = 0;
     let mut d = 0;
@@ -60,24 +64,13 @@ fn load(coefficients: &[u8], degree: usize, v: usize) -> [u8; 512]
     p
 }
 
-fn write_row(out: &mut [u8], at: usize, row: [u8; 15], k: usize)
-    requires { ⌜ (k ≤ 15) × (at + k ≤ length (now out)) ⌝ }
-    ensures { λ _. ⌜ now (out .exit) ≡ paste (now (out .entry)) at row k ⌝ }
-{
-    let mut i = 0;
-    while i < k {
-        out[at + i] = row[i];
-        i += 1;
-    }
-}
-
 // Every way to go on from the prefix of k - left symbols in `row`: writes the rows from `at` on, and answers the place after them.
 fn search(
     table: &[u8; 256],
-    p: [u8; 512],
+    p: [u8; PLACES],
     degree: usize,
     h: usize,
-    row: [u8; 15],
+    row: [u8; POSITIONS],
     k: usize,
     left: usize,
     out: &mut [u8],
@@ -85,21 +78,21 @@ fn search(
 ) -> usize
     requires { ⌜ Products (now table) ⌝ }
     requires { ⌜ Symbols sixteen p ⌝ }
-    requires { ⌜ (0 < h) × (h ≤ 32) × ((degree + 1) * h ≤ 512) × (left ≤ k) × (k ≤ 15) ⌝ }
+    requires { ⌜ (0 < h) × (h ≤ height) × ((degree + 1) * h ≤ places) × (left ≤ k) × (k ≤ sixteen .positions) ⌝ }
     requires { ⌜ DegreeWithin (left - 1) degree h p × (at + length (rowsAfter (take (k - left) row) (search sixteen left (polynomial h (degree + 1) p))) ≤ length (now out)) ⌝ }
     ensures { λ r. ⌜ r ≡ at + length (rowsAfter (take (k - left) row) (search sixteen left (polynomial h (degree + 1) p))) ⌝ }
-    ensures { λ _. ⌜ now (out .exit) ≡ laidOver (now (out .entry)) at (rowsAfter (take (k - left) row) (search sixteen left (polynomial h (degree + 1) p))) ⌝ }
+    ensures { λ _. ⌜ now (out .exit) ≡ laid (now (out .entry)) at (rowsAfter (take (k - left) row) (search sixteen left (polynomial h (degree + 1) p))) ⌝ }
 {
     if left == 0 {
         if substitution::inside::constants_zero(&p, h, degree + 1) {
-            write_row(out, at, row, k);
+            memory::put(out, at, &row[..k]);
             return at + k;
         }
         return at;
     }
     let mut end = at;
     let mut g = 0u8;
-    while g < 16 {
+    while g <= GREATEST_SYMBOL {
         if substitution::inside::first_value(table, &p, h, g) == 0 {
             let mut next = row;
             next[k - left] = g;
@@ -113,7 +106,7 @@ fn search(
 
 // The rows of all y-roots, to the front of out; answers how many there are.
 pub fn roots_into(degree: usize, k: usize, coefficients: &[u8], out: &mut [u8]) -> usize
-    requires { ⌜ (2 ≤ k) × (k ≤ 15) × (count (k - 1) degree ≤ 256) ⌝ }
+    requires { ⌜ (2 ≤ k) × (k ≤ sixteen .positions) × (count (k - 1) degree ≤ greatestCount) ⌝ }
     requires { ⌜ (length (now coefficients) ≡ count (k - 1) degree) × (k * (degree / (k - 1)) ≤ length (now out)) ⌝ }
     requires { ⌜ Symbols sixteen (now coefficients) ⌝ }
     requires { ⌜ isZero (now coefficients) ≡ false ⌝ }
@@ -124,6 +117,6 @@ pub fn roots_into(degree: usize, k: usize, coefficients: &[u8], out: &mut [u8]) 
     let h = degree / (k - 1) + 1;
     let loaded = load(coefficients, degree, k - 1);
     let p = substitution::inside::freed(&loaded, h, degree + 1);
-    let row = [0u8; 15];
+    let row = [0u8; POSITIONS];
     search(&table, p, degree, h, row, k, k, out, 0) / k
 }

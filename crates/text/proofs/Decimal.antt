@@ -9,6 +9,7 @@ use native.Mathlib.Nat.{pow-suc}
 use borrow.Author.Tests.{lt-ltb, le-ltb}
 use Rattle.io.specs.Digits.{glyph, digits, Fewest}
 use lib.ListN.{length, take}
+use Rattle.text.specs.Rooms.{greatestDigits}
 use Rattle.text.specs.Text.{decimalWithin, decimal, Puts}
 
 -- the clauses of the decimal text
@@ -73,19 +74,19 @@ decimal-is x (suc (suc k)) f =
     within (suc k) (suc x) x (f .1) (λ _. least) (omega arith)
 
 -- no machine number has more than twenty digits
-pub twenty : (x k : ℕ) → Fewest 10 1 x k → x < 18446744073709551616 → k ≤ 20
+pub twenty : (x k : ℕ) → Fewest 10 1 x k → x < 18446744073709551616 → k ≤ greatestDigits
 twenty x zero f h = omega arith
 twenty x (suc zero) f h = omega arith
 twenty x (suc (suc k)) f h =
     let least : 10 ^ suc k ≤ x = least-is x k f in
-    let few : suc k < 20 = fewer 20 (suc k) x (omega arith) least in
+    let few : suc k < greatestDigits = fewer greatestDigits (suc k) x (omega arith) least in
     omega arith
 
 -- the digits that were found, put in memory
 pub decimal-put : (out after text : List ℕ) (at x y k end : ℕ) → y ≡ x → y < 18446744073709551616 → Fewest 10 1 y k → take k text ≡ digits 10 k y
-    → k ≡ length (take k text) → Puts out at (take k text) end after → Puts out at (decimal x) end after × (end ≤ at + 20)
+    → k ≡ length (take k text) → Puts out at (take k text) end after → Puts out at (decimal x) end after × (end ≤ at + greatestDigits)
 decimal-put out after text at x y k end e h f d size p =
     let words : take k text ≡ decimal x = d ∙ decimal-is y k f ∙ ap decimal e in
-    let few : k ≤ 20 = twenty y k f h in
+    let few : k ≤ greatestDigits = twenty y k f h in
     let last : end ≡ at + length (take k text) = p .0 in
     (subst (λ (w : List ℕ). Puts out at w end after) words p, omega arith)

@@ -1,66 +1,40 @@
 -- Texts that are put one behind the other.
 -- Assumes nothing.
 use mathlib.Core.Bool.{Bool, cond}
-use mathlib.Core.List.{List, [], _∷_, _++_, map, append-assoc}
+use mathlib.Core.List.{List, [], _++_, map}
 use mathlib.Core.Path.{_≡_, refl, sym, _∙_, ap, subst}
-use Prim.Native.Nat.{ℕ, zero, suc, _+_, _*_, _-_, _/_, _%_, _≤_, _<_}
+use Prim.Native.Nat.{ℕ, suc, _+_, _*_, _-_, _/_, _%_, _≤_, _<_}
 use native.Mathlib.Numerals.{add-one}
 use native.Mathlib.Omega.{arith}
 use borrow.Author.Tests.{eq-eqb, ne-eqb}
 use lib.ListN.{length, take, drop, getD, set, length-append, length-drop, length-map}
-use lib.Seq.{length-take-le, take-suc, drop-cons, set-at, append-snoc, take-length}
-use Rattle.definitions.proofs.Loops.{put-more, map-more, over-none, length-over, over-more}
-use Rattle.definitions.proofs.Tools.{below-zero, length-map-below}
-use Rattle.definitions.proofs.Weights.{map-take}
+use lib.Seq.{length-take-le, take-all}
+use Rattle.definitions.proofs.Loops.{map-more}
+use Rattle.definitions.proofs.Tools.{below-zero, length-map-below, map-at}
+use Rattle.definitions.specs.Field.{sixteen}
 use Rattle.definitions.specs.Tools.{below}
-use Rattle.text.specs.Text.{laid, Puts, numberAt, numbersOf, rowLine, lineOf, rowLines}
+use Rattle.memory.proofs.Laid.{length-laid, laid-none, laid-turned, laid-behind, laid-within}
+use Rattle.memory.specs.Laid.{laid}
+use Rattle.text.specs.Rooms.{rowRoom, longestRowRoom}
+use Rattle.text.specs.Text.{Puts, numberAt, numbersOf, hexDigit, rowLine, lineOf, rowLines}
 
--- the memory keeps its length
-length-laid : (out : List ℕ) (at : ℕ) (w : List ℕ) → at + length w ≤ length out → length (laid out at w) ≡ length out
-unfolding laid
-length-laid out at w h =
-    let front = length-over out at w (omega arith) in
-    let rest = length-drop (at + length w) out in
-    length-append (take at out ++ w) (drop (at + length w) out) ∙ omega arith
+-- words that are laid are put
+pub puts : (out after words : List ℕ) (at : ℕ) → at + length words ≤ length out → after ≡ laid out at words → Puts out at words (at + length words) after
+puts out after words at fits e = (refl, ap length e ∙ length-laid out at words fits, e)
 
--- nothing is put yet
-laid-none : (out : List ℕ) (at : ℕ) → out ≡ laid out at []
-unfolding laid
-laid-none out at = over-none out at
+-- a loop that puts the digit of one symbol after the other: a turn, and its end
+pub digit-turned : (out message now : List ℕ) (at j x : ℕ) → at + j < length out → j < length message → now ≡ laid out at (take j (map hexDigit message))
+    → x ≡ hexDigit (getD message j 0) → set now (at + j) x ≡ laid out at (take (j + 1) (map hexDigit message))
+digit-turned out message now at j x h l e ex =
+    let size : length (map hexDigit message) ≡ length message = length-map message hexDigit in
+    laid-turned out (map hexDigit message) now at j x h (omega arith) e (ex ∙ sym (map-at hexDigit message j 0 0 l))
 
--- one code more is put
-laid-more : (out : List ℕ) (at : ℕ) (w : List ℕ) (x : ℕ) → at + length w < length out → set (laid out at w) (at + length w) x ≡ laid out at (w ++ (x ∷ []))
-unfolding laid
-laid-more out at w x h =
-    let size : length (w ++ (x ∷ [])) ≡ length w + 1 = length-append w (x ∷ []) in
-    let end : at + length w + 1 ≡ at + length (w ++ (x ∷ [])) = omega arith in
-    put-more 0 (take at out ++ w) out (at + length w) x (length-over out at w (omega arith)) h
-    ∙ ap (λ (l : List ℕ). l ++ drop (at + length w + 1) out) (append-assoc (take at out) w (x ∷ []))
-    ∙ ap (λ (n : ℕ). take at out ++ (w ++ (x ∷ [])) ++ drop n out) end
-
--- words behind words
-laid-laid : (out : List ℕ) (at : ℕ) (u w : List ℕ) → at ≤ length out → laid (laid out at u) (at + length u) w ≡ laid out at (u ++ w)
-unfolding laid
-laid-laid out at u w h = over-more out at u w h
-
--- a loop that puts one code after the other: before it, a turn, and its end
-module _ (f : ℕ → ℕ) (out words : List ℕ) (at : ℕ) (fits : at + length words ≤ length out) where
-  pub begun : out ≡ laid out at (map f (take 0 words))
-  begun = laid-none out at
-
-  pub turned : (now : List ℕ) (j x : ℕ) → j < length words → now ≡ laid out at (map f (take j words)) → x ≡ f (getD words j 0)
-      → set now (at + j) x ≡ laid out at (map f (take (j + 1) words))
-  turned now j x h e ex =
-      let size : length (map f (take j words)) ≡ j = length-map (take j words) f ∙ length-take-le j words (omega arith) in
-      let more : map f (take (suc j) words) ≡ map f (take j words) ++ (f (getD words j 0) ∷ []) = map-take f words j h in
-      rw (e, ex, add-one, more) (ap (λ (n : ℕ). set (laid out at (map f (take j words))) (at + n) (f (getD words j 0))) (sym size)
-      ∙ laid-more out at (map f (take j words)) (f (getD words j 0)) (omega arith))
-
-  pub ended : (now : List ℕ) (j : ℕ) → j ≡ length words → now ≡ laid out at (map f (take j words)) → Puts out at (map f words) (at + length words) now
-  ended now j ej e =
-      let size : length (map f words) ≡ length words = length-map words f in
-      let whole : now ≡ laid out at (map f words) = e ∙ ap (λ (l : List ℕ). laid out at (map f l)) (ap (λ (n : ℕ). take n words) ej ∙ take-length words) in
-      (omega arith, ap length whole ∙ length-laid out at (map f words) (omega arith), whole)
+pub digits-put : (out message now : List ℕ) (at j : ℕ) → at + length message ≤ length out → j ≡ length message → now ≡ laid out at (take j (map hexDigit message))
+    → Puts out at (map hexDigit message) (at + length message) now
+digits-put out message now at j fits ej e =
+    let size : length (map hexDigit message) ≡ length message = length-map message hexDigit in
+    let all : take j (map hexDigit message) ≡ map hexDigit message = take-all j (map hexDigit message) (omega arith) in
+    subst (λ (n : ℕ). Puts out at (map hexDigit message) (at + n) now) size (puts out now (map hexDigit message) at (omega arith) (e ∙ ap (laid out at) all))
 
 -- words behind words, in the promises
 pub puts-more : (out middle after u w : List ℕ) (at end last : ℕ) → at ≤ length out → Puts out at u end middle → Puts middle end w last after
@@ -71,7 +45,7 @@ puts-more out middle after u w at end last h p q =
     let l : last ≡ end + length w = q .0 in (
       omega arith,
       q .1 ∙ p .1,
-      q .2 ∙ ap (λ (m : List ℕ). laid m end w) (p .2) ∙ ap (λ (n : ℕ). laid (laid out at u) n w) e ∙ laid-laid out at u w h,
+      q .2 ∙ ap (λ (m : List ℕ). laid m end w) (p .2) ∙ laid-behind out at u w end h e,
     )
 
 -- a loop that reads one number after the other: bytes that give none, a turn, and its end
@@ -116,9 +90,9 @@ module _ (k : ℕ) (rows scores : List ℕ) where
       subst (λ (w : List ℕ). Puts out at w last after) (sym e) (puts-more out middle after (rowLines k rows scores j) (lineOf k rows scores j) at end last h p q)
 
   -- a row is the part of the memory that was lent
-  pub row-put : (out after : List ℕ) (at j score end : ℕ) → k ≤ 15 → score ≡ getD scores j 0 → k * j + k ≤ length rows
+  pub row-put : (out after : List ℕ) (at j score end : ℕ) → k ≤ sixteen .positions → score ≡ getD scores j 0 → k * j + k ≤ length rows
       → Puts out at (rowLine score (take (k * j + k - k * j) (drop (k * j) rows))) end after
-      → end ≤ at + 36 + length (take (k * j + k - k * j) (drop (k * j) rows)) → Puts out at (lineOf k rows scores j) end after × (end ≤ at + 51)
+      → end ≤ at + rowRoom (length (take (k * j + k - k * j) (drop (k * j) rows))) → Puts out at (lineOf k rows scores j) end after × (end ≤ at + longestRowRoom)
   row-put out after at j score end hk es h p l =
       let size : k * j + k - k * j ≡ k = omega arith in
       let rest = length-drop (k * j) rows in
@@ -129,13 +103,6 @@ module _ (k : ℕ) (rows scores : List ℕ) where
       (subst (λ (w : List ℕ). Puts out at w end after) same p, omega arith)
 
 -- what is put ends within the memory
-laid-within : (out : List ℕ) (at : ℕ) (w : List ℕ) → at ≤ length out → at + length w ≤ length (laid out at w)
-unfolding laid
-laid-within out at w h =
-    let front = length-over out at w h in
-    let size = length-append (take at out ++ w) (drop (at + length w) out) in
-    omega arith
-
 pub puts-within : (out after w : List ℕ) (at end : ℕ) → at ≤ length out → Puts out at w end after → (end ≤ length after) × (end ≡ length (take end after))
 puts-within out after w at end h p =
     let e : end ≡ at + length w = p .0 in

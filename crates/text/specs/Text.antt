@@ -7,6 +7,7 @@ use Prim.Native.Nat.{ℕ, zero, suc, _+_, _*_, _/_, _%_}
 use lib.Dec.{eqb, ltb}
 use lib.ListN.{length, take, drop, getD}
 use Rattle.definitions.specs.Tools.{below}
+use Rattle.memory.specs.Laid.{laid}
 
 -- "numbers, low byte first": number i is at bytes 2i and 2i + 1
 abbrev pub numberAt : List ℕ → ℕ → ℕ
@@ -67,10 +68,6 @@ rowLines k rows scores (suc j) = rowLines k rows scores j ++ lineOf k rows score
 -- "or `refused R at P`"
 abbrev pub refusedLine : ℕ → ℕ → List ℕ
 refusedLine number place = refusedWord ++ decimal number ++ atWord ++ decimal place ++ lineFeed
-
--- words put in place of what lies from a place on
-unfoldable pub laid : List ℕ → ℕ → List ℕ → List ℕ
-laid out at words = take at out ++ words ++ drop (at + length words) out
 
 -- words were put at a place: where they end, and the memory after it
 abbrev pub Puts : List ℕ → ℕ → List ℕ → ℕ → List ℕ → Type 0

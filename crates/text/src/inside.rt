@@ -3,7 +3,17 @@ ghost use mathlib.Core.List.{_++_, map};
 ghost use mathlib.Core.Path.{_≡_};
 ghost use Prim.Native.Nat.{_+_, _*_, _≤_, _<_};
 ghost use lib.ListN.{length, drop};
+ghost use Rattle.definitions.specs.Field.{sixteen};
+ghost use Rattle.definitions.specs.Limits.{greatestRows};
+ghost use Rattle.text.specs.Rooms.{greatestDigits, listedRoom, refusedRoom, rowRoom, longestRowRoom, rowsRoom};
 ghost use Rattle.text.specs.Text.{numbersOf, hexDigit, decimal, listedLine, rowLine, refusedLine, lineOf, rowLines, Puts};
+use crate::rooms::AT_WORD;
+use crate::rooms::GREATEST_DIGITS;
+use crate::rooms::LINE_FEED;
+use crate::rooms::LISTED_WORD;
+use crate::rooms::MESSAGE_WORD;
+use crate::rooms::REFUSED_WORD;
+use crate::rooms::SCORE_WORD;
 
 const BASE: u8 = 16;
 
@@ -35,15 +45,11 @@ pub fn numbers(bytes: &[u8], out: &mut [u16]) -> usize
     count
 }
 
-pub fn put(out: &mut [u8], at: usize, words: &[u8]) -> usize
+fn put(out: &mut [u8], at: usize, words: &[u8]) -> usize
     requires { ⌜ at + length (now words) ≤ length (now out) ⌝ }
     ensures { λ r. ⌜ Puts (now (out .entry)) at (now (words .entry)) r (now (out .exit)) ⌝ }
 {
-    let mut j = 0;
-    while j < words.len() {
-        out[at + j] = words[j];
-        j += 1;
-    }
+    memory::put(out, at, words);
     at + words.len()
 }
 
@@ -54,11 +60,11 @@ fn wide(x: usize) -> u64
 }
 
 fn put_decimal(out: &mut [u8], at: usize, x: usize) -> usize
-    requires { ⌜ at + 20 ≤ length (now out) ⌝ }
+    requires { ⌜ at + greatestDigits ≤ length (now out) ⌝ }
     ensures { λ r. ⌜ Puts (now (out .entry)) at (decimal x) r (now (out .exit)) ⌝ }
-    ensures { λ r. ⌜ r ≤ at + 20 ⌝ }
+    ensures { λ r. ⌜ r ≤ at + greatestDigits ⌝ }
 {
-    let mut digits = [0u8; 20];
+    let mut digits = [0u8; GREATEST_DIGITS];
     let count = io::decimal(wide(x), &mut digits);
     put(out, at, &digits[..count])
 }
@@ -87,38 +93,38 @@ fn put_digits(out: &mut [u8], at: usize, message: &[u8]) -> usize
 
 // The line that says how many rows are listed.
 pub fn put_listed(out: &mut [u8], at: usize, count: usize) -> usize
-    requires { ⌜ at + 28 ≤ length (now out) ⌝ }
+    requires { ⌜ at + listedRoom ≤ length (now out) ⌝ }
     ensures { λ r. ⌜ Puts (now (out .entry)) at (listedLine count) r (now (out .exit)) ⌝ }
-    ensures { λ r. ⌜ r ≤ at + 28 ⌝ }
+    ensures { λ r. ⌜ r ≤ at + listedRoom ⌝ }
 {
-    let named = put(out, at, b"listed ");
+    let named = put(out, at, &LISTED_WORD);
     let counted = put_decimal(out, named, count);
-    put(out, counted, b"\n")
+    put(out, counted, &LINE_FEED)
 }
 
 // The line of a refusal.
 pub fn put_refused(out: &mut [u8], at: usize, number: usize, place: usize) -> usize
-    requires { ⌜ at + 53 ≤ length (now out) ⌝ }
+    requires { ⌜ at + refusedRoom ≤ length (now out) ⌝ }
     ensures { λ r. ⌜ Puts (now (out .entry)) at (refusedLine number place) r (now (out .exit)) ⌝ }
 {
-    let named = put(out, at, b"refused ");
+    let named = put(out, at, &REFUSED_WORD);
     let numbered = put_decimal(out, named, number);
-    let joined = put(out, numbered, b" at ");
+    let joined = put(out, numbered, &AT_WORD);
     let placed = put_decimal(out, joined, place);
-    put(out, placed, b"\n")
+    put(out, placed, &LINE_FEED)
 }
 
 // The line of a row.
 pub fn put_row(out: &mut [u8], at: usize, score: usize, message: &[u8]) -> usize
-    requires { ⌜ at + 36 + length (now message) ≤ length (now out) ⌝ }
+    requires { ⌜ at + rowRoom (length (now message)) ≤ length (now out) ⌝ }
     ensures { λ r. ⌜ Puts (now (out .entry)) at (rowLine score (now (message .entry))) r (now (out .exit)) ⌝ }
-    ensures { λ r. ⌜ r ≤ at + 36 + length (now (message .entry)) ⌝ }
+    ensures { λ r. ⌜ r ≤ at + rowRoom (length (now (message .entry))) ⌝ }
 {
-    let named = put(out, at, b"score ");
+    let named = put(out, at, &SCORE_WORD);
     let scored = put_decimal(out, named, score);
-    let joined = put(out, scored, b" message ");
+    let joined = put(out, scored, &MESSAGE_WORD);
     let written = put_digits(out, joined, message);
-    put(out, written, b"\n")
+    put(out, written, &LINE_FEED)
 }
 
 fn full(score: u16) -> usize
@@ -129,9 +135,9 @@ fn full(score: u16) -> usize
 
 // The line of row j of k symbols.
 fn put_row_of(out: &mut [u8], at: usize, k: usize, j: usize, rows: &[u8], scores: &[u16]) -> usize
-    requires { ⌜ (k ≤ 15) × (j < 16) × (k * j + k ≤ length (now rows)) × (j < length (now scores)) × (at + 51 ≤ length (now out)) ⌝ }
+    requires { ⌜ (k ≤ sixteen .positions) × (j < greatestRows) × (k * j + k ≤ length (now rows)) × (j < length (now scores)) × (at + longestRowRoom ≤ length (now out)) ⌝ }
     ensures { λ r. ⌜ Puts (now (out .entry)) at (lineOf k (now (rows .entry)) (now (scores .entry)) j) r (now (out .exit)) ⌝ }
-    ensures { λ r. ⌜ r ≤ at + 51 ⌝ }
+    ensures { λ r. ⌜ r ≤ at + longestRowRoom ⌝ }
 {
     let from = k * j;
     let to = from + k;
@@ -148,7 +154,7 @@ pub fn put_rows(
     rows: &[u8],
     scores: &[u16],
 ) -> usize
-    requires { ⌜ (k ≤ 15) × (count ≤ 16) × (k * count ≤ length (now rows)) × (count ≤ length (now scores)) × (at + 816 ≤ length (now out)) ⌝ }
+    requires { ⌜ (k ≤ sixteen .positions) × (count ≤ greatestRows) × (k * count ≤ length (now rows)) × (count ≤ length (now scores)) × (at + rowsRoom ≤ length (now out)) ⌝ }
     ensures { λ r. ⌜ Puts (now (out .entry)) at (rowLines k (now (rows .entry)) (now (scores .entry)) count) r (now (out .exit)) ⌝ }
 {
     let mut end = at;

@@ -1,10 +1,12 @@
 use mathlib.Core.List.{List}
-use mathlib.Core.Path.{_≡_, subst}
+use mathlib.Core.Path.{subst}
 use Prim.Native.Nat.{ℕ}
 use lib.ListN.{replicate, length-replicate}
 use native.Mathlib.Omega.{arith}
 use Rattle.refusals.specs.Counted.{toldCounted}
 use Rattle.reader.proofs.Laws.{holds, text-is}
+use Rattle.definitions.specs.Limits.{greatestRows}
+use Rattle.reader.specs.Program.{symbolsOfRows}
 use Rattle.text.specs.Text.{Puts}
 use borrow.Author.Needs.{needs}
 use Rattle.reader.proofs.answer.Statement.{statement}
@@ -29,7 +31,7 @@ put-answer-requires : tie.Need-put-answer-requires
 put-answer-requires c κs =
     let s = c .before .before .before .before .before .before .before .before .before .before in
     let l = c .before .before .before .before .before .list-of-reliabilities in
-    let held = holds (s .args .n) (s .args .k) (s .args .level) (s .args .limit) (s .args .reliabilities .now) (replicate 240 0) (replicate 16 0) (toldCounted (l .result))
+    let held = holds (s .args .n) (s .args .k) (s .args .level) (s .args .limit) (s .args .reliabilities .now) (replicate symbolsOfRows 0) (replicate greatestRows 0) (toldCounted (l .result))
     (l .last .1 .1 .1 .1 .1 .0) (l .last .1 .1 .1 .1 .1 .1 .0) (l .ensures .0) (l .ensures .1 .0) (l .ensures .1 .1 .0) (l .ensures .1 .1 .1) in
     (held, omega arith)
 
@@ -41,8 +43,8 @@ returns c =
     let s = c .before .before .before .before .before .before .before .before .before .before .before .before .before in
     let l = c .before .before .before .before .before .before .before .before .list-of-reliabilities in
     let p = c .before .before .put-answer in
-    let e = text-is (s .args .n) (s .args .k) (s .args .level) (s .args .limit) (s .args .reliabilities .now) (replicate 240 0) (replicate 16 0) (toldCounted (l .result))
-    (l .last .1 .1 .1 .1 .1 .0) (l .last .1 .1 .1 .1 .1 .1 .0) (l .ensures .0) (l .ensures .1 .0) (l .ensures .1 .1 .0) (length-replicate {A = ℕ} 240 0) (length-replicate {A = ℕ} 16 0) in
+    let e = text-is (s .args .n) (s .args .k) (s .args .level) (s .args .limit) (s .args .reliabilities .now) (replicate symbolsOfRows 0) (replicate greatestRows 0) (toldCounted (l .result))
+    (l .last .1 .1 .1 .1 .1 .0) (l .last .1 .1 .1 .1 .1 .1 .0) (l .ensures .0) (l .ensures .1 .0) (l .ensures .1 .1 .0) (length-replicate {A = ℕ} symbolsOfRows 0) (length-replicate {A = ℕ} greatestRows 0) in
     subst (λ (w : List ℕ). Puts (s .args .out .now) 0 w (p .result) (p .last .0)) e (p .ensures)
 
 pub answer-spec : {M : Type 1} → statement M

@@ -1,8 +1,10 @@
 use mathlib.Core.List.{List}
-use mathlib.Core.Path.{_≡_, sym, _∙_, ap, subst}
+use mathlib.Core.Path.{sym, _∙_, ap, subst}
 use Prim.Native.Nat.{ℕ, _-_}
 use lib.ListN.{length, take, drop, replicate}
 use Rattle.reader.proofs.Laws.{no-header, header, in-front, front-within, bytes-are}
+use Rattle.reader.specs.Program.{headerBytes}
+use Rattle.reader.specs.Rooms.{numbersRead}
 use Rattle.text.specs.Text.{numbersOf, Puts}
 use borrow.Author.Needs.{needs}
 use Rattle.reader.proofs.answer_to.Statement.{statement}
@@ -63,16 +65,16 @@ array-share-prefix-numbers : tie.Need-array-share-prefix-numbers
 array-share-prefix-numbers c =
     let input = c .before .before .before .before .before .before .before .before .before .before .before .before .before .before .before .args .input .now in
     let d = c .before .numbers2 in
-    let words = numbersOf (take (length input - 4) (drop 4 input)) in
-    let rest : List ℕ = drop (length words) (replicate 241 0) in
+    let words = numbersOf (take (length input - headerBytes) (drop headerBytes input)) in
+    let rest : List ℕ = drop (length words) (replicate numbersRead 0) in
     front-within words rest (d .last .1 .0) (d .result) (d .ensures .0) (d .ensures .1)
 
 slice-aggregate-answer : tie.Need-slice-aggregate-answer
 slice-aggregate-answer c =
     let input = c .before .before .before .before .before .before .before .before .before .before .before .before .before .before .before .before .args .input .now in
     let d = c .before .before .numbers2 in
-    let words = numbersOf (take (length input - 4) (drop 4 input)) in
-    let rest : List ℕ = drop (length words) (replicate 241 0) in
+    let words = numbersOf (take (length input - headerBytes) (drop headerBytes input)) in
+    let rest : List ℕ = drop (length words) (replicate numbersRead 0) in
     d .ensures .0 ∙ sym (ap length (in-front words rest (d .last .1 .0) (d .result) (d .ensures .0) (d .ensures .1)))
 
 answer-requires : tie.Need-answer-requires
@@ -85,8 +87,8 @@ returns-2 : tie.Need-returns-2
 returns-2 c =
     let input = c .before .before .before .before .before .before .before .before .before .before .before .before .before .before .before .before .before .before .before .before .args .input .now in
     let d = c .before .before .before .before .before .before .numbers2 in
-    let words = numbersOf (take (length input - 4) (drop 4 input)) in
-    let rest : List ℕ = drop (length words) (replicate 241 0) in
+    let words = numbersOf (take (length input - headerBytes) (drop headerBytes input)) in
+    let rest : List ℕ = drop (length words) (replicate numbersRead 0) in
     let s = c .before .before .before .before .before .before .before .before .before .before .before .before .before .before .before .before .before .before .before .before in
     let p = c .before .before .answer in
     let read = in-front words rest (d .last .1 .0) (d .result) (d .ensures .0) (d .ensures .1) ∙ ap numbersOf (bytes-are input) in

@@ -2,7 +2,7 @@ use mathlib.Core.List.{List}
 use Prim.Native.Nat.{ℕ}
 use Rattle.reader.proofs.Laws.{refusal-text}
 use Rattle.text.specs.Text.{Puts}
-use mathlib.Core.Path.{_≡_, refl, sym, _∙_, ap, ap₂, subst}
+use mathlib.Core.Path.{refl, subst}
 use native.Mathlib.Omega.{arith}
 use borrow.Author.Needs.{needs}
 use Rattle.reader.proofs.put_answer.Statement.{statement}
@@ -21,11 +21,11 @@ put-list-requires c κs =
 enum-known-answer-2 : tie.Need-enum-known-answer-2
 enum-known-answer-2 c = search needs
 
-number-of-requires : tie.Need-number-of-requires
-number-of-requires c κs = search needs
+number-requires : tie.Need-number-requires
+number-requires c κs = search needs
 
-place-of-requires : tie.Need-place-of-requires
-place-of-requires c κs = search needs
+place-requires : tie.Need-place-requires
+place-requires c κs = search needs
 
 put-refused-requires : tie.Need-put-refused-requires
 put-refused-requires c κs = search needs
@@ -49,8 +49,8 @@ returns-2 c =
     rw (c .before .before .before .before .before .before .before .answer2 .given .1)
     (subst (λ (w : List ℕ). Puts (s .args .out .now) 0 w (p .result) (p .last .0))
     (refusal-text (s .args .k) (s .args .rows .now) (s .args .scores .now) (c .before .before .before .before .before .before .before .answer2 .given .0 .0)
-    (c .before .before .before .before .number-of .result) (c .before .before .before .place-of .result) (c .before .before .before .before .number-of .ensures)
-    (c .before .before .before .place-of .ensures))
+    (c .before .before .before .before .number .result) (c .before .before .before .place .result) (c .before .before .before .before .number .ensures .0)
+    (c .before .before .before .place .ensures))
     (p .ensures))
 
 pub put-answer-spec : {M : Type 1} → statement M
@@ -60,8 +60,8 @@ put-answer-spec =
     enum-known-answer
     put-list-requires
     enum-known-answer-2
-    number-of-requires
-    place-of-requires
+    number-requires
+    place-requires
     put-refused-requires
     same-length
     returns

@@ -6,6 +6,7 @@ use lib.Seq.{length-take-le}
 use native.Mathlib.Omega.{arith}
 use Rattle.reader.proofs.Laws.{beginning}
 use Rattle.reader.specs.Program.{output}
+use Rattle.reader.specs.Rooms.{longest}
 use Rattle.text.proofs.Laws.{puts-within}
 use Rattle.text.specs.Text.{Puts}
 use borrow.Author.Needs.{needs}
@@ -13,11 +14,11 @@ use Rattle.reader.proofs.read.Statement.{statement}
 use Rattle.reader.proofs.read.Tie as tie
 
 slice-aggregate-answer-to : tie.Need-slice-aggregate-answer-to
-slice-aggregate-answer-to c = sym (length-take-le 486 (c .before .before .before .before .args .input .now) (omega arith))
+slice-aggregate-answer-to c = sym (length-take-le longest (c .before .before .before .before .args .input .now) (omega arith))
 
 answer-to-requires : tie.Need-answer-to-requires
 answer-to-requires c κs =
-    let size : length (take 486 (c .before .before .before .before .before .args .input .now)) ≡ 486 = length-take-le 486 (c .before .before .before .before .before .args .input .now) (omega arith) in
+    let size : length (take longest (c .before .before .before .before .before .args .input .now)) ≡ longest = length-take-le longest (c .before .before .before .before .before .args .input .now) (omega arith) in
     omega arith
 
 same-length : tie.Need-same-length

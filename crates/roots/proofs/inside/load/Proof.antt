@@ -6,6 +6,7 @@ use lib.ListN.{length, take}
 use Rattle.definitions.specs.Field.{numbers, sixteen}
 use Rattle.search.specs.Columns.{loaded}
 use Rattle.search.specs.Tree.{zeros}
+use Rattle.substitution.specs.Array.{places}
 use Rattle.definitions.proofs.Monomials.{lower, none-lower, degree-grows}
 use Rattle.roots.proofs.Loading.{load-none, load-more, load-all, degree-within}
 use Rattle.roots.proofs.inside.load.Statement.{statement}
@@ -15,7 +16,7 @@ use Rattle.roots.proofs.inside.load.Lts as lts
 use Rattle.roots.proofs.inside.load_degree.Reads as load-degree-reads
 
 abbrev Inv-loop : tie.InvT-loop
-Inv-loop coefficients degree v p₀ h j₀ d₀ p j d = (d ≤ degree + 1) × (length p ≡ 512) × (j ≡ length (lower v d)) × (p ≡ loaded (numbers sixteen) h (take j coefficients) (lower v d) (zeros 512))
+Inv-loop coefficients degree v p₀ h j₀ d₀ p j d = (d ≤ degree + 1) × (length p ≡ places) × (j ≡ length (lower v d)) × (p ≡ loaded (numbers sixteen) h (take j coefficients) (lower v d) (zeros places))
 
 abbrev μ-loop : tie.MeasureT-loop
 μ-loop coefficients degree v p₀ h j₀ d₀ p j d = degree + 1 - d
@@ -30,7 +31,7 @@ loop-holds : tie.Need-loop-holds Inv-loop μ-loop
 unfolding zeros
 loop-holds c =
     let s = c .before in
-    (omega arith, refl, none-lower (s .args .v), load-none (s .args .v) (s .pre .0 .0) (s .args .degree) (s .args .coefficients .now) (s .pre .1) (s .args .degree / s .args .v + 1) (zeros 512))
+    (omega arith, refl, none-lower (s .args .v), load-none (s .args .v) (s .pre .0 .0) (s .args .degree) (s .args .coefficients .now) (s .pre .1) (s .args .degree / s .args .v + 1) (zeros places))
 
 slice-aggregate-load-degree : tie.Need-slice-aggregate-load-degree Inv-loop μ-loop
 slice-aggregate-load-degree c = omega arith
@@ -72,14 +73,14 @@ loop-again c =
     let l = c .before .before .before .before in
     let s = l .before .before in
     let r = c .before .load-degree in
-    let z = load-more (s .args .v) (s .pre .0 .0) (s .args .degree) (s .args .coefficients .now) (s .pre .1) (s .args .degree / s .args .v + 1) (zeros 512) (l .loop .d) (l .loop .j) (l .loop .p) (r .last .0) (omega arith) (l .loop .inv .2) (l .loop .inv .3) (r .ensures) in
+    let z = load-more (s .args .v) (s .pre .0 .0) (s .args .degree) (s .args .coefficients .now) (s .pre .1) (s .args .degree / s .args .v + 1) (zeros places) (l .loop .d) (l .loop .j) (l .loop .p) (r .last .0) (omega arith) (l .loop .inv .2) (l .loop .inv .3) (r .ensures) in
     (omega arith, omega arith, z .0, z .1)
 
 returns : tie.Need-returns Inv-loop μ-loop
 returns c =
     let l = c .before in
     let s = l .before .before in
-    load-all (s .args .v) (s .pre .0 .0) (s .args .degree) (s .args .coefficients .now) (s .pre .1) (s .args .degree / s .args .v + 1) (zeros 512) (l .loop .d) (l .loop .j) (l .loop .p) (omega arith) (l .loop .inv .2) (l .loop .inv .3)
+    load-all (s .args .v) (s .pre .0 .0) (s .args .degree) (s .args .coefficients .now) (s .pre .1) (s .args .degree / s .args .v + 1) (zeros places) (l .loop .d) (l .loop .j) (l .loop .p) (omega arith) (l .loop .inv .2) (l .loop .inv .3)
 
 pub load-spec : {M : Type 1} → statement M
 load-spec =

@@ -1,6 +1,7 @@
 use Prim.Native.Nat.{_+_, _-_, _/_}
 use native.Mathlib.Omega.{arith}
 use lib.ListN.{length}
+use Rattle.definitions.specs.Field.{sixteen}
 use Rattle.search.specs.Tree.{zeros}
 use Rattle.roots.proofs.Found.{array-fits, columns-low, loaded-length, loaded-are-symbols, within, room-enough, rows-counted, rows-written}
 use Rattle.roots.proofs.Rows.{columns-fit}
@@ -50,7 +51,7 @@ search-requires c κs =
     let l = c .before .before .before .before .load in
     let f = c .before .before .freed in
     let w = within (s .args .degree) (s .args .k) (s .args .coefficients .now) (s .pre .0 .0) (s .pre .0 .2) (s .pre .1 .0 .0) (s .pre .1 .1 .0) (l .result) (l .ensures) (f .result) (f .ensures .1) (f .ensures .0) in
-    let room = room-enough (s .args .degree) (s .args .k) (s .args .coefficients .now) (s .pre .0 .0) (s .pre .0 .2) (s .pre .1 .0 .0) (s .pre .1 .1 .0) (l .result) (l .ensures) (f .result) (f .ensures .1) (f .ensures .0) (zeros 15) (s .pre .1 .1 .1) (length (s .args .out .now)) (s .pre .1 .0 .1) in
+    let room = room-enough (s .args .degree) (s .args .k) (s .args .coefficients .now) (s .pre .0 .0) (s .pre .0 .2) (s .pre .1 .0 .0) (s .pre .1 .1 .0) (l .result) (l .ensures) (f .result) (f .ensures .1) (f .ensures .0) (zeros (sixteen .positions)) (s .pre .1 .1 .1) (length (s .args .out .now)) (s .pre .1 .0 .1) in
     (c .before .before .before .before .before .products .ensures, (f .ensures .1, ((omega arith, columns-low (s .args .degree) (s .args .k) (s .args .coefficients .now) (s .pre .0 .0) (s .pre .0 .2) (s .pre .1 .0 .0) (s .pre .1 .1 .0), array-fits (s .args .degree) (s .args .k) (s .args .coefficients .now) (s .pre .0 .0) (s .pre .0 .2) (s .pre .1 .0 .0) (s .pre .1 .1 .0), omega arith, s .pre .0 .1), (w, room))))
 
 div-result : tie.Need-div-result
@@ -66,8 +67,8 @@ returns c =
     let l = c .before .before .before .before .before .before .before .load in
     let f = c .before .before .before .before .before .freed in
     let r = c .before .before .search in (
-      rows-counted (s .args .degree) (s .args .k) (s .args .coefficients .now) (s .pre .0 .0) (s .pre .0 .2) (s .pre .1 .0 .0) (s .pre .1 .1 .0) (l .result) (l .ensures) (f .result) (f .ensures .1) (f .ensures .0) (zeros 15) (r .result) (r .ensures .0),
-      rows-written (s .args .degree) (s .args .k) (s .args .coefficients .now) (s .pre .0 .0) (s .pre .0 .2) (s .pre .1 .0 .0) (s .pre .1 .1 .0) (l .result) (l .ensures) (f .result) (f .ensures .1) (f .ensures .0) (zeros 15) (s .args .out .now) _ (r .ensures .1),
+      rows-counted (s .args .degree) (s .args .k) (s .args .coefficients .now) (s .pre .0 .0) (s .pre .0 .2) (s .pre .1 .0 .0) (s .pre .1 .1 .0) (l .result) (l .ensures) (f .result) (f .ensures .1) (f .ensures .0) (zeros (sixteen .positions)) (r .result) (r .ensures .0),
+      rows-written (s .args .degree) (s .args .k) (s .args .coefficients .now) (s .pre .0 .0) (s .pre .0 .2) (s .pre .1 .0 .0) (s .pre .1 .1 .0) (l .result) (l .ensures) (f .result) (f .ensures .1) (f .ensures .0) (zeros (sixteen .positions)) (s .args .out .now) _ (r .ensures .1),
     )
 
 pub roots-into-spec : {M : Type 1} → statement M

@@ -1,7 +1,7 @@
-use mathlib.Core.Path.{_≡_}
-use Prim.Native.Nat.{_+_, _≤_}
+use Prim.Native.Nat.{_≤_}
 use native.Mathlib.Omega.{arith}
 use Rattle.text.proofs.Decimal.{twenty, decimal-put}
+use Rattle.text.specs.Rooms.{greatestDigits}
 use borrow.Author.Needs.{needs}
 use Rattle.text.proofs.inside.put_decimal.Statement.{statement}
 use Rattle.text.proofs.inside.put_decimal.Tie as tie
@@ -22,7 +22,7 @@ put-requires : tie.Need-put-requires
 put-requires c κs =
     let d = c .before .before .decimal in
     let w = c .before .before .before .before .wide in
-    let few : d .result ≤ 20 = twenty (w .result) (d .result) (d .ensures .1 .0) (w .ensures .1) in
+    let few : d .result ≤ greatestDigits = twenty (w .result) (d .result) (d .ensures .1 .0) (w .ensures .1) in
     omega arith
 
 same-length : tie.Need-same-length

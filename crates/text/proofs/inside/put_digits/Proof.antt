@@ -1,21 +1,24 @@
-use mathlib.Core.Path.{_≡_, refl, sym, _∙_, ap}
-use Prim.Native.Nat.{ℕ, suc, _+_, _*_, _-_, _/_, _%_, _≤_, _<_}
-use mathlib.Core.List.{List, [], _∷_, _++_, map}
-use lib.ListN.{length, take, drop, getD, length-set}
+-- After j turns the digits of the first j symbols are laid, and each turn lays one more.
+use mathlib.Core.Path.{_≡_, refl, _∙_}
+use Prim.Native.Nat.{_+_, _-_, _≤_}
+use mathlib.Core.List.{map}
+use lib.ListN.{length, take, length-set}
 use native.Mathlib.Omega.{arith}
-use Rattle.text.proofs.Laws.{begun, turned, ended}
-use Rattle.text.specs.Text.{hexDigit, laid, Puts}
+use Rattle.memory.proofs.Laid.{laid-none}
+use Rattle.memory.specs.Laid.{laid}
+use Rattle.text.proofs.Laws.{digit-turned, digits-put}
+use Rattle.text.specs.Text.{hexDigit}
 use Rattle.text.proofs.inside.put_digits.Statement.{statement}
 use Rattle.text.proofs.inside.put_digits.Tie as tie
 
 abbrev Inv-loop : tie.InvT-loop
-Inv-loop out₀ at message j₀ out j = (j ≤ length message) × (length out ≡ length out₀) × (out ≡ laid out₀ at (map hexDigit (take j message)))
+Inv-loop out₀ at message j₀ out j = (j ≤ length message) × (length out ≡ length out₀) × (out ≡ laid out₀ at (take j (map hexDigit message)))
 
 abbrev μ-loop : tie.MeasureT-loop
 μ-loop out₀ at message j₀ out j = length message - j
 
 loop-holds : tie.Need-loop-holds Inv-loop μ-loop
-loop-holds c = (omega arith, refl, begun hexDigit (c .before .before .args .out .now) (c .before .before .args .message .now) (c .before .before .args .at) (omega arith))
+loop-holds c = (omega arith, refl, laid-none (c .before .before .args .out .now) (c .before .before .args .at))
 
 shared-slice-read-digit : tie.Need-shared-slice-read-digit Inv-loop μ-loop
 shared-slice-read-digit c = omega arith
@@ -38,12 +41,10 @@ loop-less c = omega arith
 loop-again : tie.Need-loop-again Inv-loop μ-loop
 loop-again c =
     let l = c .before .before .before in
-    let s = l .before .before .before in
-    let more : l .loop .j < length (s .args .message .now) = omega arith in
-    let fits : s .args .at + length (s .args .message .now) ≤ length (s .args .out .now) = omega arith in (
+    let s = l .before .before .before in (
       omega arith,
       length-set (l .loop .out) (s .args .at + l .loop .j) (c .digit .result) ∙ l .loop .inv .1,
-      turned hexDigit (s .args .out .now) (s .args .message .now) (s .args .at) fits (l .loop .out) (l .loop .j) (c .digit .result) more (l .loop .inv .2) (c .digit .ensures),
+      digit-turned (s .args .out .now) (s .args .message .now) (l .loop .out) (s .args .at) (l .loop .j) (c .digit .result) (omega arith) (omega arith) (l .loop .inv .2) (c .digit .ensures),
     )
 
 add-result : tie.Need-add-result Inv-loop μ-loop
@@ -57,8 +58,7 @@ returns c =
     let l = c .before in
     let s = l .before .before .before in
     let e : l .loop .j ≡ length (s .args .message .now) = omega arith in
-    let fits : s .args .at + length (s .args .message .now) ≤ length (s .args .out .now) = omega arith in
-    ended hexDigit (s .args .out .now) (s .args .message .now) (s .args .at) fits (l .loop .out) (l .loop .j) e (l .loop .inv .2)
+    digits-put (s .args .out .now) (s .args .message .now) (l .loop .out) (s .args .at) (l .loop .j) (omega arith) e (l .loop .inv .2)
 
 pub put-digits-spec : {M : Type 1} → statement M
 put-digits-spec =

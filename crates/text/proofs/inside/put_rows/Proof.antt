@@ -1,15 +1,16 @@
-use mathlib.Core.Path.{_≡_, refl, sym, _∙_, ap}
-use Prim.Native.Nat.{ℕ, _+_, _*_, _-_, _≤_, _<_}
+use mathlib.Core.Path.{_≡_}
+use Prim.Native.Nat.{_+_, _*_, _-_, _≤_}
 use lib.ListN.{length}
 use native.Mathlib.Omega.{arith}
 use Rattle.definitions.proofs.Loops.{row-within}
 use Rattle.text.proofs.Laws.{lines-begun, lines-more}
+use Rattle.text.specs.Rooms.{longestRowRoom}
 use Rattle.text.specs.Text.{rowLines, Puts}
 use Rattle.text.proofs.inside.put_rows.Statement.{statement}
 use Rattle.text.proofs.inside.put_rows.Tie as tie
 
 abbrev Inv-loop : tie.InvT-loop
-Inv-loop out₀ at k count rows scores end₀ j₀ out end j = (j ≤ count) × (end ≤ at + 51 * j) × Puts out₀ at (rowLines k rows scores j) end out
+Inv-loop out₀ at k count rows scores end₀ j₀ out end j = (j ≤ count) × (end ≤ at + longestRowRoom * j) × Puts out₀ at (rowLines k rows scores j) end out
 
 abbrev μ-loop : tie.MeasureT-loop
 μ-loop out₀ at k count rows scores end₀ j₀ out end j = count - j

@@ -1,0 +1,70 @@
+-- After j turns the first j bytes of the part are laid, and each turn lays one more.
+use mathlib.Core.Path.{_≡_, refl, _∙_, ap}
+use Prim.Native.Nat.{ℕ, _+_, _-_, _≤_}
+use mathlib.Core.List.{List}
+use lib.ListN.{length, take, getD, length-set}
+use lib.Seq.{take-length}
+use native.Mathlib.Omega.{arith}
+use Rattle.memory.proofs.Laid.{laid-none, laid-turned}
+use Rattle.memory.specs.Laid.{laid}
+use Rattle.memory.proofs.put.Statement.{statement}
+use Rattle.memory.proofs.put.Tie as tie
+
+abbrev Inv-loop : tie.InvT-loop
+Inv-loop out₀ at part j₀ out j = (j ≤ length part) × (length out ≡ length out₀) × (out ≡ laid out₀ at (take j part))
+
+abbrev μ-loop : tie.MeasureT-loop
+μ-loop out₀ at part j₀ out j = length part - j
+
+loop-holds : tie.Need-loop-holds Inv-loop μ-loop
+loop-holds c = (omega arith, refl, laid-none (c .args .out .now) (c .args .at))
+
+shared-slice-read-out : tie.Need-shared-slice-read-out Inv-loop μ-loop
+shared-slice-read-out c = omega arith
+
+add-out : tie.Need-add-out Inv-loop μ-loop
+add-out c = omega arith
+
+slice-write-out : tie.Need-slice-write-out Inv-loop μ-loop
+slice-write-out c = omega arith
+
+add-j : tie.Need-add-j Inv-loop μ-loop
+add-j c = omega arith
+
+loop-less : tie.Need-loop-less Inv-loop μ-loop
+loop-less c = omega arith
+
+loop-again : tie.Need-loop-again Inv-loop μ-loop
+loop-again c =
+    let l = c .before .before in
+    let s = l .before in (
+      omega arith,
+      length-set (l .loop .out) (s .args .at + l .loop .j) (getD (s .args .part .now) (l .loop .j) 0) ∙ l .loop .inv .1,
+      laid-turned (s .args .out .now) (s .args .part .now) (l .loop .out) (s .args .at) (l .loop .j) _ (omega arith) (omega arith) (l .loop .inv .2) refl,
+    )
+
+same-length : tie.Need-same-length Inv-loop μ-loop
+same-length c = c .before .loop .inv .1
+
+returns : tie.Need-returns Inv-loop μ-loop
+returns c =
+    let l = c .before in
+    let s = l .before in
+    let e : l .loop .j ≡ length (s .args .part .now) = omega arith in
+    l .loop .inv .2 ∙ ap (laid (s .args .out .now) (s .args .at)) (ap (λ (n : ℕ). take n (s .args .part .now)) e ∙ take-length (s .args .part .now))
+
+pub put-spec : {M : Type 1} → statement M
+put-spec =
+    tie.close
+    (tie.spec
+    Inv-loop
+    μ-loop
+    loop-holds
+    shared-slice-read-out
+    add-out
+    slice-write-out
+    add-j
+    loop-less
+    loop-again
+    same-length
+    returns)

@@ -1,0 +1,17 @@
+// A list of bytes, copied into lent memory.
+ghost use mathlib.Core.Path.{_≡_};
+ghost use Prim.Native.Nat.{_+_, _≤_};
+ghost use lib.ListN.{length};
+ghost use Rattle.memory.specs.Laid.{laid};
+
+// The part, in place of what lies from a place on.
+pub fn put(out: &mut [u8], at: usize, part: &[u8])
+    requires { ⌜ at + length (now part) ≤ length (now out) ⌝ }
+    ensures { λ _. ⌜ now (out .exit) ≡ laid (now (out .entry)) at (now (part .entry)) ⌝ }
+{
+    let mut j = 0;
+    while j < part.len() {
+        out[at + j] = part[j];
+        j += 1;
+    }
+}
