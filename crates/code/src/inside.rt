@@ -6,8 +6,7 @@ ghost use lib.ListN.{length, drop};
 ghost use Rattle.definitions.specs.Code.{Symbols, codeword};
 ghost use Rattle.definitions.specs.Field.{numbers, value, sixteen};
 ghost use Rattle.field.specs.Table.{Products};
-
-pub const ALPHA: u8 = field::inside::ALPHA;
+use field::inside::ALPHA;
 
 // The value of the polynomial f at x.
 pub fn value_at(table: &[u8; 256], f: &[u8], x: u8) -> u8
