@@ -34,8 +34,8 @@ pub fn interpolate(n: usize, k: usize, limit: usize, matrix: &[u8], out: &mut [u
         return Interpolated::Refused(Refusal::Cost);
     }
     let v = k - 1;
-    let bound = weights::inside::bound(v, cost);
-    let count = weights::inside::count(v, bound);
+    let bound = bound::bound(v, cost);
+    let count = bound::count(v, bound);
     inside::polynomial(&columns, v, bound, count, out);
     Interpolated::Of { bound, count }
 }

@@ -35,8 +35,8 @@ pub fn list_within(
     ensures { λ r. ⌜ ListsOf (now (matrix .entry)) n k (now (rows .entry)) (now (scores .entry)) r (now (rows .exit)) (now (scores .exit)) ⌝ }
 {
     let v = k - 1;
-    let bound = weights::inside::bound(v, cost);
-    let count = weights::inside::count(v, bound);
+    let bound = bound::bound(v, cost);
+    let count = bound::count(v, bound);
     let mut polynomial = [0u8; WIDTH];
     interpolation::inside::polynomial(matrix, v, bound, count, &mut polynomial);
     let mut found = [0u8; GREATEST_ROWS * POSITIONS];

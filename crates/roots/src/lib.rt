@@ -23,7 +23,7 @@ fn checked(degree: usize, k: usize, coefficients: &[u8], room: usize) -> Checked
         return Checked::Refused(r);
     }
     let v = k - 1;
-    let stated = weights::inside::count(v, degree);
+    let stated = bound::count(v, degree);
     Checked::Passed
         .or(GREATEST_COUNT < stated, Refusal::Setting)
         .or(coefficients.len() != stated, Refusal::Length)

@@ -4,19 +4,16 @@ use mathlib.Core.Bool.{false, not}
 use mathlib.Core.List.{List, _++_, map}
 use mathlib.Core.Path.{_≡_, refl, sym, _∙_, ap}
 use Prim.Native.Nat.{ℕ, suc, _+_, _*_, _-_, _/_, _≤_, _<_}
-use native.Mathlib.Nat.{mul-le-mul, div-le-self}
+use native.Mathlib.Nat.{mul-le-mul}
 use native.Mathlib.Numerals.{add-one}
 use native.Mathlib.Omega.{arith}
 use borrow.Author.Count.{below-more}
 use borrow.Author.Tests.{eq-eqb, ne-eqb}
 use lib.ListN.{length, take, drop, getD, set, length-map}
 use lib.Seq.{length-take-le}
-use Rattle.definitions.proofs.Bound.{count-above, bound-is}
 use Rattle.definitions.proofs.Loops.{put-more, map-more}
-use Rattle.definitions.proofs.Monomials.{power-within}
 use Rattle.definitions.proofs.Tools.{below-zero, smallest-is}
 use Rattle.definitions.proofs.Weights.{map-take}
-use Rattle.definitions.specs.Bound.{count, bound}
 use Rattle.definitions.specs.Field.{sixteen}
 use Rattle.definitions.specs.Limits.{columnSum, greatestLevel}
 use Rattle.definitions.specs.Refusals.{badColumn}
@@ -45,10 +42,6 @@ level-fits L r hl hr = mul-le-mul {n₁ = L} {m₁ = r} {n₂ = greatestLevel} {
 pub cost-fits : (m : ℕ) → m < 256 → m * (m + 1) ≤ 65280
 cost-fits m h = mul-le-mul {n₁ = m} {m₁ = m + 1} {n₂ = 255} {m₂ = 256} (omega arith) (omega arith)
 
--- a power of y that is counted
-pub power-fits : (v d b : ℕ) → 0 < v → b ≤ d / v → (v * b ≤ d) × (b ≤ d)
-power-fits v d b pos h = let quotient = div-le-self d v in (power-within v d b h, omega arith)
-
 -- no column is loaded yet
 pub none-loaded : (m : List ℕ) → zeroColumns ≡ matrixOf m 0
 none-loaded m = ap (λ (l : List ℕ). map (columnOf m) l ++ zeroColumns) (sym below-zero)
@@ -64,11 +57,3 @@ module _ (r : List ℕ) (n i : ℕ) (passed : (j : ℕ) → j < i → badColumn 
 
   pub no-column : i ≤ n → n ≤ i → i ≡ smallest (badColumn sixteen r) n
   no-column h k = sym (smallest-is (badColumn sixteen r) n i h passed (λ l. let z : ⊥ = omega arith in absurd z))
-
--- the degrees that a search has passed have too few monomials
-module _ (v C d : ℕ) (pos : 0 < v) (passed : (e : ℕ) → e < d → count v e ≤ C) where
-  pub degree-found : (n : ℕ) → n ≡ count v d → C < n → d ≡ bound v C
-  degree-found n e h = sym (bound-is v pos C d (omega arith) passed)
-
-  pub degree-passed : (n : ℕ) → n ≡ count v d → n ≤ C → (d + 1 ≤ C) × ((e : ℕ) → e < d + 1 → count v e ≤ C)
-  degree-passed n e h = let above = count-above v pos d in (omega arith, below-more (λ (e : ℕ). count v e ≤ C) d passed (omega arith))

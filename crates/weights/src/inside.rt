@@ -1,10 +1,9 @@
-// Weights, cost and bound of what is within limits already.
+// Weights and cost of what is within limits already.
 ghost use mathlib.Core.Bool.{Bool};
 ghost use mathlib.Core.List.{_++_};
 ghost use mathlib.Core.Path.{_≡_};
 ghost use Prim.Native.Nat.{_+_, _*_, _≤_, _<_};
 ghost use lib.ListN.{length, drop};
-ghost use Rattle.definitions.specs.Bound.{count, bound};
 ghost use Rattle.definitions.specs.Field.{sixteen};
 ghost use Rattle.definitions.specs.Limits.{greatestLevel};
 ghost use Rattle.definitions.specs.Refusals.{badColumn, columns};
@@ -168,30 +167,4 @@ pub fn cost(matrix: &[[u8; SYMBOLS]; POSITIONS]) -> usize
         i += 1;
     }
     total
-}
-
-// N(D): how many monomials have weighted degree at most d.
-pub fn count(v: usize, d: usize) -> usize
-    requires { ⌜ (0 < v) × (d < 65536) ⌝ }
-    ensures { λ r. ⌜ r ≡ count v d ⌝ }
-{
-    let mut total = 0;
-    let mut b = 0;
-    while b <= d / v {
-        total += d + 1 - v * b;
-        b += 1;
-    }
-    total
-}
-
-// The smallest degree with more monomials than the cost.
-pub fn bound(v: usize, cost: usize) -> usize
-    requires { ⌜ (0 < v) × (cost < 65536) ⌝ }
-    ensures { λ r. ⌜ r ≡ bound v cost ⌝ }
-{
-    let mut d = 0;
-    while count(v, d) <= cost {
-        d += 1;
-    }
-    d
 }

@@ -45,6 +45,6 @@ pub fn cost_and_bound(n: usize, k: usize, matrix: &[u8]) -> Costed
     }
     let columns = inside::load(matrix, n);
     let cost = inside::cost(&columns);
-    let bound = inside::bound(k - 1, cost);
+    let bound = bound::bound(k - 1, cost);
     Costed::Of { cost, bound }
 }

@@ -1,11 +1,12 @@
+-- The loop has added up the monomials of the powers of y below b.
 use Rattle.definitions.proofs.Loops.{sum-none, sum-more}
-use Rattle.weights.proofs.Laws.{power-fits}
+use Rattle.bound.proofs.Degrees.{power-fits}
 use mathlib.Core.Path.{_≡_, refl, sym, _∙_, ap}
 use Prim.Native.Nat.{ℕ, _+_, _*_, _-_, _/_, _≤_, _<_}
 use Rattle.definitions.specs.Tools.{sum}
 use native.Mathlib.Omega.{arith}
-use Rattle.weights.proofs.inside.count.Statement.{statement}
-use Rattle.weights.proofs.inside.count.Tie as tie
+use Rattle.bound.proofs.count.Statement.{statement}
+use Rattle.bound.proofs.count.Tie as tie
 
 abbrev Inv-loop : tie.InvT-loop
 Inv-loop v d total₀ b₀ total b = (b ≤ d / v + 1) × (total ≡ sum b (λ (j : ℕ). d + 1 - v * j)) × (total ≤ b * 65536)

@@ -1,12 +1,13 @@
+-- The loop has passed degrees with too few monomials.
 use mathlib.Core.Path.{_≡_, refl, sym, _∙_, ap}
 use Prim.Native.Nat.{ℕ, suc, _+_, _*_, _-_, _≤_, _<_}
 use native.Mathlib.Nat.{not-suc-le-zero}
 use Rattle.definitions.specs.Bound.{count}
-use Rattle.weights.proofs.Laws.{degree-found, degree-passed}
+use Rattle.bound.proofs.Degrees.{degree-found, degree-passed}
 use native.Mathlib.Omega.{arith}
 use borrow.Author.Needs.{needs}
-use Rattle.weights.proofs.inside.bound.Statement.{statement}
-use Rattle.weights.proofs.inside.bound.Tie as tie
+use Rattle.bound.proofs.bound.Statement.{statement}
+use Rattle.bound.proofs.bound.Tie as tie
 
 abbrev Inv-loop : tie.InvT-loop
 Inv-loop v cost d₀ d = (d ≤ cost) × ((e : ℕ) → e < d → count v e ≤ cost)
