@@ -25,7 +25,7 @@ use Rattle.definitions.specs.Weights.{matrix, cost}
 use Rattle.exports.specs.Crossing.{Narrow}
 use Rattle.field.proofs.Instance.{sixteen-field}
 use Rattle.interpolation.proofs.Width.{width-fits}
-use Rattle.search.proofs.Roots.{roots-at-most}
+use Rattle.root_tree.proofs.Roots.{roots-at-most}
 use Rattle.weights.proofs.Cost.{cost-small}
 
 refused-narrow : (number place : ℕ) → place < 65536 → Narrow (refused number place)

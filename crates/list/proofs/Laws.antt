@@ -35,7 +35,7 @@ use Rattle.ranking.proofs.Same.{ranked-same, map-same}
 use Rattle.ranking.proofs.Scores.{matrix-score}
 use Rattle.ranking.proofs.Written.{Sized}
 use Rattle.ranking.specs.Rows.{rowsOf, matrixScore, ranked, scoresOf}
-use Rattle.search.proofs.Roots.{roots-at-most}
+use Rattle.root_tree.proofs.Roots.{roots-at-most}
 use Rattle.weights.specs.Matrix.{matrixOf}
 
 -- lists of symbols, one behind the other

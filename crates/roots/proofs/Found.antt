@@ -18,14 +18,14 @@ use Rattle.definitions.specs.Limits.{greatestCount}
 use Rattle.definitions.specs.Polynomial.{monomials, isZero}
 use Rattle.definitions.specs.Roots.{rootsOf}
 use Rattle.field.proofs.Instance.{sixteen-field}
-use Rattle.search.proofs.Arrays.{place-column, length-loaded}
-use Rattle.search.proofs.Levels.{search-same, under-strip}
-use Rattle.search.proofs.Once.{roots-in-order}
-use Rattle.search.proofs.Roots.{length-zeros, loaded-symbols, columns-symbols, under-grid, search-is-roots, roots-at-most}
-use Rattle.search.proofs.Search.{strip-symbols}
-use Rattle.search.proofs.Size.{array-size, column-height}
-use Rattle.search.specs.Columns.{loaded}
-use Rattle.search.specs.Tree.{zeros, strip, search}
+use Rattle.root_tree.proofs.Arrays.{place-column, length-loaded}
+use Rattle.root_tree.proofs.Levels.{search-same, under-strip}
+use Rattle.root_tree.proofs.Once.{roots-in-order}
+use Rattle.root_tree.proofs.Roots.{length-zeros, loaded-symbols, columns-symbols, under-grid, search-is-roots, roots-at-most}
+use Rattle.root_tree.proofs.Search.{strip-symbols}
+use Rattle.root_tree.proofs.Size.{array-size, column-height}
+use Rattle.root_tree.specs.Columns.{loaded}
+use Rattle.root_tree.specs.Tree.{zeros, strip, search}
 use Rattle.substitution.specs.Array.{places, height, polynomial, Freed}
 use Rattle.memory.proofs.Laid.{laid-front}
 use Rattle.memory.specs.Laid.{laid}

@@ -15,7 +15,7 @@ use Rattle.definitions.specs.Bound.{count}
 use Rattle.definitions.specs.Field.{numbers, sixteen}
 use Rattle.definitions.specs.Polynomial.{monomialsOf, monomials}
 use Rattle.definitions.specs.Tools.{below}
-use Rattle.search.specs.Columns.{loaded}
+use Rattle.root_tree.specs.Columns.{loaded}
 
 module _ (h : ℕ) where
   -- one list loaded after another

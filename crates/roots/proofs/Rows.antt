@@ -17,10 +17,10 @@ use Rattle.definitions.specs.Code.{Symbols}
 use Rattle.definitions.specs.Field.{numbers, value, sixteen}
 use Rattle.definitions.specs.Tools.{below}
 use Rattle.field.proofs.Instance.{sixteen-field}
-use Rattle.search.proofs.Levels.{search-handed, under-handed}
-use Rattle.search.proofs.Search.{branch, search-zero, search-suc}
-use Rattle.search.specs.Columns.{first, columns}
-use Rattle.search.specs.Tree.{constantsZero, begins, next, search}
+use Rattle.root_tree.proofs.Levels.{search-handed, under-handed}
+use Rattle.root_tree.proofs.Search.{branch, search-zero, search-suc}
+use Rattle.root_tree.specs.Columns.{first, columns}
+use Rattle.root_tree.specs.Tree.{constantsZero, begins, next, search}
 use Rattle.substitution.specs.Array.{places, polynomial, Handed}
 use Rattle.memory.proofs.Laid.{laid-none, laid-behind}
 use Rattle.memory.specs.Laid.{laid}

@@ -3,7 +3,7 @@
 use mathlib.Core.List.{List, _++_, flatMap}
 use Prim.Native.Nat.{ℕ, _+_}
 use Rattle.definitions.specs.Field.{sixteen}
-use Rattle.search.specs.Tree.{Under}
+use Rattle.root_tree.specs.Tree.{Under}
 use Rattle.substitution.specs.Array.{polynomial}
 
 -- the array's weighted degree, of weights 1 and v, is at most D

@@ -20,8 +20,8 @@ use Rattle.definitions.specs.Code.{Symbols}
 use Rattle.definitions.specs.Field.{numbers, value, sixteen, sumOf}
 use Rattle.definitions.specs.Roots.{plus, scaled}
 use Rattle.field.proofs.Instance.{sixteen-field}
-use Rattle.search.specs.Columns.{shift, columns}
-use Rattle.search.specs.Tree.{constantsZero}
+use Rattle.root_tree.specs.Columns.{shift, columns}
+use Rattle.root_tree.specs.Tree.{constantsZero}
 use Rattle.substitution.specs.Array.{passed}
 
 -- ---- the value of the first column

@@ -22,12 +22,12 @@ use Rattle.definitions.specs.Field.{numbers, sixteen}
 use Rattle.definitions.specs.Polynomial.{isZero}
 use Rattle.definitions.specs.Tools.{smallest}
 use Rattle.field.proofs.Instance.{sixteen-field}
-use Rattle.search.proofs.Arrays.{place-once, place-within, columns-within, columns-beyond, columns-above, columns-at}
-use Rattle.search.proofs.Columns.{substitute-above}
-use Rattle.search.proofs.Levels.{strip-at, substitute-cell}
-use Rattle.search.proofs.Roots.{zeros-at, columns-symbols}
-use Rattle.search.specs.Columns.{shift, columns}
-use Rattle.search.specs.Tree.{zeros}
+use Rattle.root_tree.proofs.Arrays.{place-once, place-within, columns-within, columns-beyond, columns-above, columns-at}
+use Rattle.root_tree.proofs.Columns.{substitute-above}
+use Rattle.root_tree.proofs.Levels.{strip-at, substitute-cell}
+use Rattle.root_tree.proofs.Roots.{zeros-at, columns-symbols}
+use Rattle.root_tree.specs.Columns.{shift, columns}
+use Rattle.root_tree.specs.Tree.{zeros}
 use Rattle.substitution.specs.Array.{places, polynomial, Laid, Substituted, Freed, isOther}
 
 -- ---- a column laid

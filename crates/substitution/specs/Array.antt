@@ -10,8 +10,8 @@ use Rattle.definitions.specs.Code.{Symbols}
 use Rattle.definitions.specs.Field.{numbers, sixteen}
 use Rattle.definitions.specs.Limits.{greatestCount}
 use Rattle.definitions.specs.Roots.{plus, scaled}
-use Rattle.search.specs.Columns.{coefficient, substitute, columns}
-use Rattle.search.specs.Tree.{Same, strip}
+use Rattle.root_tree.specs.Columns.{coefficient, substitute, columns}
+use Rattle.root_tree.specs.Tree.{Same, strip}
 
 -- the places of a polynomial's array: of w columns of height h, which are at most twice as many as its coefficients
 abbrev pub places : ℕ

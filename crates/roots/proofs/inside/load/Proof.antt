@@ -4,8 +4,8 @@ use Prim.Native.Nat.{_+_, _-_, _*_, _/_, _≤_}
 use native.Mathlib.Omega.{arith}
 use lib.ListN.{length, take}
 use Rattle.definitions.specs.Field.{numbers, sixteen}
-use Rattle.search.specs.Columns.{loaded}
-use Rattle.search.specs.Tree.{zeros}
+use Rattle.root_tree.specs.Columns.{loaded}
+use Rattle.root_tree.specs.Tree.{zeros}
 use Rattle.substitution.specs.Array.{places}
 use Rattle.definitions.proofs.Monomials.{lower, none-lower, degree-grows}
 use Rattle.roots.proofs.Loading.{load-none, load-more, load-all, degree-within}

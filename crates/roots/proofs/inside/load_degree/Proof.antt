@@ -2,8 +2,8 @@ use mathlib.Core.Path.{_≡_, refl, _∙_}
 use Prim.Native.Nat.{_+_, _-_, _*_, _/_, _≤_}
 use lib.ListN.{length, getD, take, drop, length-set}
 use Rattle.definitions.specs.Field.{numbers, sixteen}
-use Rattle.search.proofs.Arrays.{place-within}
-use Rattle.search.specs.Columns.{loaded}
+use Rattle.root_tree.proofs.Arrays.{place-within}
+use Rattle.root_tree.specs.Columns.{loaded}
 use Rattle.definitions.proofs.Monomials.{power-within}
 use Rattle.roots.proofs.Loading.{some, degree-none, degree-more}
 use native.Mathlib.Omega.{arith}

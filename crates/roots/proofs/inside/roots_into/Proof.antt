@@ -2,7 +2,7 @@ use Prim.Native.Nat.{_+_, _-_, _/_}
 use native.Mathlib.Omega.{arith}
 use lib.ListN.{length}
 use Rattle.definitions.specs.Field.{sixteen}
-use Rattle.search.specs.Tree.{zeros}
+use Rattle.root_tree.specs.Tree.{zeros}
 use Rattle.roots.proofs.Found.{array-fits, columns-low, loaded-length, loaded-are-symbols, within, room-enough, rows-counted, rows-written}
 use Rattle.roots.proofs.Rows.{columns-fit}
 use borrow.Author.Needs.{needs}

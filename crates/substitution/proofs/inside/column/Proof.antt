@@ -2,8 +2,8 @@ use mathlib.Core.Path.{_≡_, refl}
 use Prim.Native.Nat.{_-_, _≤_}
 use lib.ListN.{take, drop}
 use mathlib.Core.List.{_++_}
-use Rattle.search.specs.Tree.{zeros}
-use Rattle.search.proofs.Roots.{length-zeros}
+use Rattle.root_tree.specs.Tree.{zeros}
+use Rattle.root_tree.proofs.Roots.{length-zeros}
 use Rattle.definitions.proofs.Loops.{copied-more}
 use native.Mathlib.Omega.{arith}
 use Rattle.substitution.specs.Array.{height}

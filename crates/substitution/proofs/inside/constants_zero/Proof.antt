@@ -1,7 +1,7 @@
 use mathlib.Core.Path.{_≡_}
 use Prim.Native.Nat.{_-_, _≤_}
-use Rattle.search.proofs.Arrays.{place-within}
-use Rattle.search.specs.Tree.{constantsZero}
+use Rattle.root_tree.proofs.Arrays.{place-within}
+use Rattle.root_tree.specs.Tree.{constantsZero}
 use Rattle.substitution.specs.Array.{polynomial}
 use Rattle.substitution.proofs.Columns.{constantsFrom, constants-begin, constants-stop, constants-go-on, constants-end}
 use native.Mathlib.Omega.{arith}

@@ -7,7 +7,7 @@ use native.Mathlib.Nat.{div-mul-le-self}
 use Rattle.definitions.specs.Field.{sixteen}
 use Rattle.definitions.specs.Tools.{smallest}
 use Rattle.definitions.proofs.Tools.{smallest-le}
-use Rattle.search.specs.Tree.{zeros}
+use Rattle.root_tree.specs.Tree.{zeros}
 use Rattle.substitution.specs.Array.{places, isOther}
 use Rattle.substitution.proofs.Substitution.{freed-moved, copied-symbols}
 use native.Mathlib.Omega.{arith}

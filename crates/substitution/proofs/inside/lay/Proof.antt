@@ -4,8 +4,8 @@ use Prim.Native.Nat.{ℕ, _+_, _-_, _*_, _≤_}
 use lib.ListN.{length, length-set}
 use Rattle.definitions.specs.Code.{Symbols}
 use Rattle.definitions.specs.Field.{sixteen}
-use Rattle.search.proofs.Arrays.{place-within}
-use Rattle.search.proofs.Roots.{set-symbols}
+use Rattle.root_tree.proofs.Arrays.{place-within}
+use Rattle.root_tree.proofs.Roots.{set-symbols}
 use Rattle.substitution.specs.Array.{Laid}
 use Rattle.substitution.proofs.Substitution.{laid-none, laid-more, laid-end}
 use native.Mathlib.Omega.{arith}

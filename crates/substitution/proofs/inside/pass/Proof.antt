@@ -4,7 +4,7 @@ use lib.Bits.{bitXor}
 use lib.ListN.{length, getD, take, length-set}
 use Rattle.definitions.specs.Code.{Symbols}
 use Rattle.definitions.specs.Field.{sixteen}
-use Rattle.search.proofs.Roots.{set-symbols}
+use Rattle.root_tree.proofs.Roots.{set-symbols}
 use Rattle.substitution.specs.Array.{passed}
 use Rattle.substitution.proofs.Columns.{passed-more, passed-end, pass-symbol}
 use native.Mathlib.Omega.{arith}

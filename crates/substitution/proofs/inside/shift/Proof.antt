@@ -4,7 +4,7 @@ use Prim.Native.Nat.{_≤_}
 use lib.ListN.{length, take, drop}
 use Rattle.definitions.specs.Code.{Symbols}
 use Rattle.definitions.specs.Field.{numbers, sixteen}
-use Rattle.search.specs.Columns.{shift}
+use Rattle.root_tree.specs.Columns.{shift}
 use Rattle.substitution.proofs.Columns.{no-pass, pass-more}
 use native.Mathlib.Omega.{arith}
 use Rattle.substitution.proofs.inside.shift.Statement.{statement}

@@ -5,8 +5,8 @@ use borrow.Author.Needs.{needs}
 use lib.ListN.{length, drop}
 use Rattle.definitions.specs.Code.{Symbols}
 use Rattle.definitions.specs.Field.{numbers, sixteen}
-use Rattle.search.specs.Columns.{shift}
-use Rattle.search.specs.Tree.{zeros}
+use Rattle.root_tree.specs.Columns.{shift}
+use Rattle.root_tree.specs.Tree.{zeros}
 use Rattle.substitution.specs.Array.{places, height}
 use Rattle.substitution.proofs.Substitution.{Partly, partly-none, partly-more, partly-all, copied-symbols, zeros-symbols, column-within}
 use Rattle.substitution.proofs.Columns.{copied-front}

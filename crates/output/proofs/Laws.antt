@@ -1,0 +1,255 @@
+-- From the list's answer to the program's text.
+-- Assumes nothing.
+use mathlib.Core.Bool.{Bool, true, false, cond, not}
+use mathlib.Core.List.{List, [], _∷_, _++_, map, flatten}
+use mathlib.Core.Path.{_≡_, refl, sym, _∙_, ap, ap₂}
+use Prim.Native.Nat.{ℕ, zero, suc, _+_, _*_, _-_, _/_, _%_, _≤_, _<_}
+use native.Mathlib.Omega.{arith}
+use borrow.Author.Tests.{ne-eqb, lt-ltb, le-ltb}
+use lib.Dec.{eqb, ltb}
+use lib.ListN.{length, take, drop, getD, length-append, length-drop, length-map, List·getD-append}
+use lib.Seq.{ext-getD, getD-take, length-take-le, take-all, take-at}
+use Rattle.algebra.proofs.Elements.{zero-symbol}
+use Rattle.algebra.proofs.Every.{all-members, length-flatten}
+use Rattle.definitions.proofs.Joined.{flatten-one, flatten-append}
+use Rattle.definitions.proofs.Listing.{falling-in-order}
+use Rattle.definitions.proofs.Messages.{messages-in-order}
+use Rattle.definitions.proofs.Table.{Gives, stop, pass, Accepts, end, next, gives, accepts, sizes-mean}
+use Rattle.definitions.proofs.Tools.{split, map-at, length-below, map-below, map-below-at, select-from, below-zero}
+use Rattle.definitions.specs.Answers.{Answer, refused, counted, rowsOnto, scoresOnto, readAnswer, readRows, readScores}
+use Rattle.definitions.specs.Bound.{bound}
+use Rattle.definitions.specs.Code.{messages}
+use Rattle.definitions.specs.Field.{sixteen}
+use Rattle.definitions.specs.Limits.{greatestRows}
+use Rattle.definitions.specs.Listing.{listOf}
+use Rattle.definitions.specs.Refusals.{Line, tried, line, sizesFit, sizes, level, limit, entries, room, columns, costWithin, readTable}
+use Rattle.definitions.specs.Tools.{below, select}
+use Rattle.definitions.specs.Weights.{matrix, cost, score}
+use Rattle.field.proofs.Instance.{sixteen-field}
+use Rattle.refusals.specs.Refusal.{toldRefusal}
+use Rattle.refusals.specs.declared.Refusal.{Refusal}
+use Rattle.refusals.specs.declared.Refusal.the-variants.{Sizes, Setting, Length, Room, Symbol, Column, Cost, Zero}
+use Rattle.ranking.proofs.Memory.{rows-read}
+use Rattle.ranking.proofs.Written.{Sized}
+use Rattle.ranking.specs.Rows.{rowAt}
+use Rattle.output.specs.Program.{listText, symbolsOfRows, answerTo, headerBytes, output, answerText, Holds}
+use Rattle.output.specs.Rooms.{greatestNumbers, longest}
+use Rattle.text.proofs.Laws.{none-lines, more-lines}
+use Rattle.text.specs.Text.{numberAt, numbersOf, listedLine, rowLine, lineOf, rowLines, refusedLine}
+
+-- no line of a table has the number 0, which tells a list
+abbrev Numbered : List Line → Type 0
+Numbered [] = Unit
+Numbered (l ∷ table) = (l .number ≡ 0 → ⊥) × Numbered table
+
+-- a table gives a refusal, or none
+data Outcome (table : List Line) : Type 0 where
+  refuses : (number place : ℕ) → (number ≡ 0 → ⊥) → Gives table number place → Outcome table
+  lists : Accepts table → Outcome table
+
+outcome-more : (l : Line) (table : List Line) → l .given ≡ false → Outcome table → Outcome (l ∷ table)
+outcome-more l table e (refuses number place nonzero g) = refuses number place nonzero (pass e g)
+outcome-more l table e (lists a) = lists (next e a)
+
+outcome : (table : List Line) → Numbered table → Outcome table
+outcome [] h = lists end
+outcome (l ∷ table) h = split (l .given) (λ e. refuses (l .number) (l .place) (h .0) (stop e)) (λ e. outcome-more l table e (outcome table (h .1)))
+
+-- the rows of the list are messages: k symbols each
+list-sized : (n k : ℕ) (m : List ℕ) → Sized k (listOf sixteen n k m)
+list-sized n k m =
+    let test : List ℕ → Bool = λ (f : List ℕ). ltb (bound (k - 1) (cost m)) (score sixteen n m f) in
+    all-members (λ f. length f ≡ k) (listOf sixteen n k m) (λ f h.
+    messages-in-order sixteen (zero-symbol sixteen sixteen-field) k .sized f
+    (select-from test (messages sixteen k) f (falling-in-order (score sixteen n m) (select test (messages sixteen k)) .from f h)))
+
+-- no line
+flatten-none : flatten {A = ℕ} [] ≡ []
+unfolding flatten
+flatten-none = refl
+
+-- the lines of the rows in memory, one behind the other
+lines-flat : (k : ℕ) (rows scores : List ℕ) (j : ℕ) → rowLines k rows scores j ≡ flatten (map (lineOf k rows scores) (below j))
+lines-flat k rows scores zero = none-lines k rows scores ∙ sym (ap (λ (l : List ℕ). flatten (map (lineOf k rows scores) l)) below-zero ∙ flatten-none)
+lines-flat k rows scores (suc j) =
+    more-lines k rows scores j
+    ∙ ap₂ _++_ (lines-flat k rows scores j) (sym (flatten-one (lineOf k rows scores j)))
+    ∙ sym (flatten-append (map (lineOf k rows scores) (below j)) (lineOf k rows scores j ∷ [])) ∙ ap flatten (sym (map-below (lineOf k rows scores) j))
+
+-- they are the lines of the list
+module _ (k : ℕ) (l : List (List ℕ)) (scoreOf : List ℕ → ℕ) (before rest rows scores : List ℕ) (sized : Sized k l)
+    (er : rows ≡ rowsOnto sixteen k l before) (es : scores ≡ map scoreOf l ++ rest) where
+  row-is : (j : ℕ) → j < length l → rowAt k rows j ≡ getD l j []
+  row-is j h =
+      sym (map-below-at (rowAt k rows) (length l) j [] h)
+      ∙ ap (λ (m : List (List ℕ)). getD m j []) (rows-read k l before rows (length l) sized refl er)
+
+  score-is : (j : ℕ) → j < length l → getD scores j 0 ≡ scoreOf (getD l j [])
+  score-is j h =
+      let size : length (map scoreOf l) ≡ length l = length-map l scoreOf in
+      ap (λ (m : List ℕ). getD m j 0) es ∙ List·getD-append (map scoreOf l) rest 0 j (omega arith) ∙ map-at scoreOf l j [] 0 h
+
+  pub lines-of-list : rowLines k rows scores (length l) ≡ flatten (map (λ (f : List ℕ). rowLine (scoreOf f) f) l)
+  lines-of-list =
+      let line : List ℕ → List ℕ = λ (f : List ℕ). rowLine (scoreOf f) f in
+      let size : length (map (lineOf k rows scores) (below (length l))) ≡ length (map line l) =
+      length-map (below (length l)) (lineOf k rows scores) ∙ length-below (length l) ∙ sym (length-map l line) in
+      let size2 : length (map (lineOf k rows scores) (below (length l))) ≡ length l = length-map (below (length l)) (lineOf k rows scores) ∙ length-below (length l) in
+      lines-flat k rows scores (length l)
+      ∙ ap flatten (ext-getD [] (map (lineOf k rows scores) (below (length l))) (map line l) size (λ j h.
+      let within : j < length l = omega arith in
+      map-below-at (lineOf k rows scores) (length l) j [] within
+      ∙ ap₂ rowLine (score-is j within) (row-is j within) ∙ sym (map-at line l j [] [] within)))
+
+-- the list's answer and its memory
+module _ (n k L G : ℕ) (r rows₀ scores₀ : List ℕ) (a : Answer) (rows scores : List ℕ)
+    (ea : a ≡ readAnswer sixteen n k L G r rows₀ scores₀) (er : rows ≡ readRows sixteen n k L G r rows₀ scores₀)
+    (es : scores ≡ readScores sixteen n k L G r rows₀ scores₀) where
+  abbrev table : List Line
+  table = readTable sixteen n k L G r (length rows₀) (length scores₀)
+
+  abbrev listed : List (List ℕ)
+  listed = listOf sixteen n k (matrix L r)
+
+  numbered : Numbered table
+  numbered =
+      (λ e. omega arith, (λ e. omega arith, (λ e. omega arith, (λ e. omega arith, (λ e. omega arith, (λ e. omega arith, (λ e. omega arith, (λ e. omega arith, tt))))))))
+
+  few-symbols : Accepts table → k ≤ sixteen .positions
+  few-symbols (next e later) = let fits = sizes-mean sixteen n k e in omega arith
+
+  module _ (number place : ℕ) (nonzero : number ≡ 0 → ⊥) (g : Gives table number place) where
+    refused-is : a ≡ refused number place
+    refused-is = ea ∙ sym (gives refused (counted (length listed)) g)
+
+    no-list : a .number ≡ 0 → ⊥
+    no-list e = nonzero (sym (ap (λ (x : Answer). x .number) refused-is) ∙ e)
+
+    refused-text : answerText k a rows scores ≡ tried table refusedLine (listText n k (matrix L r))
+    refused-text =
+        ap (λ (x : Answer). answerText k x rows scores) refused-is
+        ∙ ap (λ (b : Bool). cond b (listedLine 0 ++ rowLines k rows scores 0) (refusedLine number place)) (ne-eqb number 0 nonzero)
+        ∙ gives refusedLine (listText n k (matrix L r)) g
+
+  module _ (t : Accepts table) where
+    counted-is : a ≡ counted (length listed)
+    counted-is = ea ∙ sym (accepts refused (counted (length listed)) t)
+
+    rows-are : rows ≡ rowsOnto sixteen k listed rows₀
+    rows-are = er ∙ sym (accepts (λ _ _. rows₀) (rowsOnto sixteen k listed rows₀) t)
+
+    scores-are : scores ≡ scoresOnto sixteen n (matrix L r) listed scores₀
+    scores-are = es ∙ sym (accepts (λ _ _. scores₀) (scoresOnto sixteen n (matrix L r) listed scores₀) t)
+
+    list-held : a .count ≤ greatestRows → (k ≤ sixteen .positions) × (a .count ≤ greatestRows) × (k * a .count ≤ length rows) × (a .count ≤ length scores)
+    list-held few =
+        let symbols = few-symbols t in
+        let many : a .count ≡ length listed = ap (λ (x : Answer). x .count) counted-is in
+        let product : k * a .count ≡ k * length listed = ap (λ (x : ℕ). k * x) many in
+        let flat = length-flatten k listed (list-sized n k (matrix L r)) in
+        let long : length rows ≡ length (flatten listed) + length (drop (k * length listed) rows₀) = ap length rows-are ∙ length-append (flatten listed) (drop (k * length listed) rows₀) in
+        let marks : length (map (score sixteen n (matrix L r)) listed) ≡ length listed = length-map listed (score sixteen n (matrix L r)) in
+        let wide : length scores ≡ length (map (score sixteen n (matrix L r)) listed) + length (drop (length listed) scores₀) =
+        ap length scores-are ∙ length-append (map (score sixteen n (matrix L r)) listed) (drop (length listed) scores₀) in
+        (symbols, few, omega arith, omega arith)
+
+    list-text : answerText k a rows scores ≡ tried table refusedLine (listText n k (matrix L r))
+    list-text =
+        ap (λ (x : Answer). answerText k x rows scores) counted-is
+        ∙ ap (λ (x : List ℕ). listedLine (length listed) ++ x)
+        (lines-of-list k listed (score sixteen n (matrix L r)) rows₀ (drop (length listed) scores₀) rows scores (list-sized n k (matrix L r)) rows-are scores-are)
+        ∙ accepts refusedLine (listText n k (matrix L r)) t
+
+  pub holds : a .count ≤ greatestRows → Holds k a rows scores
+  holds few = elim (outcome table numbered) [
+    | refuses number place nonzero g ↦ λ e. absurd (no-list number place nonzero g e)
+    | lists t ↦ λ _. list-held t few
+  ]
+
+  pub text-is : length rows₀ ≡ symbolsOfRows → length scores₀ ≡ greatestRows → answerText k a rows scores ≡ answerTo n k L G r
+  text-is hr hs =
+      let either : answerText k a rows scores ≡ tried table refusedLine (listText n k (matrix L r)) =
+      elim (outcome table numbered) [
+        | refuses number place nonzero g ↦ refused-text number place nonzero g
+        | lists t ↦ list-text t
+      ] in
+      either ∙ ap₂ (λ (x y : ℕ). tried (readTable sixteen n k L G r x y) refusedLine (listText n k (matrix L r))) hr hs
+
+-- a refusal's line is the text of its answer
+told-text : (k : ℕ) (rows scores : List ℕ) (r : Refusal) → refusedLine (toldRefusal r .number) (toldRefusal r .place) ≡ answerText k (toldRefusal r) rows scores
+told-text k rows scores Sizes = refl
+told-text k rows scores Setting = refl
+told-text k rows scores Length = refl
+told-text k rows scores Room = refl
+told-text k rows scores (Symbol place) = refl
+told-text k rows scores (Column place) = refl
+told-text k rows scores Cost = refl
+told-text k rows scores Zero = refl
+
+pub refusal-text : (k : ℕ) (rows scores : List ℕ) (r : Refusal) (number place : ℕ) → number ≡ toldRefusal r .number → place ≡ toldRefusal r .place
+    → refusedLine number place ≡ answerText k (toldRefusal r) rows scores
+refusal-text k rows scores r number place en ep = ap₂ refusedLine en ep ∙ told-text k rows scores r
+
+-- fewer bytes than the header has, and others
+pub no-header : (input : List ℕ) → length input < headerBytes → refusedLine 3 0 ≡ output input
+no-header input h =
+    sym (ap (λ (b : Bool). cond b (refusedLine 3 0) (answerTo (getD input 0 0) (getD input 1 0) (getD input 2 0) (getD input 3 0) (numbersOf (drop headerBytes input)))) (lt-ltb (length input) headerBytes h))
+
+pub header : (input r : List ℕ) (n k L G : ℕ) → headerBytes ≤ length input → n ≡ getD input 0 0 → k ≡ getD input 1 0 → L ≡ getD input 2 0 → G ≡ getD input 3 0
+    → r ≡ numbersOf (drop headerBytes input) → answerTo n k L G r ≡ output input
+header input r n k L G h en ek eL eG er =
+    rw (en, ek, eL, eG, er)
+    (sym (ap (λ (b : Bool). cond b (refusedLine 3 0) (answerTo (getD input 0 0) (getD input 1 0) (getD input 2 0) (getD input 3 0) (numbersOf (drop headerBytes input)))) (le-ltb (length input) headerBytes h)))
+
+-- the numbers in front of a memory
+pub in-front : (words rest now : List ℕ) (count : ℕ) → count ≡ length words → now ≡ words ++ rest → take count now ≡ words
+in-front words rest now count ec en = ap (take count) en ∙ take-at words rest count (sym ec)
+
+-- they lie within it
+pub front-within : (words rest now : List ℕ) (count : ℕ) → count ≡ length words → now ≡ words ++ rest → count ≤ length now
+front-within words rest now count ec en = let size : length now ≡ length words + length rest = ap length en ∙ length-append words rest in omega arith
+
+-- the bytes behind the header
+pub bytes-are : (input : List ℕ) → take (length input - headerBytes) (drop headerBytes input) ≡ drop headerBytes input
+bytes-are input = let size = length-drop headerBytes input in take-all (length input - headerBytes) (drop headerBytes input) (omega arith)
+
+-- tables that begin alike and then both refuse a length, whatever they would make of it later
+both-refuse : (a b c : Line) (g h : Bool) (s t : List Line) (f : ℕ → ℕ → List ℕ) (x y : List ℕ) → g ≡ true → h ≡ true
+    → tried (a ∷ b ∷ c ∷ line 3 g ∷ s) f x ≡ tried (a ∷ b ∷ c ∷ line 3 h ∷ t) f y
+both-refuse a b c g h s t f x y eg eh = rw (eg, eh) refl
+
+sizes-refuse : (g : Bool) (s t : List Line) (f : ℕ → ℕ → List ℕ) (x y : List ℕ) → g ≡ true → tried (line 1 g ∷ s) f x ≡ tried (line 1 g ∷ t) f y
+sizes-refuse g s t f x y eg = rw eg refl
+
+-- two inputs of a wrong length
+wrong-lengths : (n k L G : ℕ) (r q : List ℕ) → ((n : ℕ) → 2 ≤ n → n ≤ sixteen .positions → length r ≡ sixteen .symbols * n → ⊥) → ((n : ℕ) → 2 ≤ n → n ≤ sixteen .positions → length q ≡ sixteen .symbols * n → ⊥)
+    → answerTo n k L G r ≡ answerTo n k L G q
+wrong-lengths n k L G r q wr wq = split (sizesFit sixteen n k) (λ e.
+    let fits = sizes-mean sixteen n k (ap not e) in
+    both-refuse (sizes sixteen n k) (level L) (limit G) (not (eqb (length r) (sixteen .symbols * n))) (not (eqb (length q) (sixteen .symbols * n)))
+    (room (greatestRows * k) symbolsOfRows ∷ room greatestRows greatestRows ∷ columns sixteen n r ∷ costWithin G (matrix L r) ∷ [])
+    (room (greatestRows * k) symbolsOfRows ∷ room greatestRows greatestRows ∷ columns sixteen n q ∷ costWithin G (matrix L q) ∷ []) refusedLine (listText n k (matrix L r)) (listText n k (matrix L q))
+    (ap not (ne-eqb (length r) (sixteen .symbols * n) (wr n (omega arith) (omega arith)))) (ap not (ne-eqb (length q) (sixteen .symbols * n) (wq n (omega arith) (omega arith)))))
+    (λ e. sizes-refuse (not (sizesFit sixteen n k)) (level L ∷ limit G ∷ entries (sixteen .symbols * n) r ∷ room (greatestRows * k) symbolsOfRows ∷ room greatestRows greatestRows ∷ columns sixteen n r ∷ costWithin G (matrix L r) ∷ [])
+    (level L ∷ limit G ∷ entries (sixteen .symbols * n) q ∷ room (greatestRows * k) symbolsOfRows ∷ room greatestRows greatestRows ∷ columns sixteen n q ∷ costWithin G (matrix L q) ∷ []) refusedLine (listText n k (matrix L r)) (listText n k (matrix L q)) (ap not e))
+
+-- more bytes than those of the greatest numbers, and one, hold no list's numbers
+too-many : (b : List ℕ) → 2 * greatestNumbers + 1 < length b → (n : ℕ) → 2 ≤ n → n ≤ sixteen .positions → length (numbersOf b) ≡ sixteen .symbols * n → ⊥
+too-many b h n low high e = split (eqb (length b % 2) 0) (λ t.
+    let size : length (numbersOf b) ≡ length b / 2 = rw t (length-map (below (length b / 2)) (numberAt b) ∙ length-below (length b / 2)) in
+    omega arith)
+    (λ t.
+    let none : length (numbersOf b) ≡ 0 = rw t refl in
+    omega arith)
+
+-- an input that is too long is answered as its beginning is
+pub beginning : (input : List ℕ) → longest < length input → output (take longest input) ≡ output input
+beginning input h =
+    let size : length (take longest input) ≡ longest = length-take-le longest input (omega arith) in
+    let short = length-drop headerBytes (take longest input) in
+    let long = length-drop headerBytes input in
+    sym (header (take longest input) (numbersOf (drop headerBytes (take longest input))) (getD input 0 0) (getD input 1 0) (getD input 2 0) (getD input 3 0) (omega arith)
+    (sym (getD-take longest input 0 0 (omega arith))) (sym (getD-take longest input 1 0 (omega arith))) (sym (getD-take longest input 2 0 (omega arith))) (sym (getD-take longest input 3 0 (omega arith))) refl)
+    ∙ wrong-lengths (getD input 0 0) (getD input 1 0) (getD input 2 0) (getD input 3 0) (numbersOf (drop headerBytes (take longest input))) (numbersOf (drop headerBytes input))
+    (too-many (drop headerBytes (take longest input)) (omega arith)) (too-many (drop headerBytes input) (omega arith))
+    ∙ header input (numbersOf (drop headerBytes input)) (getD input 0 0) (getD input 1 0) (getD input 2 0) (getD input 3 0) (omega arith) refl refl refl refl refl

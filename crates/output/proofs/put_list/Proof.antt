@@ -1,0 +1,27 @@
+use native.Mathlib.Omega.{arith}
+use Rattle.text.proofs.Laws.{puts-more}
+use Rattle.text.specs.Text.{listedLine, rowLines}
+use borrow.Author.Needs.{needs}
+use Rattle.output.proofs.put_list.Statement.{statement}
+use Rattle.output.proofs.put_list.Tie as tie
+
+put-listed-requires : tie.Need-put-listed-requires
+put-listed-requires c κs = search needs
+
+put-rows-requires : tie.Need-put-rows-requires
+put-rows-requires c κs = search needs
+
+same-length : tie.Need-same-length
+same-length c = search needs
+
+returns : tie.Need-returns
+returns c =
+    let s = c .before .before .before .before .before .before .before .before .before .before .before in
+    let a = c .before .before .before .before .before .before .put-listed in
+    let d = c .before .before .put-rows in
+    let out = s .args .out .now in
+    puts-more out (a .last .0) (d .last .0) (listedLine (s .args .count)) (rowLines (s .args .k) (s .args .rows .now) (s .args .scores .now) (s .args .count)) 0
+    (a .result) (d .result) (omega arith) (a .ensures .0) (d .ensures)
+
+pub put-list-spec : {M : Type 1} → statement M
+put-list-spec = tie.close (tie.spec put-listed-requires put-rows-requires same-length returns)
