@@ -1,4 +1,4 @@
 pub mod Degrees
-pub mod Laws
-pub mod Facts
+pub mod Listing
+pub mod Found
 pub mod Answers

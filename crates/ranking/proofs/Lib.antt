@@ -1,5 +1,5 @@
 pub mod Levels
-pub mod Laws
+pub mod Scoring
 pub mod Written
 pub mod OneLevel
 pub mod AllLevels

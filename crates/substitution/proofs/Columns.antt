@@ -13,7 +13,7 @@ use lib.Dec.{eqb}
 use lib.ListN.{length, getD, take, drop, set, length-drop, take-append-drop, drop-of-length-le}
 use lib.Seq.{take-all, getD-take, getD-drop, drop-drop, drop-cons, take-suc, take-at, drop-at, take-set-lt, take-suc-set, drop-set-lt, append-snoc, length-take-le}
 use Rattle.algebra.proofs.Elements.{plus-symbol, times-symbol}
-use Rattle.code.proofs.Laws.{value-more, value-so-far}
+use Rattle.code.proofs.Encoding.{value-more, value-so-far}
 use Rattle.definitions.proofs.Codeword.{value-nil}
 use Rattle.definitions.proofs.Symbols.{take-symbols}
 use Rattle.definitions.specs.Code.{Symbols}

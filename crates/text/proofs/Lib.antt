@@ -1,2 +1,3 @@
-pub mod Laws
+pub mod Putting
+pub mod Reading
 pub mod Decimal

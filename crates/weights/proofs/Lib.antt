@@ -1,3 +1,3 @@
-pub mod Laws
+pub mod Weighing
 pub mod Cost
 pub mod Unique

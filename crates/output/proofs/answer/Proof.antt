@@ -4,7 +4,7 @@ use Prim.Native.Nat.{ℕ}
 use lib.ListN.{replicate, length-replicate}
 use native.Mathlib.Omega.{arith}
 use Rattle.refusals.specs.Counted.{toldCounted}
-use Rattle.output.proofs.Laws.{holds, text-is}
+use Rattle.output.proofs.AnswerText.{holds, text-is}
 use Rattle.definitions.specs.Limits.{greatestRows}
 use Rattle.output.specs.Program.{symbolsOfRows}
 use Rattle.text.specs.Text.{Puts}

@@ -2,7 +2,7 @@ use mathlib.Core.List.{List}
 use mathlib.Core.Path.{sym, _∙_, ap, subst}
 use Prim.Native.Nat.{ℕ, _-_}
 use lib.ListN.{length, take, drop, replicate}
-use Rattle.output.proofs.Laws.{no-header, header, in-front, front-within, bytes-are}
+use Rattle.output.proofs.Input.{no-header, header, in-front, front-within, bytes-are}
 use Rattle.output.specs.Program.{headerBytes}
 use Rattle.output.specs.Rooms.{numbersRead}
 use Rattle.text.specs.Text.{numbersOf, Puts}

@@ -1,6 +1,6 @@
 use mathlib.Core.List.{List}
 use Prim.Native.Nat.{ℕ}
-use Rattle.output.proofs.Laws.{refusal-text}
+use Rattle.output.proofs.AnswerText.{refusal-text}
 use Rattle.text.specs.Text.{Puts}
 use mathlib.Core.Path.{refl, subst}
 use native.Mathlib.Omega.{arith}

@@ -1,5 +1,5 @@
 use native.Mathlib.Omega.{arith}
-use Rattle.text.proofs.Laws.{puts-more}
+use Rattle.text.proofs.Putting.{puts-more}
 use Rattle.text.specs.Text.{listedLine, rowLines}
 use borrow.Author.Needs.{needs}
 use Rattle.output.proofs.put_list.Statement.{statement}

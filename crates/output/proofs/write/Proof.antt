@@ -4,10 +4,10 @@ use Prim.Native.Nat.{ℕ}
 use lib.ListN.{length, take}
 use lib.Seq.{length-take-le}
 use native.Mathlib.Omega.{arith}
-use Rattle.output.proofs.Laws.{beginning}
+use Rattle.output.proofs.Input.{beginning}
 use Rattle.output.specs.Program.{output}
 use Rattle.output.specs.Rooms.{longest}
-use Rattle.text.proofs.Laws.{puts-within}
+use Rattle.text.proofs.Putting.{puts-within}
 use Rattle.text.specs.Text.{Puts}
 use borrow.Author.Needs.{needs}
 use Rattle.output.proofs.write.Statement.{statement}

@@ -4,7 +4,7 @@ use Prim.Native.Nat.{_-_, _≤_, _<_}
 use native.Mathlib.Omega.{arith}
 use borrow.Author.Needs.{needs}
 use lib.ListN.{length, drop, length-set}
-use Rattle.code.proofs.Laws.{first-point, next-point, point-so-far, none-written, symbol-more}
+use Rattle.code.proofs.Encoding.{first-point, next-point, point-so-far, none-written, symbol-more}
 use Rattle.definitions.specs.Code.{point, codeword}
 use Rattle.definitions.specs.Field.{sixteen}
 use Rattle.code.proofs.inside.encode_into.Statement.{statement}

@@ -2,7 +2,7 @@ use mathlib.Core.Path.{_≡_}
 use Prim.Native.Nat.{ℕ, _-_, _≤_}
 use native.Mathlib.Omega.{arith}
 use lib.ListN.{length, drop}
-use Rattle.code.proofs.Laws.{empty-value, value-more, value-so-far}
+use Rattle.code.proofs.Encoding.{empty-value, value-more, value-so-far}
 use Rattle.definitions.specs.Field.{numbers, value, sixteen}
 use Rattle.code.proofs.inside.value_at.Statement.{statement}
 use Rattle.code.proofs.inside.value_at.Tie as tie

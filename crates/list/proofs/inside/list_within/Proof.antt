@@ -7,8 +7,8 @@ use Rattle.definitions.specs.Answers.{rowsOnto}
 use Rattle.definitions.specs.Bound.{bound}
 use Rattle.definitions.specs.Field.{sixteen}
 use Rattle.definitions.specs.Roots.{rootsOf}
-use Rattle.list.proofs.Facts.{degree-small, count-small, cost-cheap, bound-of-cost, interpolating, prefix, length-after}
-use Rattle.list.proofs.Laws.{few-roots, found-symbols, lists, length-found, rows-fit}
+use Rattle.list.proofs.Found.{degree-small, count-small, cost-cheap, bound-of-cost, interpolating, prefix, length-after}
+use Rattle.list.proofs.Listing.{few-roots, found-symbols, lists, length-found, rows-fit}
 use Rattle.definitions.proofs.Symbols.{replicate-symbols}
 use Rattle.definitions.specs.Limits.{greatestRows}
 use Rattle.rows.specs.Row.{width}

@@ -2,7 +2,6 @@ use borrow.Author.Tests.{lt-ltb, le-ltb}
 use mathlib.Core.Bool.{Bool, cond}
 use mathlib.Core.Path.{sym, ap}
 use Prim.Native.Nat.{_+_, _%_}
-use mathlib.Core.List.{[]}
 use borrow.Author.Needs.{needs}
 use Rattle.text.proofs.inside.digit.Statement.{statement}
 use Rattle.text.proofs.inside.digit.Tie as tie

@@ -1,10 +1,10 @@
 use mathlib.Core.Path.{_≡_, refl, _∙_}
 use Prim.Native.Nat.{_-_, _/_, _≤_}
-use mathlib.Core.List.{[], _++_, map}
+use mathlib.Core.List.{_++_, map}
 use lib.ListN.{length, drop, length-set}
 use native.Mathlib.Omega.{arith}
 use Rattle.definitions.specs.Tools.{below}
-use Rattle.text.proofs.Laws.{none-read, read-begun, read-turned, all-read}
+use Rattle.text.proofs.Reading.{none-read, read-begun, read-turned, all-read}
 use Rattle.text.specs.Text.{numberAt}
 use Rattle.text.proofs.inside.numbers.Statement.{statement}
 use Rattle.text.proofs.inside.numbers.Tie as tie

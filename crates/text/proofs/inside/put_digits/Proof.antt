@@ -6,7 +6,7 @@ use lib.ListN.{length, take, length-set}
 use native.Mathlib.Omega.{arith}
 use Rattle.memory.proofs.Laid.{laid-none}
 use Rattle.memory.specs.Laid.{laid}
-use Rattle.text.proofs.Laws.{digit-turned, digits-put}
+use Rattle.text.proofs.Putting.{digit-turned, digits-put}
 use Rattle.text.specs.Text.{hexDigit}
 use Rattle.text.proofs.inside.put_digits.Statement.{statement}
 use Rattle.text.proofs.inside.put_digits.Tie as tie

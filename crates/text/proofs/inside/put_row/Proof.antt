@@ -3,7 +3,7 @@ use mathlib.Core.List.{_++_, map}
 use Prim.Native.Nat.{_≤_}
 use lib.ListN.{length, length-map}
 use native.Mathlib.Omega.{arith}
-use Rattle.text.proofs.Laws.{puts-more}
+use Rattle.text.proofs.Putting.{puts-more}
 use Rattle.text.specs.Text.{hexDigit, decimal, scoreWord, messageWord, lineFeed}
 use borrow.Author.Needs.{needs}
 use Rattle.text.proofs.inside.put_row.Statement.{statement}

@@ -1,5 +1,5 @@
 use native.Mathlib.Omega.{arith}
-use Rattle.text.proofs.Laws.{row-put}
+use Rattle.text.proofs.Putting.{row-put}
 use borrow.Author.Needs.{needs}
 use Rattle.text.proofs.inside.put_row_of.Statement.{statement}
 use Rattle.text.proofs.inside.put_row_of.Tie as tie

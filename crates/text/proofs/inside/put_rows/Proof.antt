@@ -3,7 +3,7 @@ use Prim.Native.Nat.{_+_, _*_, _-_, _≤_}
 use lib.ListN.{length}
 use native.Mathlib.Omega.{arith}
 use Rattle.definitions.proofs.Loops.{row-within}
-use Rattle.text.proofs.Laws.{lines-begun, lines-more}
+use Rattle.text.proofs.Putting.{lines-begun, lines-more}
 use Rattle.text.specs.Rooms.{longestRowRoom}
 use Rattle.text.specs.Text.{rowLines, Puts}
 use Rattle.text.proofs.inside.put_rows.Statement.{statement}

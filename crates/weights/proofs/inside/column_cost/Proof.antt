@@ -1,6 +1,6 @@
 use Rattle.definitions.proofs.Loops.{sum-none, sum-more}
 use Rattle.definitions.specs.Weights.{entryCost}
-use Rattle.weights.proofs.Laws.{cost-fits}
+use Rattle.weights.proofs.Weighing.{cost-fits}
 use mathlib.Core.Path.{_≡_, refl, sym, _∙_, ap}
 use Prim.Native.Nat.{ℕ, _+_, _*_, _-_, _/_, _≤_, _<_}
 use lib.ListN.{getD}

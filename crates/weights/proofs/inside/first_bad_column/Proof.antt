@@ -4,7 +4,7 @@ use Prim.Native.Nat.{ℕ, suc, _+_, _*_, _-_, _≤_, _<_}
 use native.Mathlib.Nat.{not-suc-le-zero}
 use Rattle.definitions.specs.Field.{sixteen}
 use Rattle.definitions.specs.Refusals.{badColumn}
-use Rattle.weights.proofs.Laws.{column-found, column-passed, no-column}
+use Rattle.weights.proofs.Weighing.{column-found, column-passed, no-column}
 use native.Mathlib.Omega.{arith}
 use Rattle.weights.proofs.inside.first_bad_column.Statement.{statement}
 use Rattle.weights.proofs.inside.first_bad_column.Tie as tie

@@ -1,6 +1,6 @@
 use mathlib.Core.Path.{_≡_, refl, sym, _∙_, ap}
 use Prim.Native.Nat.{ℕ, suc, _+_, _*_, _-_, _≤_, _<_}
-use Rattle.weights.proofs.Laws.{none-loaded, column-more}
+use Rattle.weights.proofs.Weighing.{none-loaded, column-more}
 use Rattle.weights.specs.Matrix.{zeroColumns, matrixOf}
 use native.Mathlib.Omega.{arith}
 use Rattle.weights.proofs.inside.load.Statement.{statement}

@@ -1,5 +1,5 @@
 use lib.Seq.{take-length}
-use Rattle.weights.proofs.Laws.{multiplicity-more}
+use Rattle.weights.proofs.Weighing.{multiplicity-more}
 use mathlib.Core.Path.{_≡_, refl, sym, _∙_, ap}
 use Prim.Native.Nat.{ℕ, _+_, _*_, _-_, _/_, _≤_, _<_}
 use mathlib.Core.List.{_++_}

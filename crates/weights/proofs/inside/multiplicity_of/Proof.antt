@@ -1,5 +1,5 @@
 use Rattle.definitions.specs.Weights.{multiplicity}
-use Rattle.weights.proofs.Laws.{level-fits}
+use Rattle.weights.proofs.Weighing.{level-fits}
 use mathlib.Core.Path.{_≡_, refl, sym, _∙_, ap}
 use Prim.Native.Nat.{ℕ, _+_, _*_, _-_, _/_, _≤_, _<_}
 use native.Mathlib.Omega.{arith}

@@ -1,22 +1,18 @@
 -- Texts that are put one behind the other.
 -- Assumes nothing.
-use mathlib.Core.Bool.{Bool, cond}
 use mathlib.Core.List.{List, [], _++_, map}
 use mathlib.Core.Path.{_≡_, refl, sym, _∙_, ap, subst}
-use Prim.Native.Nat.{ℕ, suc, _+_, _*_, _-_, _/_, _%_, _≤_, _<_}
+use Prim.Native.Nat.{ℕ, suc, _+_, _*_, _-_, _≤_, _<_}
 use native.Mathlib.Numerals.{add-one}
 use native.Mathlib.Omega.{arith}
-use borrow.Author.Tests.{eq-eqb, ne-eqb}
 use lib.ListN.{length, take, drop, getD, set, length-append, length-drop, length-map}
 use lib.Seq.{length-take-le, take-all}
-use Rattle.definitions.proofs.Loops.{map-more}
-use Rattle.definitions.proofs.Tools.{below-zero, length-map-below, map-at}
+use Rattle.definitions.proofs.Tools.{map-at}
 use Rattle.definitions.specs.Field.{sixteen}
-use Rattle.definitions.specs.Tools.{below}
 use Rattle.memory.proofs.Laid.{length-laid, laid-none, laid-turned, laid-behind, laid-within}
 use Rattle.memory.specs.Laid.{laid}
 use Rattle.text.specs.Rooms.{rowRoom, longestRowRoom}
-use Rattle.text.specs.Text.{Puts, numberAt, numbersOf, hexDigit, rowLine, lineOf, rowLines}
+use Rattle.text.specs.Text.{Puts, hexDigit, rowLine, lineOf, rowLines}
 
 -- words that are laid are put
 pub puts : (out after words : List ℕ) (at : ℕ) → at + length words ≤ length out → after ≡ laid out at words → Puts out at words (at + length words) after
@@ -47,28 +43,6 @@ puts-more out middle after u w at end last h p q =
       q .1 ∙ p .1,
       q .2 ∙ ap (λ (m : List ℕ). laid m end w) (p .2) ∙ laid-behind out at u w end h e,
     )
-
--- a loop that reads one number after the other: bytes that give none, a turn, and its end
-module _ (bytes out : List ℕ) where
-  pub none-read : (length bytes % 2 ≡ 0 → ⊥) → (0 ≡ length (numbersOf bytes)) × (out ≡ numbersOf bytes ++ drop (length (numbersOf bytes)) out)
-  none-read odd =
-      let none : numbersOf bytes ≡ [] = ap (λ (b : Bool). cond b (map (numberAt bytes) (below (length bytes / 2))) []) (ne-eqb (length bytes % 2) 0 odd) in
-      rw none (refl, refl)
-
-  pub read-begun : out ≡ map (numberAt bytes) (below 0) ++ drop 0 out
-  read-begun = ap (λ (l : List ℕ). map (numberAt bytes) l ++ out) (sym below-zero)
-
-  pub read-turned : (now : List ℕ) (i x : ℕ) → i < length out → now ≡ map (numberAt bytes) (below i) ++ drop i out → x ≡ numberAt bytes i
-      → set now i x ≡ map (numberAt bytes) (below (i + 1)) ++ drop (i + 1) out
-  read-turned now i x h e ex = map-more (numberAt bytes) out now i x h e ex
-
-  pub all-read : (now : List ℕ) (i : ℕ) → length bytes % 2 ≡ 0 → i ≡ length bytes / 2 → now ≡ map (numberAt bytes) (below i) ++ drop i out
-      → (length bytes / 2 ≡ length (numbersOf bytes)) × (now ≡ numbersOf bytes ++ drop (length (numbersOf bytes)) out)
-  all-read now i even ei e =
-      let all : numbersOf bytes ≡ map (numberAt bytes) (below (length bytes / 2)) =
-      ap (λ (b : Bool). cond b (map (numberAt bytes) (below (length bytes / 2))) []) (eq-eqb (length bytes % 2) 0 even) in
-      let size : length (map (numberAt bytes) (below (length bytes / 2))) ≡ length bytes / 2 = length-map-below (numberAt bytes) (length bytes / 2) in
-      rw (all, size) (refl, e ∙ ap (λ (n : ℕ). map (numberAt bytes) (below n) ++ drop n out) ei)
 
 -- the lines of rows: no row, and one row more
 module _ (k : ℕ) (rows scores : List ℕ) where
