@@ -1,7 +1,6 @@
 -- The y-roots of a polynomial that passes hold every message whose score is above its degree limit: a list of high scores is the same,
 -- taken from the roots or from all messages. The polynomial may be anybody's.
 -- Assumes nothing.
-use mathlib.Core.Bool.{true}
 use mathlib.Core.List.{List}
 use mathlib.Core.Path.{_≡_}
 use Prim.Native.Nat.{ℕ, _-_, _≤_, _<_}

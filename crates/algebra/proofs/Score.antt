@@ -8,7 +8,7 @@ use native.Mathlib.Omega.{arith}
 use lib.ListN.{length, length-map, getD}
 use Rattle.definitions.proofs.Codeword.{codeword-at}
 use Rattle.definitions.proofs.Tools.{sum-ext}
-use Rattle.definitions.specs.Code.{Symbols, point, codeword}
+use Rattle.definitions.specs.Code.{Symbols, codeword}
 use Rattle.definitions.specs.Field.{Ops, Code, numbers, value}
 use Rattle.definitions.specs.Polynomial.{monomials, Through}
 use Rattle.definitions.specs.Roots.{isRoot}

@@ -1,10 +1,10 @@
 -- Sums taken apart: in two, in blocks of equal size, and without a tail of zeros.
 -- Assumes nothing.
-use mathlib.Core.Path.{_≡_, sym, _∙_, ap, ap₂}
-use Prim.Native.Nat.{ℕ, zero, suc, _+_, _*_, _-_, _≤_, _<_}
-use native.Mathlib.Nat.{add-zero, add-suc, mul-zero, mul-suc, add-assoc}
+use mathlib.Core.Path.{_≡_, sym, _∙_, ap}
+use Prim.Native.Nat.{ℕ, zero, suc, _+_, _*_, _-_, _≤_}
+use native.Mathlib.Nat.{add-zero, add-suc, mul-zero, mul-suc}
 use native.Mathlib.Omega.{arith}
-use Rattle.definitions.proofs.Tools.{sum-zero, sum-suc, sum-ext}
+use Rattle.definitions.proofs.Tools.{sum-zero, sum-suc}
 use Rattle.definitions.specs.Tools.{sum}
 
 pub sum-append : (m n : ℕ) (f : ℕ → ℕ) → sum (m + n) f ≡ sum m f + sum n (λ j. f (m + j))

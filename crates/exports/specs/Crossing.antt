@@ -1,6 +1,6 @@
 -- The numbers of an answer as they cross to C.
 -- Assumes nothing.
-use Prim.Native.Nat.{ℕ, _<_}
+use Prim.Native.Nat.{_<_}
 use Rattle.definitions.specs.Answers.{Answer}
 use Rattle.exports.specs.declared.Answer as crossing
 

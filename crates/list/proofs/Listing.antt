@@ -1,14 +1,12 @@
 -- The chain of the list: the roots of what interpolates hold the high scores, their rows are ranked, and that is the list.
 -- Assumes nothing.
-use mathlib.Core.Bool.{false}
 use mathlib.Core.List.{List, [], _∷_, _++_, map, flatten, List·Memᴰ}
 use mathlib.Core.Path.{_≡_, sym, _∙_, ap, subst}
-use Prim.Native.Nat.{ℕ, _+_, _*_, _-_, _/_, _≤_, _<_}
-use native.Mathlib.Decide.{decLt}
+use Prim.Native.Nat.{ℕ, _+_, _*_, _-_, _/_, _≤_}
 use native.Mathlib.Nat.{mul-le-mul}
 use native.Mathlib.Omega.{arith}
 use lib.Dec.{ltb}
-use lib.ListN.{length, take, drop, getD, length-append, length-drop}
+use lib.ListN.{length, drop, length-append, length-drop}
 use Rattle.algebra.proofs.Complete.{roots-hold-high-scores}
 use Rattle.algebra.proofs.Elements.{zero-symbol}
 use Rattle.algebra.proofs.Every.{All, all-members, length-flatten}
@@ -16,13 +14,13 @@ use Rattle.definitions.proofs.Listing.{falling-in-order}
 use Rattle.definitions.proofs.Messages.{messages-in-order}
 use Rattle.definitions.proofs.Symbols.{append-symbols, drop-symbols}
 use Rattle.definitions.proofs.Tools.{select-from, length-select}
-use Rattle.definitions.specs.Answers.{rowsOnto, scoresOnto}
+use Rattle.definitions.specs.Answers.{rowsOnto}
 use Rattle.definitions.specs.Bound.{count, bound}
 use Rattle.definitions.specs.Code.{Symbols, messages}
 use Rattle.definitions.specs.Field.{sixteen}
 use Rattle.definitions.specs.Limits.{greatestLimit, greatestRows}
 use Rattle.definitions.specs.Listing.{fallingOnto, listOf}
-use Rattle.definitions.specs.Polynomial.{Interpolates, isZero}
+use Rattle.definitions.specs.Polynomial.{Interpolates}
 use Rattle.definitions.specs.Roots.{isRoot, rootsOf}
 use Rattle.definitions.specs.Tools.{select}
 use Rattle.definitions.specs.Weights.{cost, score}

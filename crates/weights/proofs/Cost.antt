@@ -1,11 +1,11 @@
 -- The cost of a matrix that is held by value is the cost of the bytes that it is lent as.
 -- Assumes nothing.
-use mathlib.Core.List.{List, [], _++_, map}
+use mathlib.Core.List.{List, [], map}
 use mathlib.Core.Path.{_≡_, sym, _∙_, ap}
 use Prim.Native.Nat.{ℕ, _+_, _*_, _-_, _≤_, _<_}
 use native.Mathlib.Decide.{decLt}
 use native.Mathlib.Omega.{arith}
-use lib.ListN.{length, take, drop, getD, replicate, List·getD-append, List·getD-eq-default, getD-replicate}
+use lib.ListN.{length, drop, getD, replicate, List·getD-append, List·getD-eq-default, getD-replicate}
 use lib.Seq.{getD-take, getD-drop, getD-append-add}
 use Rattle.definitions.proofs.Sums.{sum-blocks, sum-tail}
 use Rattle.definitions.proofs.Tools.{length-map-below, map-below-at, sum-ext}

@@ -1,6 +1,5 @@
 -- The loop has passed degrees with too few monomials.
-use mathlib.Core.Path.{_≡_, refl, sym, _∙_, ap}
-use Prim.Native.Nat.{ℕ, suc, _+_, _*_, _-_, _≤_, _<_}
+use Prim.Native.Nat.{ℕ, suc, _-_, _≤_, _<_}
 use native.Mathlib.Nat.{not-suc-le-zero}
 use Rattle.definitions.specs.Bound.{count}
 use Rattle.bound.proofs.Degrees.{degree-found, degree-passed}

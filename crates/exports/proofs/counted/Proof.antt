@@ -1,3 +1,4 @@
+-- Each case of the answer crosses field by field.
 use mathlib.Core.Path.{sym, _∙_, ap}
 use Rattle.refusals.specs.Counted.{toldCounted}
 use Rattle.definitions.specs.Answers.{counted}

@@ -1,3 +1,4 @@
+-- Each case of the answer crosses field by field.
 use mathlib.Core.Path.{sym, _∙_, ap}
 use Rattle.field.specs.Element.{toldElement}
 use borrow.Author.Needs.{needs}

@@ -1,3 +1,4 @@
+-- Each case of the answer crosses field by field.
 use mathlib.Core.Path.{sym, _∙_, ap, ap₂}
 use Rattle.definitions.specs.Answers.{interpolated}
 use Rattle.interpolation.specs.Interpolated.{toldInterpolated}

@@ -1,3 +1,4 @@
+-- The entry's answer crosses as it is: each of its numbers fits.
 use Rattle.exports.proofs.Fits.{interpolation-narrow}
 use borrow.Author.Needs.{needs}
 use Rattle.exports.proofs.kv_interpolate.Statement.{statement}

@@ -1,3 +1,4 @@
+-- The entry's answer crosses as it is: each of its numbers fits.
 use mathlib.Core.Path.{_∙_}
 use Rattle.exports.proofs.Fits.{roots-narrow}
 use borrow.Author.Needs.{needs}

@@ -1,3 +1,4 @@
+-- An operand that is no symbol is refused; the product of two symbols is looked up.
 use mathlib.Core.Path.{_∙_, ap}
 use native.Mathlib.Omega.{arith}
 use Rattle.definitions.proofs.Table.{gives, accepts}

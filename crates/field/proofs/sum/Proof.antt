@@ -1,3 +1,4 @@
+-- An operand that is no symbol is refused; the sum of two symbols is taken bit by bit.
 use mathlib.Core.Path.{_∙_, ap}
 use native.Mathlib.Omega.{arith}
 use Rattle.definitions.proofs.Table.{gives, accepts}

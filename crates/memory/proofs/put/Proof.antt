@@ -1,7 +1,6 @@
 -- After j turns the first j bytes of the part are laid, and each turn lays one more.
 use mathlib.Core.Path.{_≡_, refl, _∙_, ap}
 use Prim.Native.Nat.{ℕ, _+_, _-_, _≤_}
-use mathlib.Core.List.{List}
 use lib.ListN.{length, take, getD, length-set}
 use lib.Seq.{take-length}
 use native.Mathlib.Omega.{arith}

@@ -1,3 +1,4 @@
+-- The list's answer and its memory give the text that the page says.
 use mathlib.Core.List.{List}
 use mathlib.Core.Path.{subst}
 use Prim.Native.Nat.{ℕ}

@@ -1,3 +1,4 @@
+-- The numbers behind the header are read, and the list of them is answered.
 use mathlib.Core.List.{List}
 use mathlib.Core.Path.{sym, _∙_, ap, subst}
 use Prim.Native.Nat.{ℕ, _-_}

@@ -1,3 +1,4 @@
+-- A list's text, or a refusal's line.
 use mathlib.Core.List.{List}
 use Prim.Native.Nat.{ℕ}
 use Rattle.output.proofs.AnswerText.{refusal-text}

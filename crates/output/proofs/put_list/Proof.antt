@@ -1,3 +1,4 @@
+-- The lines of the rows are put behind the line of the count.
 use native.Mathlib.Omega.{arith}
 use Rattle.text.proofs.Putting.{puts-more}
 use Rattle.text.specs.Text.{listedLine, rowLines}

@@ -1,3 +1,4 @@
+-- What is too long is answered as its beginning is.
 use mathlib.Core.List.{List}
 use mathlib.Core.Path.{_≡_, sym, subst}
 use Prim.Native.Nat.{ℕ}

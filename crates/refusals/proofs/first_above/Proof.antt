@@ -1,3 +1,4 @@
+-- What is left of the list gives the first place of the whole.
 use mathlib.Core.Path.{_≡_}
 use Prim.Native.Nat.{_+_, _-_, _≤_}
 use native.Mathlib.Omega.{arith}

@@ -1,7 +1,7 @@
 -- A degree of 256 or more has too many monomials, so the first chain refuses as the table does; the second tries the lines that are left.
 use mathlib.Core.Bool.{Bool, not}
 use mathlib.Core.List.{List, [], _∷_}
-use mathlib.Core.Path.{_≡_, _∙_, ap}
+use mathlib.Core.Path.{_∙_, ap}
 use Prim.Native.Nat.{ℕ, _*_, _-_, _/_, _≤_, _<_}
 use borrow.Author.Tests.{lt-ltb, leb-true, leb-false}
 use native.Mathlib.Omega.{arith}
@@ -14,7 +14,7 @@ use Rattle.definitions.specs.Field.{sixteen}
 use Rattle.definitions.specs.Limits.{greatestCount}
 use Rattle.definitions.specs.Refusals.{Line, line, size, degree, entries, room, symbols, zeroes, rootsTable}
 use Rattle.refusals.proofs.Chain.{Came, start, _▸_, all-tried, accepted, given, front-passes}
-use Rattle.refusals.specs.Checked.{Outcome, passed, refusedAt, orLine, toldChecked}
+use Rattle.refusals.specs.Checked.{passed, refusedAt, orLine, toldChecked}
 use borrow.Author.Needs.{needs}
 use Rattle.roots.proofs.checked.Statement.{statement}
 use Rattle.roots.proofs.checked.Tie as tie

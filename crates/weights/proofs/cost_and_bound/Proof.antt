@@ -1,5 +1,5 @@
 -- The chain tries the lines of the table; the cost and the bound of the columns of what passes are those of its bytes.
-use mathlib.Core.List.{List, [], _∷_}
+use mathlib.Core.List.{List, []}
 use mathlib.Core.Path.{_≡_, _∙_, ap, ap₂}
 use Prim.Native.Nat.{ℕ, _*_, _-_, _≤_}
 use native.Mathlib.Omega.{arith}
@@ -9,7 +9,7 @@ use Rattle.definitions.specs.Answers.{refused, costed}
 use Rattle.definitions.specs.Bound.{bound}
 use Rattle.definitions.specs.Field.{sixteen}
 use Rattle.definitions.specs.Limits.{greatestLevel}
-use Rattle.definitions.specs.Refusals.{Line, costTable}
+use Rattle.definitions.specs.Refusals.{costTable}
 use Rattle.definitions.specs.Weights.{cost}
 use Rattle.refusals.proofs.Chain.{Came, start, _▸_, accepted, answers, goes-on}
 use Rattle.refusals.specs.Checked.{toldChecked}

@@ -1,3 +1,4 @@
+-- The loop has written the first i symbols of the codeword; x is the point of position i.
 use mathlib.Core.List.{_++_}
 use mathlib.Core.Path.{_≡_, refl, _∙_}
 use Prim.Native.Nat.{_-_, _≤_, _<_}

@@ -1,5 +1,6 @@
+-- Horner's rule: y is the value of the coefficients from j on.
 use mathlib.Core.Path.{_≡_}
-use Prim.Native.Nat.{ℕ, _-_, _≤_}
+use Prim.Native.Nat.{_≤_}
 use native.Mathlib.Omega.{arith}
 use lib.ListN.{length, drop}
 use Rattle.code.proofs.Encoding.{empty-value, value-more, value-so-far}

@@ -1,3 +1,4 @@
+-- Each way out is one case of the first number above.
 use Rattle.field.proofs.Operands.{first-is-bad, second-is-bad, none-is-bad}
 use Rattle.field.proofs.inside.first_bad.Statement.{statement}
 use Rattle.field.proofs.inside.first_bad.Tie as tie

@@ -1,3 +1,4 @@
+-- The entry's place lies within the table, whose rule says what stands there.
 use mathlib.Core.Path.{ap₂, _∙_}
 use Prim.Native.Nat.{ℕ, _+_, _*_}
 use lib.ListN.{getD}

@@ -1,3 +1,4 @@
+-- The rule of the table is computed once, over all 256 entries.
 use Rattle.algebra.proofs.Tests.{every}
 use Rattle.definitions.specs.Field.{sumOf, double, shifted}
 use Rattle.field.proofs.Tables.{products-right}

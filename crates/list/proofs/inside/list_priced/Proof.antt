@@ -1,6 +1,5 @@
 -- The cost of the columns is that of the bytes: it is refused, or the list is made.
 use mathlib.Core.Path.{_≡_}
-use Prim.Native.Nat.{_≤_, _<_}
 use native.Mathlib.Omega.{arith}
 use Rattle.definitions.specs.Weights.{cost}
 use Rattle.list.proofs.Answers.{refused-by-cost, listed}

@@ -1,3 +1,4 @@
+-- The length is compared with the product by division.
 use mathlib.Core.Bool.{Bool, not}
 use mathlib.Core.Path.{_∙_, ap}
 use Rattle.definitions.specs.Refusals.{line}

@@ -1,3 +1,4 @@
+-- By cases of what the lines so far give, and of the test.
 use borrow.Author.Needs.{needs}
 use Rattle.refusals.proofs.Checked.or.Statement.{statement}
 use Rattle.refusals.proofs.Checked.or.Tie as tie

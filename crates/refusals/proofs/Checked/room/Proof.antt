@@ -1,3 +1,4 @@
+-- The room is compared with the product by division.
 use mathlib.Core.Bool.{Bool}
 use mathlib.Core.Path.{_∙_, ap}
 use Rattle.definitions.specs.Refusals.{line}

@@ -1,3 +1,4 @@
+-- The loop has passed zeros only.
 use mathlib.Core.Path.{_≡_, refl}
 use Prim.Native.Nat.{_-_, _≤_}
 use lib.ListN.{length, drop}

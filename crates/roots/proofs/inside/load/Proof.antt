@@ -1,3 +1,4 @@
+-- The loop has loaded the coefficients of all degrees below d.
 use native.Mathlib.Nat.{mul-le-mul-right}
 use mathlib.Core.Path.{_≡_, refl}
 use Prim.Native.Nat.{_+_, _-_, _*_, _/_, _≤_}

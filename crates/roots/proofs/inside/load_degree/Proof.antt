@@ -1,3 +1,4 @@
+-- The loop has loaded the first b coefficients of the degree.
 use mathlib.Core.Path.{_≡_, refl, _∙_}
 use Prim.Native.Nat.{_+_, _-_, _*_, _/_, _≤_}
 use lib.ListN.{length, getD, take, drop, length-set}

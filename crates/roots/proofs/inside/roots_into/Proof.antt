@@ -1,3 +1,4 @@
+-- The search finds the rows of all roots, k symbols each.
 use Prim.Native.Nat.{_+_, _-_, _/_}
 use native.Mathlib.Omega.{arith}
 use lib.ListN.{length}

@@ -1,3 +1,4 @@
+-- The loop has copied the first b entries of the column.
 use mathlib.Core.Path.{_≡_, refl}
 use Prim.Native.Nat.{_-_, _≤_}
 use lib.ListN.{take, drop}

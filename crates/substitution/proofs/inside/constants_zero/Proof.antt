@@ -1,3 +1,4 @@
+-- What is left of the constants gives the whole test.
 use mathlib.Core.Path.{_≡_}
 use Prim.Native.Nat.{_-_, _≤_}
 use Rattle.root_tree.proofs.Arrays.{place-within}

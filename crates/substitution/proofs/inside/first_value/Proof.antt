@@ -1,3 +1,4 @@
+-- Horner's rule: y is the value of the coefficients from b on.
 use mathlib.Core.Path.{_≡_}
 use Prim.Native.Nat.{_≤_}
 use lib.ListN.{take, drop}

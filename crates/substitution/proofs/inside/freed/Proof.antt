@@ -1,3 +1,4 @@
+-- The first entry that is not zero tells how many columns go; the rest moves to the front.
 use mathlib.Core.Path.{_≡_, sym, subst}
 use mathlib.Core.List.{_++_}
 use Prim.Native.Nat.{ℕ, _-_, _*_, _/_}

@@ -1,3 +1,4 @@
+-- The loop has laid the first b entries of the column, or as many as there is room for.
 use native.Mathlib.Nat.{mul-le-mul-left}
 use mathlib.Core.Path.{_≡_, refl, _∙_, subst}
 use Prim.Native.Nat.{ℕ, _+_, _-_, _*_, _≤_}

@@ -1,3 +1,4 @@
+-- The loop has copied the first i of the entries that move to the front.
 use mathlib.Core.Path.{_≡_, refl}
 use Prim.Native.Nat.{_-_, _≤_}
 use lib.ListN.{take, drop}

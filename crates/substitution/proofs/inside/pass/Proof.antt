@@ -1,3 +1,4 @@
+-- What is left of the pass, from b down, gives the whole pass.
 use mathlib.Core.Path.{_≡_, refl, _∙_}
 use Prim.Native.Nat.{_+_, _-_}
 use lib.Bits.{bitXor}

@@ -1,3 +1,4 @@
+-- The loop has shifted the column from b on; what lies before b still waits.
 use mathlib.Core.Path.{_≡_, refl}
 use mathlib.Core.List.{_++_}
 use Prim.Native.Nat.{_≤_}

@@ -1,3 +1,4 @@
+-- Each way out is one case of the page's digit.
 use borrow.Author.Tests.{lt-ltb, le-ltb}
 use mathlib.Core.Bool.{Bool, cond}
 use mathlib.Core.Path.{sym, ap}

@@ -1,3 +1,4 @@
+-- The loop has read the first i numbers; an odd byte left over gives none.
 use mathlib.Core.Path.{_≡_, refl, _∙_}
 use Prim.Native.Nat.{_-_, _/_, _≤_}
 use mathlib.Core.List.{_++_, map}

@@ -1,3 +1,4 @@
+-- The kit's decimal digits are the page's, and they are laid in place.
 use Prim.Native.Nat.{_≤_}
 use native.Mathlib.Omega.{arith}
 use Rattle.text.proofs.Decimal.{twenty, decimal-put}

@@ -1,3 +1,4 @@
+-- Three parts are put one behind the other.
 use mathlib.Core.List.{_++_}
 use Prim.Native.Nat.{_≤_}
 use lib.ListN.{length}

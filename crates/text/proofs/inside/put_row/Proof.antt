@@ -1,3 +1,4 @@
+-- Five parts are put one behind the other.
 use mathlib.Core.Path.{_≡_}
 use mathlib.Core.List.{_++_, map}
 use Prim.Native.Nat.{_≤_}

@@ -1,3 +1,4 @@
+-- The part that is lent is the row, and its line is put.
 use native.Mathlib.Omega.{arith}
 use Rattle.text.proofs.Putting.{row-put}
 use borrow.Author.Needs.{needs}

@@ -1,3 +1,4 @@
+-- The loop has put the lines of the first j rows, none longer than a line may be.
 use mathlib.Core.Path.{_≡_}
 use Prim.Native.Nat.{_+_, _*_, _-_, _≤_}
 use lib.ListN.{length}

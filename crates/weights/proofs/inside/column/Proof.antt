@@ -1,6 +1,7 @@
+-- The loop has copied the first b entries of the column.
 use Rattle.definitions.proofs.Loops.{copied-more}
-use mathlib.Core.Path.{_≡_, refl, sym, _∙_, ap}
-use Prim.Native.Nat.{ℕ, _+_, _*_, _-_, _/_, _≤_, _<_}
+use mathlib.Core.Path.{_≡_, refl}
+use Prim.Native.Nat.{_*_, _-_, _≤_}
 use mathlib.Core.List.{_++_, append-nil}
 use lib.ListN.{take, drop, replicate}
 use native.Mathlib.Omega.{arith}

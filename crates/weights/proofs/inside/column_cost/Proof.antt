@@ -1,8 +1,9 @@
+-- The loop has added up the costs of the first b entries.
 use Rattle.definitions.proofs.Loops.{sum-none, sum-more}
 use Rattle.definitions.specs.Weights.{entryCost}
 use Rattle.weights.proofs.Weighing.{cost-fits}
-use mathlib.Core.Path.{_≡_, refl, sym, _∙_, ap}
-use Prim.Native.Nat.{ℕ, _+_, _*_, _-_, _/_, _≤_, _<_}
+use mathlib.Core.Path.{_≡_, ap}
+use Prim.Native.Nat.{ℕ, _*_, _-_, _≤_}
 use lib.ListN.{getD}
 use Rattle.definitions.specs.Tools.{sum}
 use native.Mathlib.Omega.{arith}

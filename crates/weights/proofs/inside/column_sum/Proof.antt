@@ -1,6 +1,7 @@
+-- The loop has added up the first b reliabilities of the column.
 use Rattle.definitions.proofs.Loops.{sum-none, sum-more}
-use mathlib.Core.Path.{_≡_, refl, sym, _∙_, ap}
-use Prim.Native.Nat.{ℕ, _+_, _*_, _-_, _/_, _≤_, _<_}
+use mathlib.Core.Path.{_≡_}
+use Prim.Native.Nat.{_*_, _-_, _≤_}
 use Rattle.definitions.specs.Field.{sixteen}
 use Rattle.definitions.specs.Tools.{sum}
 use Rattle.definitions.specs.Weights.{entry}

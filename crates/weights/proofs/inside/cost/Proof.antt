@@ -1,6 +1,7 @@
+-- The loop has added up the costs of the first i columns.
 use mathlib.Core.List.{[]}
-use mathlib.Core.Path.{_≡_, refl, sym, _∙_, ap}
-use Prim.Native.Nat.{ℕ, suc, _+_, _*_, _-_, _≤_, _<_}
+use mathlib.Core.Path.{_≡_}
+use Prim.Native.Nat.{ℕ, _*_, _-_, _≤_}
 use lib.ListN.{getD}
 use Rattle.definitions.proofs.Loops.{sum-none, sum-more}
 use Rattle.definitions.specs.Tools.{sum}

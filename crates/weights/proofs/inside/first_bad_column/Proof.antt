@@ -1,6 +1,7 @@
+-- The loop has passed good columns only.
 use mathlib.Core.Bool.{false}
-use mathlib.Core.Path.{_≡_, refl, sym, _∙_, ap}
-use Prim.Native.Nat.{ℕ, suc, _+_, _*_, _-_, _≤_, _<_}
+use mathlib.Core.Path.{_≡_}
+use Prim.Native.Nat.{ℕ, _-_, _≤_, _<_}
 use native.Mathlib.Nat.{not-suc-le-zero}
 use Rattle.definitions.specs.Field.{sixteen}
 use Rattle.definitions.specs.Refusals.{badColumn}

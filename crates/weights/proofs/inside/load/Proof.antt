@@ -1,5 +1,6 @@
-use mathlib.Core.Path.{_≡_, refl, sym, _∙_, ap}
-use Prim.Native.Nat.{ℕ, suc, _+_, _*_, _-_, _≤_, _<_}
+-- The loop has loaded the columns of the first i positions.
+use mathlib.Core.Path.{_≡_}
+use Prim.Native.Nat.{_-_, _≤_}
 use Rattle.weights.proofs.Weighing.{none-loaded, column-more}
 use Rattle.weights.specs.Matrix.{zeroColumns, matrixOf}
 use native.Mathlib.Omega.{arith}

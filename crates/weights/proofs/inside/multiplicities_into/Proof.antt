@@ -1,7 +1,8 @@
+-- The loop has written the first i multiplicities.
 use lib.Seq.{take-length}
 use Rattle.weights.proofs.Weighing.{multiplicity-more}
-use mathlib.Core.Path.{_≡_, refl, sym, _∙_, ap}
-use Prim.Native.Nat.{ℕ, _+_, _*_, _-_, _/_, _≤_, _<_}
+use mathlib.Core.Path.{_≡_, refl, _∙_}
+use Prim.Native.Nat.{_-_, _≤_, _<_}
 use mathlib.Core.List.{_++_}
 use lib.ListN.{length, take, drop, length-set}
 use Rattle.definitions.specs.Weights.{matrix}

@@ -1,7 +1,7 @@
+-- The product fits, and its quotient fits a byte.
 use Rattle.definitions.specs.Weights.{multiplicity}
 use Rattle.weights.proofs.Weighing.{level-fits}
-use mathlib.Core.Path.{_≡_, refl, sym, _∙_, ap}
-use Prim.Native.Nat.{ℕ, _+_, _*_, _-_, _/_, _≤_, _<_}
+use mathlib.Core.Path.{ap}
 use native.Mathlib.Omega.{arith}
 use borrow.Author.Needs.{needs}
 use Rattle.weights.proofs.inside.multiplicity_of.Statement.{statement}

@@ -1,6 +1,6 @@
 -- The loop holds the columns of the first i positions of the matrix.
-use mathlib.Core.Path.{_≡_, refl, sym, _∙_, ap}
-use Prim.Native.Nat.{ℕ, suc, _+_, _*_, _-_, _≤_, _<_}
+use mathlib.Core.Path.{_≡_}
+use Prim.Native.Nat.{_-_, _≤_}
 use Rattle.definitions.specs.Weights.{matrix}
 use Rattle.weights.proofs.Weighing.{none-loaded, column-more}
 use Rattle.weights.specs.Matrix.{zeroColumns, matrixOf}
