@@ -41,7 +41,7 @@ pub fn list_within(
     interpolation::inside::polynomial(matrix, v, bound, count, &mut polynomial);
     let mut found = [0u8; GREATEST_ROWS * POSITIONS];
     let many = roots::inside::roots_into(bound, k, &polynomial[..count], &mut found);
-    ranking::inside::ranked(matrix, n, k, narrow(bound), &found, many, rows, scores)
+    ranking::ranked(matrix, n, k, narrow(bound), &found, many, rows, scores)
 }
 
 // The list, where the matrix costs no more than the limit.

@@ -32,8 +32,8 @@ fn put_list(out: &mut [u8], k: usize, count: usize, rows: &[u8], scores: &[u16])
     requires { ⌜ (k ≤ sixteen .positions) × (count ≤ greatestRows) × (k * count ≤ length (now rows)) × (count ≤ length (now scores)) × (answerRoom ≤ length (now out)) ⌝ }
     ensures { λ r. ⌜ Puts (now (out .entry)) 0 (listedLine count ++ rowLines k (now (rows .entry)) (now (scores .entry)) count) r (now (out .exit)) ⌝ }
 {
-    let end = text::inside::put_listed(out, 0, count);
-    text::inside::put_rows(out, end, k, count, rows, scores)
+    let end = text::put_listed(out, 0, count);
+    text::put_rows(out, end, k, count, rows, scores)
 }
 
 fn put_answer(out: &mut [u8], k: usize, answer: Counted, rows: &[u8], scores: &[u16]) -> usize
@@ -43,7 +43,7 @@ fn put_answer(out: &mut [u8], k: usize, answer: Counted, rows: &[u8], scores: &[
 {
     match answer {
         Counted::Count(count) => put_list(out, k, count, rows, scores),
-        Counted::Refused(r) => text::inside::put_refused(out, 0, r.number(), r.place()),
+        Counted::Refused(r) => text::put_refused(out, 0, r.number(), r.place()),
     }
 }
 
@@ -78,14 +78,14 @@ fn answer_to(input: &[u8], out: &mut [u8]) -> usize
     ensures { λ r. ⌜ Puts (now (out .entry)) 0 (output (now (input .entry))) r (now (out .exit)) ⌝ }
 {
     if input.len() < HEADER {
-        return text::inside::put_refused(out, 0, 3, 0);
+        return text::put_refused(out, 0, 3, 0);
     }
     let n = field::inside::wide(input[0]);
     let k = field::inside::wide(input[1]);
     let level = field::inside::wide(input[2]);
     let limit = field::inside::wide(input[3]);
     let mut numbers = [0u16; NUMBERS];
-    let count = text::inside::numbers(&input[HEADER..], &mut numbers);
+    let count = text::numbers(&input[HEADER..], &mut numbers);
     answer(n, k, level, limit, &numbers[..count], out)
 }
 

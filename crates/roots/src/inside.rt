@@ -84,7 +84,7 @@ fn search(
     ensures { λ _. ⌜ now (out .exit) ≡ laid (now (out .entry)) at (rowsAfter (take (k - left) row) (search sixteen left (polynomial h (degree + 1) p))) ⌝ }
 {
     if left == 0 {
-        if substitution::inside::constants_zero(&p, h, degree + 1) {
+        if substitution::constants_zero(&p, h, degree + 1) {
             memory::put(out, at, &row[..k]);
             return at + k;
         }
@@ -93,10 +93,10 @@ fn search(
     let mut end = at;
     let mut g = 0u8;
     while g <= GREATEST_SYMBOL {
-        if substitution::inside::first_value(table, &p, h, g) == 0 {
+        if substitution::first_value(table, &p, h, g) == 0 {
             let mut next = row;
             next[k - left] = g;
-            let rest = substitution::inside::handed(table, &p, h, degree + 1, g);
+            let rest = substitution::handed(table, &p, h, degree + 1, g);
             end = search(table, rest, degree, h, next, k, left - 1, out, end);
         }
         g += 1;
@@ -116,7 +116,7 @@ pub fn roots_into(degree: usize, k: usize, coefficients: &[u8], out: &mut [u8]) 
     let table = field::inside::products();
     let h = degree / (k - 1) + 1;
     let loaded = load(coefficients, degree, k - 1);
-    let p = substitution::inside::freed(&loaded, h, degree + 1);
+    let p = substitution::freed(&loaded, h, degree + 1);
     let row = [0u8; POSITIONS];
     search(&table, p, degree, h, row, k, k, out, 0) / k
 }

@@ -16,9 +16,9 @@ use borrow.Fn.PlainCycle.{Measures, is, falls, and}
 use Rattle.roots.proofs.inside.search.Reads as search′
 use Rattle.roots.proofs.inside.search.Kinds as search-kinds
 use Rattle.roots.proofs.inside.+search.Lts-search as search-lts
-use Rattle.substitution.proofs.inside.constants_zero.Reads as constants-zero-reads
-use Rattle.substitution.proofs.inside.first_value.Reads as first-value-reads
-use Rattle.substitution.proofs.inside.handed.Reads as handed-reads
+use Rattle.substitution.proofs.constants_zero.Reads as constants-zero-reads
+use Rattle.substitution.proofs.first_value.Reads as first-value-reads
+use Rattle.substitution.proofs.handed.Reads as handed-reads
 use Rattle.memory.proofs.put.Reads as put-reads
 use Rattle.roots.proofs.inside.+search.{statement}
 use Rattle.roots.proofs.inside.+search.Tie.{close}

@@ -1,0 +1,60 @@
+-- The loop has passed zeros only.
+use mathlib.Core.Path.{_≡_}
+use Prim.Native.Nat.{ℕ, _-_, _≤_, _<_}
+use mathlib.Core.Bool.{false}
+use native.Mathlib.Nat.{not-suc-le-zero}
+use Rattle.substitution.specs.Array.{isOther}
+use Rattle.substitution.proofs.Substitution.{other-found, zero-passed, none-other}
+use native.Mathlib.Omega.{arith}
+use Rattle.substitution.proofs.first_other.Statement.{statement}
+use Rattle.substitution.proofs.first_other.Tie as tie
+
+abbrev Inv-loop : tie.InvT-loop
+Inv-loop p n i₀ i = (i ≤ n) × ((j : ℕ) → j < i → isOther p j ≡ false)
+
+abbrev μ-loop : tie.MeasureT-loop
+μ-loop p n i₀ i = n - i
+
+loop-holds : tie.Need-loop-holds Inv-loop μ-loop
+loop-holds c = (omega arith, λ j h. absurd (not-suc-le-zero h))
+
+element-copy-out-if1 : tie.Need-element-copy-out-if1 Inv-loop μ-loop
+element-copy-out-if1 c = omega arith
+
+returns : tie.Need-returns Inv-loop μ-loop
+returns c =
+    let l = c .before .before .before in
+    let s = l .before in
+    other-found (s .args .p .now) (s .args .n) (l .loop .i) (omega arith) (l .loop .inv .1) (c .if1 .taken)
+
+add-i : tie.Need-add-i Inv-loop μ-loop
+add-i c = omega arith
+
+loop-less : tie.Need-loop-less Inv-loop μ-loop
+loop-less c = omega arith
+
+loop-again : tie.Need-loop-again Inv-loop μ-loop
+loop-again c =
+    let l = c .before .before .before in
+    let s = l .before in
+    (omega arith, zero-passed (s .args .p .now) (s .args .n) (l .loop .i) (l .loop .inv .1) (c .if1 .left))
+
+returns-2 : tie.Need-returns-2 Inv-loop μ-loop
+returns-2 c =
+    let l = c .before in
+    let s = l .before in
+    none-other (s .args .p .now) (s .args .n) (l .loop .i) (l .loop .inv .0) (omega arith) (l .loop .inv .1)
+
+pub first-other-spec : {M : Type 1} → statement M
+first-other-spec =
+    tie.close
+    (tie.spec
+    Inv-loop
+    μ-loop
+    loop-holds
+    element-copy-out-if1
+    returns
+    add-i
+    loop-less
+    loop-again
+    returns-2)

@@ -1,0 +1,10 @@
+-- The low byte, and 256 times the high one.
+use borrow.Author.Needs.{needs}
+use Rattle.text.proofs.number.Statement.{statement}
+use Rattle.text.proofs.number.Tie as tie
+
+returns : tie.Need-returns
+returns c = search needs
+
+pub number-spec : {M : Type 1} → statement M
+number-spec = tie.close (tie.spec (λ c. search needs) (λ c. search needs) returns)

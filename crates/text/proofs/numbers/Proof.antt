@@ -1,0 +1,94 @@
+-- The loop has read the first i numbers; an odd byte left over gives none.
+use mathlib.Core.Path.{_≡_, refl, _∙_}
+use Prim.Native.Nat.{_-_, _/_, _≤_}
+use mathlib.Core.List.{_++_, map}
+use lib.ListN.{length, drop, length-set}
+use native.Mathlib.Omega.{arith}
+use Rattle.definitions.specs.Tools.{below}
+use Rattle.text.proofs.Reading.{none-read, read-begun, read-turned, all-read}
+use Rattle.text.specs.Text.{numberAt}
+use Rattle.text.proofs.numbers.Statement.{statement}
+use Rattle.text.proofs.numbers.Tie as tie
+
+abbrev Inv-loop : tie.InvT-loop
+Inv-loop bytes out₀ count i₀ out i = (i ≤ length bytes / 2) × (length out ≡ length out₀) × (out ≡ map (numberAt bytes) (below i) ++ drop i out₀)
+
+abbrev μ-loop : tie.MeasureT-loop
+μ-loop bytes out₀ count i₀ out i = length bytes / 2 - i
+
+returns : tie.Need-returns Inv-loop μ-loop
+returns c = none-read (c .before .before .before .args .bytes .now) (c .before .before .before .args .out .now) (c .if1 .taken)
+
+loop-holds : tie.Need-loop-holds Inv-loop μ-loop
+loop-holds c = (omega arith, refl, read-begun (c .before .before .before .args .bytes .now) (c .before .before .before .args .out .now))
+
+mul-number : tie.Need-mul-number Inv-loop μ-loop
+mul-number c = omega arith
+
+shared-slice-read-number : tie.Need-shared-slice-read-number Inv-loop μ-loop
+shared-slice-read-number c = omega arith
+
+mul-number-2 : tie.Need-mul-number-2 Inv-loop μ-loop
+mul-number-2 c = omega arith
+
+add-number : tie.Need-add-number Inv-loop μ-loop
+add-number c = omega arith
+
+shared-slice-read-number-2 : tie.Need-shared-slice-read-number-2 Inv-loop μ-loop
+shared-slice-read-number-2 c = omega arith
+
+number-requires : tie.Need-number-requires Inv-loop μ-loop
+number-requires c κs = tt
+
+mul-out : tie.Need-mul-out Inv-loop μ-loop
+mul-out c = omega arith
+
+slice-write-out : tie.Need-slice-write-out Inv-loop μ-loop
+slice-write-out c = omega arith
+
+add-i : tie.Need-add-i Inv-loop μ-loop
+add-i c = omega arith
+
+loop-less : tie.Need-loop-less Inv-loop μ-loop
+loop-less c = omega arith
+
+loop-again : tie.Need-loop-again Inv-loop μ-loop
+loop-again c =
+    let l = c .before .before .before .before in
+    let s = l .before .before .before .before in (
+      omega arith,
+      length-set (l .loop .out) (l .loop .i) (c .number .result) ∙ l .loop .inv .1,
+      read-turned (s .args .bytes .now) (s .args .out .now) (l .loop .out) (l .loop .i) (c .number .result) (omega arith) (l .loop .inv .2) (c .number .ensures),
+    )
+
+same-length : tie.Need-same-length Inv-loop μ-loop
+same-length c = c .before .loop .inv .1
+
+returns-2 : tie.Need-returns-2 Inv-loop μ-loop
+returns-2 c =
+    let l = c .before in
+    let s = l .before .before .before .before in
+    let e : l .loop .i ≡ length (s .args .bytes .now) / 2 = omega arith in
+    all-read (s .args .bytes .now) (s .args .out .now) (l .loop .out) (l .loop .i) (l .before .if1 .left) e (l .loop .inv .2)
+
+pub numbers-spec : {M : Type 1} → statement M
+numbers-spec =
+    tie.close
+    (tie.spec
+    Inv-loop
+    μ-loop
+    returns
+    loop-holds
+    mul-number
+    shared-slice-read-number
+    mul-number-2
+    add-number
+    shared-slice-read-number-2
+    number-requires
+    mul-out
+    slice-write-out
+    add-i
+    loop-less
+    loop-again
+    same-length
+    returns-2)

@@ -1,0 +1,51 @@
+-- The kit's decimal digits are the page's, and they are laid in place.
+use Prim.Native.Nat.{_≤_}
+use native.Mathlib.Omega.{arith}
+use Rattle.text.proofs.Decimal.{twenty, decimal-put}
+use Rattle.text.specs.Rooms.{greatestDigits}
+use borrow.Author.Needs.{needs}
+use Rattle.text.proofs.put_decimal.Statement.{statement}
+use Rattle.text.proofs.put_decimal.Tie as tie
+
+wide-requires : tie.Need-wide-requires
+wide-requires c κs = search needs
+
+decimal-requires : tie.Need-decimal-requires
+decimal-requires c κs = search needs
+
+array-share-prefix-digits : tie.Need-array-share-prefix-digits
+array-share-prefix-digits c = search needs
+
+slice-aggregate-put : tie.Need-slice-aggregate-put
+slice-aggregate-put c = search needs
+
+put-requires : tie.Need-put-requires
+put-requires c κs =
+    let d = c .before .before .decimal in
+    let w = c .before .before .before .before .wide in
+    let few : d .result ≤ greatestDigits = twenty (w .result) (d .result) (d .ensures .1 .0) (w .ensures .1) in
+    omega arith
+
+same-length : tie.Need-same-length
+same-length c = search needs
+
+returns : tie.Need-returns
+returns c =
+    let s = c .before .before .before .before .before .before .before .before .before in
+    let d = c .before .before .before .before .before .decimal in
+    let w = c .before .before .before .before .before .before .before .wide in
+    let p = c .before .before .put in
+    decimal-put (s .args .out .now) (p .last .0) (d .last .1 .0) (s .args .at) (s .args .x) (w .result) (d .result) (p .result) (w .ensures .0) (w .ensures .1)
+    (d .ensures .1 .0) (d .ensures .1 .1) (d .ensures .0 .1) (p .ensures)
+
+pub put-decimal-spec : {M : Type 1} → statement M
+put-decimal-spec =
+    tie.close
+    (tie.spec
+    wide-requires
+    decimal-requires
+    array-share-prefix-digits
+    slice-aggregate-put
+    put-requires
+    same-length
+    returns)

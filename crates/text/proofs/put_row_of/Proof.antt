@@ -1,0 +1,60 @@
+-- The part that is lent is the row, and its line is put.
+use native.Mathlib.Omega.{arith}
+use Rattle.text.proofs.Putting.{row-put}
+use borrow.Author.Needs.{needs}
+use Rattle.text.proofs.put_row_of.Statement.{statement}
+use Rattle.text.proofs.put_row_of.Tie as tie
+
+mul-from : tie.Need-mul-from
+mul-from c = search needs
+
+add-to : tie.Need-add-to
+add-to c = search needs
+
+mul-full : tie.Need-mul-full
+mul-full c = search needs
+
+shared-slice-read-full : tie.Need-shared-slice-read-full
+shared-slice-read-full c = search needs
+
+full-requires : tie.Need-full-requires
+full-requires c κs = search needs
+
+sub-put-row : tie.Need-sub-put-row
+sub-put-row c = search needs
+
+part-put-row-start : tie.Need-part-put-row-start
+part-put-row-start c = search needs
+
+part-put-row-end : tie.Need-part-put-row-end
+part-put-row-end c = search needs
+
+put-row-requires : tie.Need-put-row-requires
+put-row-requires c κs = search needs
+
+same-length : tie.Need-same-length
+same-length c = search needs
+
+returns : tie.Need-returns
+returns c =
+    let s = c .before .before .before .before .before .before .before .before .before .before in
+    let p = c .before .before .put-row in
+    let f = c .before .before .before .before .before .full in
+    row-put (s .args .k) (s .args .rows .now) (s .args .scores .now) (s .args .out .now) (p .last .0) (s .args .at) (s .args .j) (f .result) (p .result)
+    (omega arith) (f .ensures) (omega arith) (p .ensures .0) (p .ensures .1)
+
+pub put-row-of-spec : {M : Type 1} → statement M
+put-row-of-spec =
+    tie.close
+    (tie.spec
+    mul-from
+    add-to
+    mul-full
+    shared-slice-read-full
+    full-requires
+    sub-put-row
+    part-put-row-start
+    part-put-row-end
+    put-row-requires
+    same-length
+    returns)
