@@ -12,8 +12,8 @@ use refusals::Refusal;
 use refusals::limits::GREATEST_SYMBOL;
 
 pub fn encode(n: usize, k: usize, message: &[u8], out: &mut [u8]) -> Counted
-    ensures { λ r. ⌜ toldCounted r ≡ encodeAnswer sixteen n k (now (message .entry)) (now (out .entry)) ⌝ }
-    ensures { λ _. ⌜ now (out .exit) ≡ encodeOut sixteen n k (now (message .entry)) (now (out .entry)) ⌝ }
+    ensures answer { λ r. ⌜ toldCounted r ≡ encodeAnswer sixteen n k (now (message .entry)) (now (out .entry)) ⌝ }
+    ensures memory { λ _. ⌜ now (out .exit) ≡ encodeOut sixteen n k (now (message .entry)) (now (out .entry)) ⌝ }
 {
     let checked = Checked::sizes(n, k)
         .or(message.len() != k, Refusal::Length)

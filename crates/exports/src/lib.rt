@@ -123,8 +123,8 @@ pub extern "C" fn kv_inverse(a: u8) -> Answer
 
 #[no_mangle]
 pub extern "C" fn kv_encode(n: usize, k: usize, message: &[u8], out: &mut [u8]) -> Answer
-    ensures { λ r. ⌜ answerOf r ≡ encodeAnswer sixteen n k (now (message .entry)) (now (out .entry)) ⌝ }
-    ensures { λ _. ⌜ now (out .exit) ≡ encodeOut sixteen n k (now (message .entry)) (now (out .entry)) ⌝ }
+    ensures answer { λ r. ⌜ answerOf r ≡ encodeAnswer sixteen n k (now (message .entry)) (now (out .entry)) ⌝ }
+    ensures memory { λ _. ⌜ now (out .exit) ≡ encodeOut sixteen n k (now (message .entry)) (now (out .entry)) ⌝ }
 {
     counted(code::encode(n, k, message, out))
 }
@@ -136,8 +136,8 @@ pub extern "C" fn kv_multiplicities(
     reliabilities: &[u16],
     out: &mut [u8],
 ) -> Answer
-    ensures { λ r. ⌜ answerOf r ≡ multiplicitiesAnswer sixteen n level (now (reliabilities .entry)) (now (out .entry)) ⌝ }
-    ensures { λ _. ⌜ now (out .exit) ≡ multiplicitiesOut sixteen n level (now (reliabilities .entry)) (now (out .entry)) ⌝ }
+    ensures answer { λ r. ⌜ answerOf r ≡ multiplicitiesAnswer sixteen n level (now (reliabilities .entry)) (now (out .entry)) ⌝ }
+    ensures memory { λ _. ⌜ now (out .exit) ≡ multiplicitiesOut sixteen n level (now (reliabilities .entry)) (now (out .entry)) ⌝ }
 {
     counted(weights::multiplicities(n, level, reliabilities, out))
 }
@@ -164,8 +164,8 @@ pub extern "C" fn kv_interpolate(
 
 #[no_mangle]
 pub extern "C" fn kv_roots(degree: usize, k: usize, coefficients: &[u8], out: &mut [u8]) -> Answer
-    ensures { λ r. ⌜ answerOf r ≡ rootsAnswer sixteen degree k (now (coefficients .entry)) (now (out .entry)) ⌝ }
-    ensures { λ _. ⌜ now (out .exit) ≡ rootsOut sixteen degree k (now (coefficients .entry)) (now (out .entry)) ⌝ }
+    ensures answer { λ r. ⌜ answerOf r ≡ rootsAnswer sixteen degree k (now (coefficients .entry)) (now (out .entry)) ⌝ }
+    ensures memory { λ _. ⌜ now (out .exit) ≡ rootsOut sixteen degree k (now (coefficients .entry)) (now (out .entry)) ⌝ }
 {
     counted(roots::roots(degree, k, coefficients, out))
 }
@@ -179,10 +179,10 @@ pub extern "C" fn kv_list_of_multiplicities(
     rows: &mut [u8],
     scores: &mut [u16],
 ) -> Answer
-    ensures { λ r. ⌜ answerOf r ≡ listAnswer sixteen n k limit (now (matrix .entry)) (now (rows .entry)) (now (scores .entry)) ⌝ }
-    ensures { λ _. ⌜ now (rows .exit) ≡ listRows sixteen n k limit (now (matrix .entry)) (now (rows .entry)) (now (scores .entry)) ⌝ }
-    ensures { λ _. ⌜ now (scores .exit) ≡ listScores sixteen n k limit (now (matrix .entry)) (now (rows .entry)) (now (scores .entry)) ⌝ }
-    ensures { λ r. ⌜ answerOf r .count ≤ greatestRows ⌝ }
+    ensures answer { λ r. ⌜ answerOf r ≡ listAnswer sixteen n k limit (now (matrix .entry)) (now (rows .entry)) (now (scores .entry)) ⌝ }
+    ensures row_memory { λ _. ⌜ now (rows .exit) ≡ listRows sixteen n k limit (now (matrix .entry)) (now (rows .entry)) (now (scores .entry)) ⌝ }
+    ensures score_memory { λ _. ⌜ now (scores .exit) ≡ listScores sixteen n k limit (now (matrix .entry)) (now (rows .entry)) (now (scores .entry)) ⌝ }
+    ensures few { λ r. ⌜ answerOf r .count ≤ greatestRows ⌝ }
 {
     counted(list::list_of_multiplicities(n, k, limit, matrix, rows, scores))
 }
@@ -197,10 +197,10 @@ pub extern "C" fn kv_list_of_reliabilities(
     rows: &mut [u8],
     scores: &mut [u16],
 ) -> Answer
-    ensures { λ r. ⌜ answerOf r ≡ readAnswer sixteen n k level limit (now (reliabilities .entry)) (now (rows .entry)) (now (scores .entry)) ⌝ }
-    ensures { λ _. ⌜ now (rows .exit) ≡ readRows sixteen n k level limit (now (reliabilities .entry)) (now (rows .entry)) (now (scores .entry)) ⌝ }
-    ensures { λ _. ⌜ now (scores .exit) ≡ readScores sixteen n k level limit (now (reliabilities .entry)) (now (rows .entry)) (now (scores .entry)) ⌝ }
-    ensures { λ r. ⌜ answerOf r .count ≤ greatestRows ⌝ }
+    ensures answer { λ r. ⌜ answerOf r ≡ readAnswer sixteen n k level limit (now (reliabilities .entry)) (now (rows .entry)) (now (scores .entry)) ⌝ }
+    ensures row_memory { λ _. ⌜ now (rows .exit) ≡ readRows sixteen n k level limit (now (reliabilities .entry)) (now (rows .entry)) (now (scores .entry)) ⌝ }
+    ensures score_memory { λ _. ⌜ now (scores .exit) ≡ readScores sixteen n k level limit (now (reliabilities .entry)) (now (rows .entry)) (now (scores .entry)) ⌝ }
+    ensures few { λ r. ⌜ answerOf r .count ≤ greatestRows ⌝ }
 {
     counted(list::list_of_reliabilities(n, k, level, limit, reliabilities, rows, scores))
 }

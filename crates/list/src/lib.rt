@@ -24,10 +24,10 @@ pub fn list_of_multiplicities(
     rows: &mut [u8],
     scores: &mut [u16],
 ) -> Counted
-    ensures { λ r. ⌜ toldCounted r ≡ listAnswer sixteen n k limit (now (matrix .entry)) (now (rows .entry)) (now (scores .entry)) ⌝ }
-    ensures { λ _. ⌜ now (rows .exit) ≡ listRows sixteen n k limit (now (matrix .entry)) (now (rows .entry)) (now (scores .entry)) ⌝ }
-    ensures { λ _. ⌜ now (scores .exit) ≡ listScores sixteen n k limit (now (matrix .entry)) (now (rows .entry)) (now (scores .entry)) ⌝ }
-    ensures { λ r. ⌜ toldCounted r .count ≤ greatestRows ⌝ }
+    ensures answer { λ r. ⌜ toldCounted r ≡ listAnswer sixteen n k limit (now (matrix .entry)) (now (rows .entry)) (now (scores .entry)) ⌝ }
+    ensures row_memory { λ _. ⌜ now (rows .exit) ≡ listRows sixteen n k limit (now (matrix .entry)) (now (rows .entry)) (now (scores .entry)) ⌝ }
+    ensures score_memory { λ _. ⌜ now (scores .exit) ≡ listScores sixteen n k limit (now (matrix .entry)) (now (rows .entry)) (now (scores .entry)) ⌝ }
+    ensures few { λ r. ⌜ toldCounted r .count ≤ greatestRows ⌝ }
 {
     let checked = Checked::sizes(n, k)
         .or(GREATEST_LIMIT < limit, Refusal::Setting)
@@ -51,10 +51,10 @@ pub fn list_of_reliabilities(
     rows: &mut [u8],
     scores: &mut [u16],
 ) -> Counted
-    ensures { λ r. ⌜ toldCounted r ≡ readAnswer sixteen n k level limit (now (reliabilities .entry)) (now (rows .entry)) (now (scores .entry)) ⌝ }
-    ensures { λ _. ⌜ now (rows .exit) ≡ readRows sixteen n k level limit (now (reliabilities .entry)) (now (rows .entry)) (now (scores .entry)) ⌝ }
-    ensures { λ _. ⌜ now (scores .exit) ≡ readScores sixteen n k level limit (now (reliabilities .entry)) (now (rows .entry)) (now (scores .entry)) ⌝ }
-    ensures { λ r. ⌜ toldCounted r .count ≤ greatestRows ⌝ }
+    ensures answer { λ r. ⌜ toldCounted r ≡ readAnswer sixteen n k level limit (now (reliabilities .entry)) (now (rows .entry)) (now (scores .entry)) ⌝ }
+    ensures row_memory { λ _. ⌜ now (rows .exit) ≡ readRows sixteen n k level limit (now (reliabilities .entry)) (now (rows .entry)) (now (scores .entry)) ⌝ }
+    ensures score_memory { λ _. ⌜ now (scores .exit) ≡ readScores sixteen n k level limit (now (reliabilities .entry)) (now (rows .entry)) (now (scores .entry)) ⌝ }
+    ensures few { λ r. ⌜ toldCounted r .count ≤ greatestRows ⌝ }
 {
     let settled = Checked::sizes(n, k)
         .level(level)

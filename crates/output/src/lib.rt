@@ -92,8 +92,8 @@ fn answer_to(input: &[u8], out: &mut [u8]) -> usize
 // What the program writes for its input: at most ROOM bytes, in front of out.
 pub fn write(input: &[u8], out: &mut [u8]) -> usize
     requires { ⌜ answerRoom ≤ length (now out) ⌝ }
-    ensures { λ r. ⌜ Puts (now (out .entry)) 0 (output (now (input .entry))) r (now (out .exit)) ⌝ }
-    ensures { λ r. ⌜ Counts r (now (out .exit)) ⌝ }
+    ensures text { λ r. ⌜ Puts (now (out .entry)) 0 (output (now (input .entry))) r (now (out .exit)) ⌝ }
+    ensures within { λ r. ⌜ Counts r (now (out .exit)) ⌝ }
 {
     if LONGEST < input.len() {
         return answer_to(&input[..LONGEST], out);

@@ -80,8 +80,8 @@ fn search(
     requires { ⌜ Symbols sixteen p ⌝ }
     requires { ⌜ (0 < h) × (h ≤ height) × ((degree + 1) * h ≤ places) × (left ≤ k) × (k ≤ sixteen .positions) ⌝ }
     requires { ⌜ DegreeWithin (left - 1) degree h p × (at + length (rowsAfter (take (k - left) row) (search sixteen left (polynomial h (degree + 1) p))) ≤ length (now out)) ⌝ }
-    ensures { λ r. ⌜ r ≡ at + length (rowsAfter (take (k - left) row) (search sixteen left (polynomial h (degree + 1) p))) ⌝ }
-    ensures { λ _. ⌜ now (out .exit) ≡ laid (now (out .entry)) at (rowsAfter (take (k - left) row) (search sixteen left (polynomial h (degree + 1) p))) ⌝ }
+    ensures count { λ r. ⌜ r ≡ at + length (rowsAfter (take (k - left) row) (search sixteen left (polynomial h (degree + 1) p))) ⌝ }
+    ensures memory { λ _. ⌜ now (out .exit) ≡ laid (now (out .entry)) at (rowsAfter (take (k - left) row) (search sixteen left (polynomial h (degree + 1) p))) ⌝ }
 {
     if left == 0 {
         if substitution::constants_zero(&p, h, degree + 1) {
@@ -110,8 +110,8 @@ pub fn roots_into(degree: usize, k: usize, coefficients: &[u8], out: &mut [u8]) 
     requires { ⌜ (length (now coefficients) ≡ count (k - 1) degree) × (k * (degree / (k - 1)) ≤ length (now out)) ⌝ }
     requires { ⌜ Symbols sixteen (now coefficients) ⌝ }
     requires { ⌜ isZero (now coefficients) ≡ false ⌝ }
-    ensures { λ r. ⌜ r ≡ length (rootsOf sixteen degree k (now (coefficients .entry))) ⌝ }
-    ensures { λ _. ⌜ now (out .exit) ≡ rowsOnto sixteen k (rootsOf sixteen degree k (now (coefficients .entry))) (now (out .entry)) ⌝ }
+    ensures count { λ r. ⌜ r ≡ length (rootsOf sixteen degree k (now (coefficients .entry))) ⌝ }
+    ensures memory { λ _. ⌜ now (out .exit) ≡ rowsOnto sixteen k (rootsOf sixteen degree k (now (coefficients .entry))) (now (out .entry)) ⌝ }
 {
     let table = field::inside::products();
     let h = degree / (k - 1) + 1;

@@ -33,8 +33,8 @@ fn checked(degree: usize, k: usize, coefficients: &[u8], room: usize) -> Checked
 }
 
 pub fn roots(degree: usize, k: usize, coefficients: &[u8], out: &mut [u8]) -> Counted
-    ensures { λ r. ⌜ toldCounted r ≡ rootsAnswer sixteen degree k (now (coefficients .entry)) (now (out .entry)) ⌝ }
-    ensures { λ _. ⌜ now (out .exit) ≡ rootsOut sixteen degree k (now (coefficients .entry)) (now (out .entry)) ⌝ }
+    ensures answer { λ r. ⌜ toldCounted r ≡ rootsAnswer sixteen degree k (now (coefficients .entry)) (now (out .entry)) ⌝ }
+    ensures memory { λ _. ⌜ now (out .exit) ≡ rootsOut sixteen degree k (now (coefficients .entry)) (now (out .entry)) ⌝ }
 {
     let checked = checked(degree, k, coefficients, out.len());
     if let Checked::Refused(r) = checked {

@@ -53,8 +53,8 @@ fn pass(table: &[u8; 256], col: &mut [u8], from: usize, h: usize, g: u8)
     requires { ⌜ Products (now table) ⌝ }
     requires { ⌜ Symbols sixteen (now col) ⌝ }
     requires { ⌜ (from < h) × (h ≤ length (now col)) × (g < sixteen .symbols) ⌝ }
-    ensures { λ _. ⌜ take h (now (col .exit)) ≡ passed g from (take h (now (col .entry))) ⌝ }
-    ensures { λ _. ⌜ Symbols sixteen (now (col .exit)) ⌝ }
+    ensures column { λ _. ⌜ take h (now (col .exit)) ≡ passed g from (take h (now (col .entry))) ⌝ }
+    ensures symbols { λ _. ⌜ Symbols sixteen (now (col .exit)) ⌝ }
 {
     let mut b = from;
     while b < h - 1 {
@@ -68,8 +68,8 @@ fn shift(table: &[u8; 256], col: &mut [u8], h: usize, g: u8)
     requires { ⌜ Products (now table) ⌝ }
     requires { ⌜ Symbols sixteen (now col) ⌝ }
     requires { ⌜ (h ≤ length (now col)) × (g < sixteen .symbols) ⌝ }
-    ensures { λ _. ⌜ take h (now (col .exit)) ≡ shift (numbers sixteen) g (take h (now (col .entry))) ⌝ }
-    ensures { λ _. ⌜ Symbols sixteen (now (col .exit)) ⌝ }
+    ensures column { λ _. ⌜ take h (now (col .exit)) ≡ shift (numbers sixteen) g (take h (now (col .entry))) ⌝ }
+    ensures symbols { λ _. ⌜ Symbols sixteen (now (col .exit)) ⌝ }
 {
     let mut b = h;
     while 0 < b {
@@ -83,8 +83,8 @@ fn lay(p: &mut [u8], col: &[u8], a: usize, h: usize, w: usize)
     requires { ⌜ Symbols sixteen (now p) ⌝ }
     requires { ⌜ Symbols sixteen (now col) ⌝ }
     requires { ⌜ (h ≤ length (now col)) × (a < w) × (w * h ≤ length (now p)) ⌝ }
-    ensures { λ _. ⌜ Laid h w a h (now (col .entry)) (now (p .entry)) (now (p .exit)) ⌝ }
-    ensures { λ _. ⌜ Symbols sixteen (now (p .exit)) ⌝ }
+    ensures laid { λ _. ⌜ Laid h w a h (now (col .entry)) (now (p .entry)) (now (p .exit)) ⌝ }
+    ensures symbols { λ _. ⌜ Symbols sixteen (now (p .exit)) ⌝ }
 {
     let mut b = 0;
     while b < h {
@@ -101,8 +101,8 @@ fn substituted(table: &[u8; 256], p: &[u8; PLACES], h: usize, w: usize, g: u8) -
     requires { ⌜ Products (now table) ⌝ }
     requires { ⌜ Symbols sixteen (now p) ⌝ }
     requires { ⌜ (h ≤ height) × (g < sixteen .symbols) × (w * h ≤ places) × (length (now p) ≡ places) ⌝ }
-    ensures { λ r. ⌜ Substituted h w g (now (p .entry)) r ⌝ }
-    ensures { λ r. ⌜ Symbols sixteen r ⌝ }
+    ensures polynomial { λ r. ⌜ Substituted h w g (now (p .entry)) r ⌝ }
+    ensures symbols { λ r. ⌜ Symbols sixteen r ⌝ }
 {
     let mut q = [0u8; PLACES];
     let mut a = 0;
@@ -148,8 +148,8 @@ fn moved(p: &[u8; PLACES], from: usize, n: usize) -> [u8; PLACES]
 pub fn freed(p: &[u8; PLACES], h: usize, w: usize) -> [u8; PLACES]
     requires { ⌜ Symbols sixteen (now p) ⌝ }
     requires { ⌜ (0 < h) × (w * h ≤ places) × (length (now p) ≡ places) ⌝ }
-    ensures { λ r. ⌜ Freed h w (now (p .entry)) r ⌝ }
-    ensures { λ r. ⌜ Symbols sixteen r ⌝ }
+    ensures polynomial { λ r. ⌜ Freed h w (now (p .entry)) r ⌝ }
+    ensures symbols { λ r. ⌜ Symbols sixteen r ⌝ }
 {
     let n = w * h;
     let first = first_other(p, n);
@@ -161,8 +161,8 @@ pub fn handed(table: &[u8; 256], p: &[u8; PLACES], h: usize, w: usize, g: u8) ->
     requires { ⌜ Products (now table) ⌝ }
     requires { ⌜ Symbols sixteen (now p) ⌝ }
     requires { ⌜ (0 < h) × (h ≤ height) × (g < sixteen .symbols) × (w * h ≤ places) × (length (now p) ≡ places) ⌝ }
-    ensures { λ r. ⌜ Handed h w g (now (p .entry)) r ⌝ }
-    ensures { λ r. ⌜ Symbols sixteen r ⌝ }
+    ensures polynomial { λ r. ⌜ Handed h w g (now (p .entry)) r ⌝ }
+    ensures symbols { λ r. ⌜ Symbols sixteen r ⌝ }
 {
     let q = substituted(table, p, h, w, g);
     freed(&q, h, w)

@@ -33,8 +33,8 @@ fn number(low: u8, high: u8) -> u16
 // The numbers of the bytes, to the front of out; answers how many.
 pub fn numbers(bytes: &[u8], out: &mut [u16]) -> usize
     requires { ⌜ length (now bytes) ≤ 2 * length (now out) ⌝ }
-    ensures { λ r. ⌜ r ≡ length (numbersOf (now (bytes .entry))) ⌝ }
-    ensures { λ _. ⌜ now (out .exit) ≡ numbersOf (now (bytes .entry)) ++ drop (length (numbersOf (now (bytes .entry)))) (now (out .entry)) ⌝ }
+    ensures count { λ r. ⌜ r ≡ length (numbersOf (now (bytes .entry))) ⌝ }
+    ensures memory { λ _. ⌜ now (out .exit) ≡ numbersOf (now (bytes .entry)) ++ drop (length (numbersOf (now (bytes .entry)))) (now (out .entry)) ⌝ }
 {
     if bytes.len() % 2 != 0 {
         return 0;
@@ -64,8 +64,8 @@ fn wide(x: usize) -> u64
 
 fn put_decimal(out: &mut [u8], at: usize, x: usize) -> usize
     requires { ⌜ at + greatestDigits ≤ length (now out) ⌝ }
-    ensures { λ r. ⌜ Puts (now (out .entry)) at (decimal x) r (now (out .exit)) ⌝ }
-    ensures { λ r. ⌜ r ≤ at + greatestDigits ⌝ }
+    ensures text { λ r. ⌜ Puts (now (out .entry)) at (decimal x) r (now (out .exit)) ⌝ }
+    ensures short { λ r. ⌜ r ≤ at + greatestDigits ⌝ }
 {
     let mut digits = [0u8; GREATEST_DIGITS];
     let count = io::decimal(wide(x), &mut digits);
@@ -97,8 +97,8 @@ fn put_digits(out: &mut [u8], at: usize, message: &[u8]) -> usize
 // The line that says how many rows are listed.
 pub fn put_listed(out: &mut [u8], at: usize, count: usize) -> usize
     requires { ⌜ at + listedRoom ≤ length (now out) ⌝ }
-    ensures { λ r. ⌜ Puts (now (out .entry)) at (listedLine count) r (now (out .exit)) ⌝ }
-    ensures { λ r. ⌜ r ≤ at + listedRoom ⌝ }
+    ensures text { λ r. ⌜ Puts (now (out .entry)) at (listedLine count) r (now (out .exit)) ⌝ }
+    ensures short { λ r. ⌜ r ≤ at + listedRoom ⌝ }
 {
     let named = put(out, at, &LISTED_WORD);
     let counted = put_decimal(out, named, count);
@@ -120,8 +120,8 @@ pub fn put_refused(out: &mut [u8], at: usize, number: usize, place: usize) -> us
 // The line of a row.
 pub fn put_row(out: &mut [u8], at: usize, score: usize, message: &[u8]) -> usize
     requires { ⌜ at + rowRoom (length (now message)) ≤ length (now out) ⌝ }
-    ensures { λ r. ⌜ Puts (now (out .entry)) at (rowLine score (now (message .entry))) r (now (out .exit)) ⌝ }
-    ensures { λ r. ⌜ r ≤ at + rowRoom (length (now (message .entry))) ⌝ }
+    ensures text { λ r. ⌜ Puts (now (out .entry)) at (rowLine score (now (message .entry))) r (now (out .exit)) ⌝ }
+    ensures short { λ r. ⌜ r ≤ at + rowRoom (length (now (message .entry))) ⌝ }
 {
     let named = put(out, at, &SCORE_WORD);
     let scored = put_decimal(out, named, score);
@@ -139,8 +139,8 @@ fn full(score: u16) -> usize
 // The line of row j of k symbols.
 fn put_row_of(out: &mut [u8], at: usize, k: usize, j: usize, rows: &[u8], scores: &[u16]) -> usize
     requires { ⌜ (k ≤ sixteen .positions) × (j < greatestRows) × (k * j + k ≤ length (now rows)) × (j < length (now scores)) × (at + longestRowRoom ≤ length (now out)) ⌝ }
-    ensures { λ r. ⌜ Puts (now (out .entry)) at (lineOf k (now (rows .entry)) (now (scores .entry)) j) r (now (out .exit)) ⌝ }
-    ensures { λ r. ⌜ r ≤ at + longestRowRoom ⌝ }
+    ensures text { λ r. ⌜ Puts (now (out .entry)) at (lineOf k (now (rows .entry)) (now (scores .entry)) j) r (now (out .exit)) ⌝ }
+    ensures short { λ r. ⌜ r ≤ at + longestRowRoom ⌝ }
 {
     let from = k * j;
     let to = from + k;

@@ -19,8 +19,8 @@ pub enum Costed {
 }
 
 pub fn multiplicities(n: usize, level: usize, reliabilities: &[u16], out: &mut [u8]) -> Counted
-    ensures { λ r. ⌜ toldCounted r ≡ multiplicitiesAnswer sixteen n level (now (reliabilities .entry)) (now (out .entry)) ⌝ }
-    ensures { λ _. ⌜ now (out .exit) ≡ multiplicitiesOut sixteen n level (now (reliabilities .entry)) (now (out .entry)) ⌝ }
+    ensures answer { λ r. ⌜ toldCounted r ≡ multiplicitiesAnswer sixteen n level (now (reliabilities .entry)) (now (out .entry)) ⌝ }
+    ensures memory { λ _. ⌜ now (out .exit) ≡ multiplicitiesOut sixteen n level (now (reliabilities .entry)) (now (out .entry)) ⌝ }
 {
     let settled = Checked::size(n)
         .level(level)
