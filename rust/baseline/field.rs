@@ -41,12 +41,22 @@ pub fn product(a: u8, b: u8) -> u8 {
     PRODUCTS[usize::from(a)][usize::from(b)]
 }
 
+const INVERSES: [u8; SYMBOLS] = inverses();
+
+const fn inverses() -> [u8; SYMBOLS] {
+    let mut inverses = [0; SYMBOLS];
+    let mut exponent = 0;
+    while exponent < POWERS.len() {
+        let opposite = (POWERS.len() - exponent) % POWERS.len();
+        inverses[POWERS[exponent] as usize] = POWERS[opposite];
+        exponent += 1;
+    }
+    inverses
+}
+
 /// 0 for 0.
 pub fn inverse(a: u8) -> u8 {
-    match POWERS.iter().position(|&power| power == a) {
-        Some(exponent) => POWERS[(POWERS.len() - exponent) % POWERS.len()],
-        None => 0,
-    }
+    INVERSES[usize::from(a)]
 }
 
 pub fn point(position: usize) -> u8 {
