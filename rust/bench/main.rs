@@ -8,6 +8,8 @@ mod baseline;
 #[allow(dead_code)] // the entries of the first layer are not timed
 #[path = "../library.rs"]
 mod library;
+#[path = "../packed/mod.rs"]
+mod packed;
 #[allow(dead_code)]
 #[path = "../compare/random.rs"]
 mod random;
