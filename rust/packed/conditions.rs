@@ -5,15 +5,28 @@ use super::field::ORDER;
 use super::lanes::{doublings, spread, BITS, LANES, ONES};
 use super::monomials::{walk, Monomial};
 use super::points::Point;
+use std::ops::Range;
 
 /// The orders of derivative, 0 to the greatest multiplicity less 1.
 const ORDERS: usize = 4;
-/// For each power of x modulo 4, lane s is 15 where the derivative of order s leaves that power.
-const LEFT_OF_X: [u64; ORDERS] = [0x000f, 0x00ff, 0x0f0f, 0xffff];
+
+/// The orders of x and of y, in the order of the lanes: few pivots are 0 so.
+const DERIVATIVES: [(usize, usize); 10] = [
+    (0, 0),
+    (1, 0),
+    (2, 0),
+    (0, 1),
+    (3, 0),
+    (1, 1),
+    (2, 1),
+    (0, 2),
+    (1, 2),
+    (0, 3),
+];
 
 type Words<const WORDS: usize> = [u64; WORDS];
 
-/// The lanes are ordered by the order of y, then by point, then by the order of x.
+/// The lanes have the points of one derivative after those of another.
 struct Lanes<const WORDS: usize> {
     /// 1 in the lanes in use.
     used: Words<WORDS>,
@@ -28,12 +41,16 @@ struct Lanes<const WORDS: usize> {
     of_order: [Words<WORDS>; ORDERS],
 }
 
-/// Puts up to sixteen lanes from a place on.
-fn lay<const WORDS: usize>(words: &mut Words<WORDS>, at: usize, lanes: u64) {
-    let wide = u128::from(lanes) << (BITS * (at % LANES));
-    words[at / LANES] |= wide as u64;
-    if let Some(next) = words.get_mut(at / LANES + 1) {
-        *next |= (wide >> u64::BITS) as u64;
+fn put<const WORDS: usize>(words: &mut Words<WORDS>, at: usize, symbol: u8) {
+    words[at / LANES] |= u64::from(symbol) << (BITS * (at % LANES));
+}
+
+/// Puts these bits into every lane of the range.
+fn put_all<const WORDS: usize>(words: &mut Words<WORDS>, range: &Range<usize>, bits: u64) {
+    for (word, lanes) in words.iter_mut().enumerate() {
+        let within = |at: usize| at.saturating_sub(LANES * word).min(LANES) * BITS;
+        let below = |at: usize| u64::MAX.checked_shl(within(at) as u32).unwrap_or(0);
+        *lanes |= bits & below(range.start) & !below(range.end);
     }
 }
 
@@ -48,31 +65,36 @@ impl<const WORDS: usize> Lanes<WORDS> {
             of_order: [[0; WORDS]; ORDERS],
         };
         let mut at = 0;
-        for order in 0..ORDERS {
+        for (of_x, of_y) in DERIVATIVES {
+            let first = at;
             for point in points {
-                let count = usize::from(point.multiplicity).saturating_sub(order);
-                lanes.lay_point(at, count, order, point);
-                at += count;
+                if usize::from(point.multiplicity) > of_x + of_y {
+                    lanes.put_point(at, point);
+                    at += 1;
+                }
+            }
+            if first < at {
+                lanes.put_derivative(first..at, of_x, of_y);
             }
         }
         lanes
     }
 
-    fn lay_point(&mut self, at: usize, count: usize, order: usize, point: &Point) {
-        if count == 0 {
-            return;
-        }
-        let all = (1 << (BITS * count)) - 1;
-        let ones = ONES & all;
-        lay(&mut self.used, at, ones);
-        lay(&mut self.x, at, ones * u64::from(point.x));
-        lay(&mut self.y, at, ones * u64::from(point.y.max(1)));
-        lay(&mut self.of_order[order], at, all);
+    fn put_point(&mut self, at: usize, point: &Point) {
+        put(&mut self.x, at, point.x);
+        put(&mut self.y, at, point.y.max(1));
         if point.y == 0 {
-            lay(&mut self.y_zero, at, all);
+            put(&mut self.y_zero, at, 15);
         }
-        for (words, left) in self.left_of_x.iter_mut().zip(LEFT_OF_X) {
-            lay(words, at, left & all);
+    }
+
+    fn put_derivative(&mut self, range: Range<usize>, of_x: usize, of_y: usize) {
+        put_all(&mut self.used, &range, ONES);
+        put_all(&mut self.of_order[of_y], &range, u64::MAX);
+        for (power, words) in self.left_of_x.iter_mut().enumerate() {
+            if power & of_x == of_x {
+                put_all(words, &range, u64::MAX);
+            }
         }
     }
 
@@ -98,23 +120,36 @@ impl<const WORDS: usize> Lanes<WORDS> {
 type Spread<const WORDS: usize> = [Words<WORDS>; BITS];
 
 fn spreads<const WORDS: usize>(words: &Words<WORDS>) -> Spread<WORDS> {
-    std::array::from_fn(|bit| words.map(|word| spread(word, bit)))
+    let mut spreads = [[0; WORDS]; BITS];
+    for (bit, spreads) in spreads.iter_mut().enumerate() {
+        for word in 0..WORDS {
+            spreads[word] = spread(words[word], bit);
+        }
+    }
+    spreads
 }
 
 /// The product, lane by lane, of what the doublings double and of what is spread.
 fn product<const WORDS: usize>(a: &[Words<WORDS>; BITS], b: &Spread<WORDS>) -> Words<WORDS> {
-    std::array::from_fn(|word| (0..BITS).fold(0, |sum, bit| sum ^ a[bit][word] & b[bit][word]))
+    let mut product = [0; WORDS];
+    for bit in 0..BITS {
+        for word in 0..WORDS {
+            product[word] ^= a[bit][word] & b[bit][word];
+        }
+    }
+    product
 }
 
 /// The powers of x, 0 to 14, each with its doublings.
 fn powers_of_x<const WORDS: usize>(lanes: &Lanes<WORDS>) -> [[Words<WORDS>; BITS]; ORDER] {
     let x = spreads(&lanes.x);
+    let mut powers = [[[0; WORDS]; BITS]; ORDER];
     let mut next = lanes.used;
-    std::array::from_fn(|_| {
-        let power = doublings(&next);
-        next = product(&power, &x);
-        power
-    })
+    for power in &mut powers {
+        *power = doublings(&next);
+        next = product(power, &x);
+    }
+    powers
 }
 
 /// The powers of y up to the height, spread, in the lanes where the derivative leaves them.
@@ -122,10 +157,12 @@ fn powers_of_y<const WORDS: usize>(lanes: &Lanes<WORDS>, height: usize) -> Vec<S
     let y = spreads(&lanes.y);
     let mut next = lanes.used;
     let powers = (0..=height).map(|power| {
-        let left = lanes.left_of_y(power);
-        let now = next;
-        next = product(&doublings(&now), &y);
-        spreads(&std::array::from_fn(|word| now[word] & left[word]))
+        let mut left = lanes.left_of_y(power);
+        for word in 0..WORDS {
+            left[word] &= next[word];
+        }
+        next = product(&doublings(&next), &y);
+        spreads(&left)
     });
     powers.collect()
 }

@@ -50,12 +50,10 @@ pub fn scaled(word: u64, masks: &[u64; BITS]) -> u64 {
 }
 
 #[inline(always)]
-pub fn sum<const WORDS: usize>(a: &[u64; WORDS], b: &[u64; WORDS]) -> [u64; WORDS] {
-    let mut sum = *a;
+pub fn add<const WORDS: usize>(words: &mut [u64; WORDS], more: &[u64; WORDS]) {
     for word in 0..WORDS {
-        sum[word] ^= b[word];
+        words[word] ^= more[word];
     }
-    sum
 }
 
 /// 1, 2, 4 and 8 times each lane.
@@ -70,15 +68,15 @@ pub fn doublings<const WORDS: usize>(words: &[u64; WORDS]) -> [[u64; WORDS]; BIT
     doublings
 }
 
-/// Entry c is c times each lane.
+/// Entry c becomes c times the word.
 #[inline(always)]
-pub fn multiples<const WORDS: usize>(words: &[u64; WORDS]) -> [[u64; WORDS]; SYMBOLS] {
-    let doublings = doublings(words);
-    let mut multiples = [[0; WORDS]; SYMBOLS];
+pub fn multiples(word: u64) -> [u64; SYMBOLS] {
+    let two = doubled(word);
+    let four = doubled(two);
+    let doublings = [word, two, four, doubled(four)];
+    let mut multiples = [0; SYMBOLS];
     for c in 1..SYMBOLS {
-        let without_lowest = c & (c - 1);
-        let lowest = c.trailing_zeros() as usize;
-        multiples[c] = sum(&multiples[without_lowest], &doublings[lowest]);
+        multiples[c] = multiples[c & (c - 1)] ^ doublings[c.trailing_zeros() as usize];
     }
     multiples
 }
