@@ -28,7 +28,13 @@ fn monomials(v: usize, count: usize) -> Monomials {
 
 fn masks(exponents: &Line, leaves: impl Fn(u8, u8) -> bool) -> Masks {
     std::array::from_fn(|order| {
-        exponents.map(|exponent| if leaves(exponent, order as u8) { 255 } else { 0 })
+        exponents.map(|exponent| {
+            if leaves(exponent, order as u8) {
+                255
+            } else {
+                0
+            }
+        })
     })
 }
 

@@ -19,11 +19,7 @@ const fn values() -> [[u64; SYMBOLS]; HEIGHT] {
     let mut values = [[0; SYMBOLS]; HEIGHT];
     let mut at = 0;
     while at < HEIGHT * SYMBOLS * SYMBOLS {
-        let (b, factor, y) = (
-            at / SYMBOLS / SYMBOLS,
-            at / SYMBOLS % SYMBOLS,
-            at % SYMBOLS,
-        );
+        let (b, factor, y) = (at / SYMBOLS / SYMBOLS, at / SYMBOLS % SYMBOLS, at % SYMBOLS);
         let value = product(factor, power(y, b)) as u64;
         values[b][factor] |= value << (BITS * y);
         at += 1;
