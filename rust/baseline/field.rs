@@ -8,6 +8,7 @@ const POWERS: [u8; SYMBOLS - 1] = [1, 2, 4, 8, 3, 6, 12, 11, 5, 10, 7, 14, 15, 1
 const PRODUCTS: [[u8; SYMBOLS]; SYMBOLS] = products();
 
 /// α times a symbol.
+#[inline]
 pub const fn doubled(a: u8) -> u8 {
     let shifted = a << 1;
     if shifted < SYMBOLS as u8 {
@@ -37,6 +38,7 @@ const fn products() -> [[u8; SYMBOLS]; SYMBOLS] {
     products
 }
 
+#[inline]
 pub fn product(a: u8, b: u8) -> u8 {
     PRODUCTS[usize::from(a)][usize::from(b)]
 }
@@ -55,10 +57,12 @@ const fn inverses() -> [u8; SYMBOLS] {
 }
 
 /// 0 for 0.
+#[inline]
 pub fn inverse(a: u8) -> u8 {
     INVERSES[usize::from(a)]
 }
 
+#[inline]
 pub fn point(position: usize) -> u8 {
     POWERS[position]
 }

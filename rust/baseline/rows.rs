@@ -11,15 +11,18 @@ pub const COLUMNS: usize = BLOCK * BLOCKS;
 pub type Block = [u8; BLOCK];
 pub type Row = [Block; BLOCKS];
 
+#[inline]
 pub fn sum(a: &Block, b: &Block) -> Block {
     std::array::from_fn(|column| a[column] ^ b[column])
 }
 
+#[inline]
 pub fn scaled(block: &Block, factor: u8) -> Block {
     block.map(|symbol| product(factor, symbol))
 }
 
 /// Entry c is c times the block.
+#[inline]
 pub fn multiples(block: &Block) -> [Block; SYMBOLS] {
     let mut multiples = [[0; BLOCK]; SYMBOLS];
     let mut high = *block;
@@ -32,6 +35,7 @@ pub fn multiples(block: &Block) -> [Block; SYMBOLS] {
     multiples
 }
 
+#[inline]
 pub fn entry(row: &Row, column: usize) -> u8 {
     row[column / BLOCK][column % BLOCK]
 }

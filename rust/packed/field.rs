@@ -51,10 +51,12 @@ const QUOTIENTS: [[u8; SYMBOLS]; SYMBOLS] = quotients();
 const SQUARES: [u8; SYMBOLS] = [0, 1, 4, 5, 3, 2, 7, 6, 12, 13, 8, 9, 15, 14, 11, 10];
 
 /// a over b; 0 where b is 0.
+#[inline]
 pub fn quotient(a: usize, b: usize) -> usize {
     QUOTIENTS[a][b].into()
 }
 
+#[inline]
 pub fn square(a: usize) -> usize {
     SQUARES[a].into()
 }
