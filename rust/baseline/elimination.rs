@@ -1,50 +1,68 @@
-//! Row reduction up to the first column that depends on those before it.
+//! Elimination below the pivots, up to the first column that depends on those before it, and what
+//! solves the triangle then.
 
-use super::field::{doubled, inverse, product, SYMBOLS};
+use super::field::{inverse, product};
+use super::rows::{entry, multiples, scaled, sum, Row, BLOCK, COLUMNS};
 
-/// No cost up to 150 has more monomials below its bound.
-pub const COLUMNS: usize = 160;
-
-pub type Row = [u8; COLUMNS];
-
-fn sum(a: &Row, b: &Row) -> Row {
-    std::array::from_fn(|column| a[column] ^ b[column])
+/// The rows below a pivot whose entry in its column is not 0, and those entries.
+struct Factors {
+    listed: [(u8, u8); COLUMNS],
+    count: usize,
 }
 
-/// Row c is c times the given row.
-fn multiples(row: &Row) -> [Row; SYMBOLS] {
-    let mut multiples = [[0; COLUMNS]; SYMBOLS];
-    for c in 1..SYMBOLS {
-        multiples[c] = if c % 2 == 1 {
-            sum(&multiples[c - 1], row)
-        } else {
-            multiples[c / 2].map(doubled)
-        };
+fn factors(rows: &[Row], column: usize) -> Factors {
+    let mut listed = [(0, 0); COLUMNS];
+    let mut count = 0;
+    for place in column + 1..rows.len() {
+        let factor = entry(&rows[place], column);
+        listed[count] = (place as u8, factor);
+        count += usize::from(factor != 0);
     }
-    multiples
+    Factors { listed, count }
 }
 
-/// Puts the row at `found` into its place, with 1 in the column, and clears that column elsewhere.
-fn pivot(rows: &mut [Row], column: usize, found: usize) {
-    rows.swap(column, found);
-    let factor = inverse(rows[column][column]);
-    let scaled = rows[column].map(|symbol| product(factor, symbol));
-    rows[column] = scaled;
-    let multiples = multiples(&scaled);
-    for index in (0..rows.len()).filter(|&index| index != column) {
-        let symbol = rows[index][column];
-        if symbol != 0 {
-            rows[index] = sum(&rows[index], &multiples[usize::from(symbol)]);
+/// Puts the row at `found` into its place, with 1 in the column.
+fn exchange(rows: &mut [Row], column: usize, found: usize, blocks: usize) {
+    let factor = inverse(entry(&rows[found], column));
+    for block in column / BLOCK..blocks {
+        let first = scaled(&rows[found][block], factor);
+        rows[found][block] = rows[column][block];
+        rows[column][block] = first;
+    }
+}
+
+/// Clears the column below its pivot, block after block.
+fn clear(rows: &mut [Row], column: usize, blocks: usize) {
+    let factors = factors(rows, column);
+    for block in column / BLOCK..blocks {
+        let multiples = multiples(&rows[column][block]);
+        for &(place, factor) in &factors.listed[..factors.count] {
+            let part = &mut rows[usize::from(place)][block];
+            *part = sum(part, &multiples[usize::from(factor)]);
         }
     }
 }
 
 /// Reduces the rows until a column depends on those before it, and answers that column.
-pub fn first_dependent(rows: &mut [Row]) -> usize {
+pub fn first_dependent(rows: &mut [Row], blocks: usize) -> usize {
     let mut column = 0;
-    while let Some(below) = rows[column..].iter().position(|row| row[column] != 0) {
-        pivot(rows, column, column + below);
+    while let Some(below) = rows[column..]
+        .iter()
+        .position(|row| entry(row, column) != 0)
+    {
+        exchange(rows, column, column + below, blocks);
+        clear(rows, column, blocks);
         column += 1;
     }
     column
+}
+
+/// The coefficients before the dependent column's, from the last to the first.
+pub fn solve(rows: &[Row], dependent: usize, out: &mut [u8]) {
+    for place in (0..dependent).rev() {
+        let row = rows[place].as_flattened();
+        let behind = row[..dependent].iter().zip(&*out).skip(place + 1);
+        let of_those = behind.map(|(&factor, &found)| product(factor, found));
+        out[place] = of_those.fold(row[dependent], |sum, term| sum ^ term);
+    }
 }

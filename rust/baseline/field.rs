@@ -8,6 +8,7 @@ const POWERS: [u8; SYMBOLS - 1] = [1, 2, 4, 8, 3, 6, 12, 11, 5, 10, 7, 14, 15, 1
 const PRODUCTS: [[u8; SYMBOLS]; SYMBOLS] = products();
 
 /// α times a symbol.
+#[inline]
 pub const fn doubled(a: u8) -> u8 {
     let shifted = a << 1;
     if shifted < SYMBOLS as u8 {
@@ -37,18 +38,31 @@ const fn products() -> [[u8; SYMBOLS]; SYMBOLS] {
     products
 }
 
+#[inline]
 pub fn product(a: u8, b: u8) -> u8 {
     PRODUCTS[usize::from(a)][usize::from(b)]
 }
 
-/// 0 for 0.
-pub fn inverse(a: u8) -> u8 {
-    match POWERS.iter().position(|&power| power == a) {
-        Some(exponent) => POWERS[(POWERS.len() - exponent) % POWERS.len()],
-        None => 0,
+const INVERSES: [u8; SYMBOLS] = inverses();
+
+const fn inverses() -> [u8; SYMBOLS] {
+    let mut inverses = [0; SYMBOLS];
+    let mut exponent = 0;
+    while exponent < POWERS.len() {
+        let opposite = (POWERS.len() - exponent) % POWERS.len();
+        inverses[POWERS[exponent] as usize] = POWERS[opposite];
+        exponent += 1;
     }
+    inverses
 }
 
+/// 0 for 0.
+#[inline]
+pub fn inverse(a: u8) -> u8 {
+    INVERSES[usize::from(a)]
+}
+
+#[inline]
 pub fn point(position: usize) -> u8 {
     POWERS[position]
 }

@@ -1,12 +1,12 @@
 //! The roots whose score is above the bound.
 
-use super::elimination::COLUMNS;
 use super::field::{point, product, SYMBOLS};
 use super::polynomial::interpolate;
 use super::roots::roots;
+use super::rows::COLUMNS;
 
 /// k times D/v is no more for any bound of a cost up to 150.
-const ROOM_FOR_ROOTS: usize = 384;
+pub const ROOM_FOR_ROOTS: usize = 384;
 
 fn value(message: &[u8], x: u8) -> u8 {
     let from_the_top = message.iter().rev();
@@ -31,14 +31,17 @@ fn insert(message: &[u8], score: u16, count: usize, rows: &mut [u8], scores: &mu
     rows[k * place..][..k].copy_from_slice(message);
 }
 
-/// Writes rows and scores, and answers how many there are.
-pub fn list(k: usize, matrix: &[u8], rows: &mut [u8], scores: &mut [u16]) -> usize {
-    let mut coefficients = [0; COLUMNS];
-    let (bound, coefficients_count) = interpolate(k, matrix, &mut coefficients);
-    let mut found = [0; ROOM_FOR_ROOTS];
-    let found_count = roots(bound, k, &coefficients[..coefficients_count], &mut found);
+/// Writes the roots whose score is above the bound, with their scores, and answers how many.
+pub fn rank(
+    k: usize,
+    bound: usize,
+    matrix: &[u8],
+    found: &[u8],
+    rows: &mut [u8],
+    scores: &mut [u16],
+) -> usize {
     let mut count = 0;
-    for message in found[..k * found_count].chunks_exact(k) {
+    for message in found.chunks_exact(k) {
         let score = score(matrix, message);
         if usize::from(score) > bound {
             insert(message, score, count, rows, scores);
@@ -46,4 +49,13 @@ pub fn list(k: usize, matrix: &[u8], rows: &mut [u8], scores: &mut [u16]) -> usi
         }
     }
     count
+}
+
+/// Writes rows and scores, and answers how many there are.
+pub fn list(k: usize, matrix: &[u8], rows: &mut [u8], scores: &mut [u16]) -> usize {
+    let mut coefficients = [0; COLUMNS];
+    let (bound, coefficients_count) = interpolate(k, matrix, &mut coefficients);
+    let mut found = [0; ROOM_FOR_ROOTS];
+    let found_count = roots(bound, k, &coefficients[..coefficients_count], &mut found);
+    rank(k, bound, matrix, &found[..k * found_count], rows, scores)
 }

@@ -1,13 +1,16 @@
-//! The proved library's own algorithm in plain safe Rust, to be timed against it: elimination over
-//! the monomials in order, the root search of Roth and Ruckenstein, the roots filtered by score.
+//! The proved library's own algorithm in plain safe Rust, to be timed against it: conditions by
+//! masks, elimination below the pivots in blocks of sixteen columns, back substitution, the root
+//! search of Roth and Ruckenstein, the roots filtered by score.
 //! Inputs are those that the library accepts; nothing is refused here.
 
+mod conditions;
 mod elimination;
 mod field;
 mod list;
 mod polynomial;
 mod roots;
+mod rows;
 
-pub use list::list;
-pub use polynomial::interpolate;
+pub use list::{list, rank, ROOM_FOR_ROOTS};
+pub use polynomial::{eliminate, interpolate, system, System};
 pub use roots::roots;

@@ -1,7 +1,8 @@
 //! The interpolating polynomial.
 
-use super::elimination::{first_dependent, Row, COLUMNS};
-use super::field::{point, product, SYMBOLS};
+use super::conditions::conditions;
+use super::elimination::{first_dependent, solve};
+use super::rows::{Row, BLOCK};
 
 /// N(D) for the weight v.
 pub fn monomials(v: usize, degree: usize) -> usize {
@@ -13,8 +14,7 @@ fn cost(matrix: &[u8]) -> usize {
     matrix.iter().map(cost_of).sum()
 }
 
-pub fn bound(v: usize, matrix: &[u8]) -> usize {
-    let cost = cost(matrix);
+fn bound(v: usize, cost: usize) -> usize {
     let mut degree = 0;
     while monomials(v, degree) <= cost {
         degree += 1;
@@ -27,52 +27,40 @@ pub fn walk(v: usize) -> impl Iterator<Item = (usize, usize)> {
     (0..).flat_map(move |degree: usize| (0..=degree / v).map(move |b| (degree - v * b, b)))
 }
 
-/// What each power becomes at a point by the Hasse derivative of the given order.
-fn derivatives(at: u8, order: usize, powers: usize) -> Row {
-    let mut row = [0; COLUMNS];
-    let mut power = 1;
-    for exponent in order..powers {
-        if exponent & order == order {
-            row[exponent] = power;
-        }
-        power = product(power, at);
-    }
-    row
+/// The conditions of a matrix, in the blocks that its cost needs.
+pub struct System {
+    pub bound: usize,
+    pub count: usize,
+    blocks: usize,
+    rows: Vec<Row>,
 }
 
-fn condition(of_x: &Row, of_y: &Row, monomials: &[(usize, usize)]) -> Row {
-    let mut row = [0; COLUMNS];
-    for (cell, &(a, b)) in row.iter_mut().zip(monomials) {
-        *cell = product(of_x[a], of_y[b]);
+pub fn system(k: usize, matrix: &[u8]) -> System {
+    let v = k - 1;
+    let cost = cost(matrix);
+    let bound = bound(v, cost);
+    let count = monomials(v, bound);
+    let blocks = cost / BLOCK + 1;
+    System {
+        bound,
+        count,
+        blocks,
+        rows: conditions(v, bound, count, blocks, matrix),
     }
-    row
 }
 
-fn conditions(v: usize, degree: usize, matrix: &[u8]) -> Vec<Row> {
-    let monomials: Vec<(usize, usize)> = walk(v).take(monomials(v, degree)).collect();
-    let mut rows = Vec::new();
-    for (index, &m) in matrix.iter().enumerate().filter(|&(_, &m)| m > 0) {
-        let (x, y, m) = (point(index / SYMBOLS), index % SYMBOLS, usize::from(m));
-        for s in 0..m {
-            let of_x = derivatives(x, s, degree + 1);
-            let of_y = |t| derivatives(y as u8, t, degree / v + 1);
-            rows.extend((0..m - s).map(|t| condition(&of_x, &of_y(t), &monomials)));
-        }
-    }
-    rows
+/// Writes the coefficients.
+pub fn eliminate(mut system: System, out: &mut [u8]) {
+    let dependent = first_dependent(&mut system.rows, system.blocks);
+    out[..system.count].fill(0);
+    out[dependent] = 1;
+    solve(&system.rows, dependent, out);
 }
 
 /// Writes the coefficients, and answers the bound and how many they are.
 pub fn interpolate(k: usize, matrix: &[u8], out: &mut [u8]) -> (usize, usize) {
-    let v = k - 1;
-    let degree = bound(v, matrix);
-    let count = monomials(v, degree);
-    let mut rows = conditions(v, degree, matrix);
-    let dependent = first_dependent(&mut rows);
-    out[..count].fill(0);
-    for index in 0..dependent {
-        out[index] = rows[index][dependent];
-    }
-    out[dependent] = 1;
-    (degree, count)
+    let system = system(k, matrix);
+    let (bound, count) = (system.bound, system.count);
+    eliminate(system, out);
+    (bound, count)
 }

@@ -1,36 +1,80 @@
-//! The plain Rust against the second program.
+//! The plain and the packed Rust against the second program.
 
 use crate::baseline;
-use crate::matrices::worn_tag;
+use crate::matrices::{worn_tag, wrong_word};
 use crate::random::Random;
-use crate::room::{interpolated, interpolated_plainly, listed, listed_plainly};
+use crate::room::{interpolated, listed, Program, PACKED, PLAIN};
 use crate::second;
+use crate::second::bound::{GREATEST_LIMIT, GREATEST_MULTIPLICITY};
 use crate::second::code::{LEAST_SIZE, MOST_POSITIONS};
+use crate::second::weights::{GREATEST_LEVEL, LEAST_LEVEL};
+use crate::tags::{random_matrix, within_cost};
 use std::fmt::Debug;
 use std::process::exit;
 
 const SEED: u64 = 9;
-const MATRICES: usize = 5;
+const MATRICES: usize = 2;
 
-pub fn equal<T: Debug + PartialEq>(what: &str, matrix: &[u8], expected: &T, plain: &T) {
-    if expected != plain {
-        eprintln!("{what} differs on {matrix:?}");
+pub fn equal<T: Debug + PartialEq>(
+    program: &str,
+    what: &str,
+    matrix: &[u8],
+    expected: &T,
+    found: &T,
+) {
+    if expected != found {
+        eprintln!("{program}: {what} differs on {matrix:?}");
         eprintln!("expected: {expected:?}");
-        eprintln!("plain Rust: {plain:?}");
+        eprintln!("found: {found:?}");
         exit(1);
     }
 }
 
-/// The roots of a polynomial that was interpolated, by both.
+/// The roots of a polynomial that was interpolated, by the plain Rust and the second program.
 fn compare_roots(k: usize, matrix: &[u8]) {
-    let polynomial = interpolated_plainly(k, matrix);
+    let polynomial = (PLAIN.polynomial)(k, matrix);
     let coefficients = &polynomial.coefficients[..polynomial.count];
     let room = k * (polynomial.bound / (k - 1));
     let (mut roots, mut plain) = (vec![0; room], vec![0; room]);
     let answer = second::roots::roots(polynomial.bound, k, coefficients, &mut roots);
     let count = baseline::roots(polynomial.bound, k, coefficients, &mut plain);
     let expected = (usize::from(answer.count), roots);
-    equal("roots", matrix, &expected, &(count, plain));
+    equal(PLAIN.name, "roots", matrix, &expected, &(count, plain));
+}
+
+fn compare(k: usize, matrix: &[u8]) {
+    let polynomial = interpolated(second::interpolation::interpolate, k, matrix);
+    let list = listed(second::list::list_of_multiplicities, k, matrix);
+    for Program {
+        name,
+        polynomial: other_polynomial,
+        list: other_list,
+    } in [PLAIN, PACKED]
+    {
+        equal(
+            name,
+            "polynomial",
+            matrix,
+            &polynomial,
+            &other_polynomial(k, matrix),
+        );
+        equal(name, "list", matrix, &list, &other_list(k, matrix));
+    }
+    compare_roots(k, matrix);
+}
+
+/// Worn tags and hard words of every level, and entries anywhere up to a random cost.
+fn matrices(random: &mut Random, n: usize, k: usize) -> Vec<Vec<u8>> {
+    let mut matrices = Vec::new();
+    for level in LEAST_LEVEL..=GREATEST_LEVEL {
+        let wrong = random.between(0, n - k);
+        matrices.push(worn_tag(random, n, k, level, wrong));
+        let word = wrong_word(random, n, k, level, wrong);
+        matrices.push(within_cost(random, word, GREATEST_LIMIT));
+        let most = random.between(0, GREATEST_LIMIT);
+        matrices.push(random_matrix(random, n, GREATEST_MULTIPLICITY, most));
+    }
+    matrices
 }
 
 pub fn check() {
@@ -39,17 +83,12 @@ pub fn check() {
     for n in LEAST_SIZE..=MOST_POSITIONS {
         for k in LEAST_SIZE..=n {
             for _ in 0..MATRICES {
-                let wrong = random.between(0, n - k);
-                let matrix = worn_tag(&mut random, n, k, wrong);
-                let polynomial = interpolated(second::interpolation::interpolate, k, &matrix);
-                let plain = interpolated_plainly(k, &matrix);
-                equal("interpolation", &matrix, &polynomial, &plain);
-                compare_roots(k, &matrix);
-                let list = listed(second::list::list_of_multiplicities, k, &matrix);
-                equal("list", &matrix, &list, &listed_plainly(k, &matrix));
-                cases += 1;
+                for matrix in matrices(&mut random, n, k) {
+                    compare(k, &matrix);
+                    cases += 1;
+                }
             }
         }
     }
-    println!("checked: {cases} matrices, plain Rust and second program equal");
+    println!("checked: {cases} matrices, plain Rust, packed Rust and second program equal");
 }

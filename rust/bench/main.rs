@@ -1,5 +1,6 @@
-//! Times the proved library against the same algorithm in plain Rust, on the same matrices, in
-//! turns. With `--check` nothing is timed, and the plain Rust is compared with the second program.
+//! Times the proved library against the same algorithm in plain Rust and against the same method in
+//! Rust packed by hand, on the same matrices, in turns. With `--check` nothing is timed, and both
+//! are compared with the second program.
 
 #[path = "../answer.rs"]
 mod answer;
@@ -8,6 +9,8 @@ mod baseline;
 #[allow(dead_code)] // the entries of the first layer are not timed
 #[path = "../library.rs"]
 mod library;
+#[path = "../packed/mod.rs"]
+mod packed;
 #[allow(dead_code)]
 #[path = "../compare/random.rs"]
 mod random;
@@ -20,8 +23,11 @@ mod tags;
 
 mod check;
 mod matrices;
+mod parts;
 mod room;
 mod timing;
+mod turns;
+mod workloads;
 
 fn main() {
     match std::env::args().nth(1).as_deref() {

@@ -1,9 +1,9 @@
-//! Multiplicity matrices of worn tags.
+//! Multiplicity matrices of worn tags and of hard words.
 
 use crate::random::Random;
 use crate::second::field::{GREATEST_SYMBOL, SYMBOLS};
-use crate::second::weights::{GREATEST_LEVEL, WHOLE};
-use crate::tags::{matrix_of, random_codeword, with_wrong_marks};
+use crate::second::weights::WHOLE;
+use crate::tags::{hard_word, matrix_of, random_codeword, with_wrong_marks};
 
 const MOST_OTHERS: usize = 3;
 
@@ -30,13 +30,19 @@ fn mark(random: &mut Random, seen: u8, right: u8) -> [u16; SYMBOLS] {
     column
 }
 
-/// The matrix of a random codeword's tag with so many wrong marks, at the greatest level.
-pub fn worn_tag(random: &mut Random, n: usize, k: usize, wrong: usize) -> Vec<u8> {
+/// The matrix of a random codeword's tag with so many wrong marks.
+pub fn worn_tag(random: &mut Random, n: usize, k: usize, level: usize, wrong: usize) -> Vec<u8> {
     let right = random_codeword(random, n, k);
     let seen = with_wrong_marks(random, &right, wrong);
     let marks = seen.iter().zip(&right);
     let weights: Vec<u16> = marks
         .flat_map(|(&seen, &right)| mark(random, seen, right))
         .collect();
-    matrix_of(&weights, GREATEST_LEVEL)
+    matrix_of(&weights, level)
+}
+
+/// The matrix with the level at each symbol of a codeword with so many wrong marks.
+pub fn wrong_word(random: &mut Random, n: usize, k: usize, level: usize, wrong: usize) -> Vec<u8> {
+    let right = random_codeword(random, n, k);
+    hard_word(&with_wrong_marks(random, &right, wrong), level as u8)
 }

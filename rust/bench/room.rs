@@ -1,7 +1,9 @@
-//! What a call writes, to be compared.
+//! The programs that are timed, and what a call of theirs writes, to be compared.
 
 use crate::answer::Answer;
 use crate::baseline;
+use crate::library;
+use crate::packed;
 use crate::second::bound::GREATEST_LIMIT;
 use crate::second::code::MOST_POSITIONS;
 use crate::second::field::SYMBOLS;
@@ -37,9 +39,14 @@ pub fn interpolated(interpolate: Interpolate, k: usize, matrix: &[u8]) -> Polyno
     }
 }
 
-pub fn interpolated_plainly(k: usize, matrix: &[u8]) -> Polynomial {
+/// The polynomial by a call that answers its bound and the number of its coefficients.
+fn interpolated_by(
+    interpolate: fn(usize, &[u8], &mut [u8]) -> (usize, usize),
+    k: usize,
+    matrix: &[u8],
+) -> Polynomial {
     let mut coefficients = [0; ROOM_FOR_COEFFICIENTS];
-    let (bound, count) = baseline::interpolate(k, matrix, &mut coefficients);
+    let (bound, count) = interpolate(k, matrix, &mut coefficients);
     Polynomial {
         bound,
         count,
@@ -60,13 +67,42 @@ pub fn listed(list: ListOfMultiplicities, k: usize, matrix: &[u8]) -> List {
     }
 }
 
-pub fn listed_plainly(k: usize, matrix: &[u8]) -> List {
+/// The list by a call that answers the number of its rows.
+fn listed_by(
+    list: fn(usize, &[u8], &mut [u8], &mut [u16]) -> usize,
+    k: usize,
+    matrix: &[u8],
+) -> List {
     let mut rows = [0; MOST_ROWS * MOST_POSITIONS];
     let mut scores = [0; MOST_ROWS];
-    let count = baseline::list(k, matrix, &mut rows, &mut scores);
+    let count = list(k, matrix, &mut rows, &mut scores);
     List {
         count,
         rows,
         scores,
     }
 }
+
+pub struct Program {
+    pub name: &'static str,
+    pub polynomial: fn(usize, &[u8]) -> Polynomial,
+    pub list: fn(usize, &[u8]) -> List,
+}
+
+pub const PROVED: Program = Program {
+    name: "proved",
+    polynomial: |k, matrix| interpolated(library::interpolate, k, matrix),
+    list: |k, matrix| listed(library::list_of_multiplicities, k, matrix),
+};
+
+pub const PLAIN: Program = Program {
+    name: "plain Rust",
+    polynomial: |k, matrix| interpolated_by(baseline::interpolate, k, matrix),
+    list: |k, matrix| listed_by(baseline::list, k, matrix),
+};
+
+pub const PACKED: Program = Program {
+    name: "packed Rust",
+    polynomial: |k, matrix| interpolated_by(packed::interpolate, k, matrix),
+    list: |k, matrix| listed_by(packed::list, k, matrix),
+};

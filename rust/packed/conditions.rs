@@ -1,0 +1,190 @@
+//! The conditions of a matrix by columns: a column is a monomial, a lane of it a condition.
+
+use super::elimination::{Column, MOST_WORDS};
+use super::field::ORDER;
+use super::lanes::{doublings, spread, BITS, LANES, ONES};
+use super::monomials::{walk, Monomial};
+use super::points::Point;
+use std::ops::Range;
+
+/// The orders of derivative, 0 to the greatest multiplicity less 1.
+const ORDERS: usize = 4;
+
+/// The orders of x and of y, in the order of the lanes: few pivots are 0 so.
+const DERIVATIVES: [(usize, usize); 10] = [
+    (0, 0),
+    (1, 0),
+    (2, 0),
+    (0, 1),
+    (3, 0),
+    (1, 1),
+    (2, 1),
+    (0, 2),
+    (1, 2),
+    (0, 3),
+];
+
+type Words<const WORDS: usize> = [u64; WORDS];
+
+/// The lanes have the points of one derivative after those of another.
+struct Lanes<const WORDS: usize> {
+    /// 1 in the lanes in use.
+    used: Words<WORDS>,
+    x: Words<WORDS>,
+    /// 1 where y is 0.
+    y: Words<WORDS>,
+    /// 15 where y is 0.
+    y_zero: Words<WORDS>,
+    /// By the power of x modulo 4: 15 where the derivative leaves it.
+    left_of_x: [Words<WORDS>; ORDERS],
+    /// 15 in the lanes of each order of y.
+    of_order: [Words<WORDS>; ORDERS],
+}
+
+fn put<const WORDS: usize>(words: &mut Words<WORDS>, at: usize, symbol: u8) {
+    words[at / LANES] |= u64::from(symbol) << (BITS * (at % LANES));
+}
+
+/// Puts these bits into every lane of the range.
+fn put_all<const WORDS: usize>(words: &mut Words<WORDS>, range: &Range<usize>, bits: u64) {
+    for (word, lanes) in words.iter_mut().enumerate() {
+        let within = |at: usize| at.saturating_sub(LANES * word).min(LANES) * BITS;
+        let below = |at: usize| u64::MAX.checked_shl(within(at) as u32).unwrap_or(0);
+        *lanes |= bits & below(range.start) & !below(range.end);
+    }
+}
+
+impl<const WORDS: usize> Lanes<WORDS> {
+    fn of(points: &[Point]) -> Self {
+        let mut lanes = Lanes {
+            used: [0; WORDS],
+            x: [0; WORDS],
+            y: [0; WORDS],
+            y_zero: [0; WORDS],
+            left_of_x: [[0; WORDS]; ORDERS],
+            of_order: [[0; WORDS]; ORDERS],
+        };
+        let mut at = 0;
+        for (of_x, of_y) in DERIVATIVES {
+            let first = at;
+            for point in points {
+                if usize::from(point.multiplicity) > of_x + of_y {
+                    lanes.put_point(at, point);
+                    at += 1;
+                }
+            }
+            if first < at {
+                lanes.put_derivative(first..at, of_x, of_y);
+            }
+        }
+        lanes
+    }
+
+    fn put_point(&mut self, at: usize, point: &Point) {
+        put(&mut self.x, at, point.x);
+        put(&mut self.y, at, point.y.max(1));
+        if point.y == 0 {
+            put(&mut self.y_zero, at, 15);
+        }
+    }
+
+    fn put_derivative(&mut self, range: Range<usize>, of_x: usize, of_y: usize) {
+        put_all(&mut self.used, &range, ONES);
+        put_all(&mut self.of_order[of_y], &range, u64::MAX);
+        for (power, words) in self.left_of_x.iter_mut().enumerate() {
+            if power & of_x == of_x {
+                put_all(words, &range, u64::MAX);
+            }
+        }
+    }
+
+    /// 15 where the derivative leaves a power of y: where the binomial is odd, and at 0 where it is
+    /// the power itself.
+    fn left_of_y(&self, power: usize) -> Words<WORDS> {
+        let mut left = [0; WORDS];
+        for (order, of_order) in self.of_order.iter().enumerate() {
+            for word in 0..WORDS {
+                if power & order == order {
+                    left[word] |= of_order[word] & !self.y_zero[word];
+                }
+                if power == order {
+                    left[word] |= of_order[word];
+                }
+            }
+        }
+        left
+    }
+}
+
+/// A factor of products: its lanes' bits, spread.
+type Spread<const WORDS: usize> = [Words<WORDS>; BITS];
+
+fn spreads<const WORDS: usize>(words: &Words<WORDS>) -> Spread<WORDS> {
+    let mut spreads = [[0; WORDS]; BITS];
+    for (bit, spreads) in spreads.iter_mut().enumerate() {
+        for word in 0..WORDS {
+            spreads[word] = spread(words[word], bit);
+        }
+    }
+    spreads
+}
+
+/// The product, lane by lane, of what the doublings double and of what is spread.
+fn product<const WORDS: usize>(a: &[Words<WORDS>; BITS], b: &Spread<WORDS>) -> Words<WORDS> {
+    let mut product = [0; WORDS];
+    for bit in 0..BITS {
+        for word in 0..WORDS {
+            product[word] ^= a[bit][word] & b[bit][word];
+        }
+    }
+    product
+}
+
+/// The powers of x, 0 to 14, each with its doublings.
+fn powers_of_x<const WORDS: usize>(lanes: &Lanes<WORDS>) -> [[Words<WORDS>; BITS]; ORDER] {
+    let x = spreads(&lanes.x);
+    let mut powers = [[[0; WORDS]; BITS]; ORDER];
+    let mut next = lanes.used;
+    for power in &mut powers {
+        *power = doublings(&next);
+        next = product(power, &x);
+    }
+    powers
+}
+
+/// The powers of y up to the height, spread, in the lanes where the derivative leaves them.
+fn powers_of_y<const WORDS: usize>(lanes: &Lanes<WORDS>, height: usize) -> Vec<Spread<WORDS>> {
+    let y = spreads(&lanes.y);
+    let mut next = lanes.used;
+    let powers = (0..=height).map(|power| {
+        let mut left = lanes.left_of_y(power);
+        for word in 0..WORDS {
+            left[word] &= next[word];
+        }
+        next = product(&doublings(&next), &y);
+        spreads(&left)
+    });
+    powers.collect()
+}
+
+/// The first columns for the weight v, no power of y being above the height.
+pub fn columns<const WORDS: usize>(
+    points: &[Point],
+    v: usize,
+    height: usize,
+    count: usize,
+) -> Vec<Column> {
+    let lanes = Lanes::<WORDS>::of(points);
+    let of_x = powers_of_x(&lanes);
+    let of_y = powers_of_y(&lanes, height);
+    let column = |Monomial { a, b }| {
+        let values = product(&of_x[a % ORDER], &of_y[b]);
+        let left = &lanes.left_of_x[a % ORDERS];
+        let mut column = [0; MOST_WORDS];
+        for (word, cell) in column[MOST_WORDS - WORDS..].iter_mut().enumerate() {
+            *cell = values[word] & left[word];
+        }
+        column
+    };
+    walk(v).take(count).map(column).collect()
+}

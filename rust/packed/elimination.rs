@@ -1,0 +1,185 @@
+//! Elimination by columns, sixteen pivots at a time, up to the first column that depends on those
+//! before it.
+
+use super::field::{quotient, SYMBOLS};
+use super::lanes::{add, first_lane, lane, masks, multiples, scaled, BITS, LANES};
+
+/// No cost up to 150 needs more.
+pub const MOST_WORDS: usize = 10;
+
+/// The words in use are the last ones, and of these the words from the pivot's on are changed.
+pub type Column = [u64; MOST_WORDS];
+
+/// Entry c is c times a column.
+type Multiples = [Column; SYMBOLS];
+
+/// Where multiples are kept.
+struct Tables {
+    /// Those of a pivot's factors.
+    of_factors: Multiples,
+    /// Those of what a 1 in each pivot's lane becomes, where columns follow.
+    of_became: Vec<Multiples>,
+}
+
+/// What sixteen pivots do to the columns behind them.
+struct Panel<const WORDS: usize> {
+    /// The pivots' lanes that another lane was added to, with that lane.
+    added: [(usize, usize); LANES],
+    added_count: usize,
+    /// What a 1 in each pivot's lane becomes.
+    became: [[u64; WORDS]; LANES],
+}
+
+fn part<const WORDS: usize>(column: &Column) -> &[u64; WORDS] {
+    column.last_chunk().expect("a column is long enough")
+}
+
+fn part_mut<const WORDS: usize>(column: &mut Column) -> &mut [u64; WORDS] {
+    column.last_chunk_mut().expect("a column is long enough")
+}
+
+/// The first lane from a place of the first word on that is not 0.
+fn first_from(words: &[u64], place: usize) -> Option<usize> {
+    let from_place = words[0] >> (BITS * place) << (BITS * place);
+    first_lane(from_place).or_else(|| {
+        let behind = words.iter().enumerate().skip(1);
+        let mut found = behind.filter_map(|(word, &lanes)| Some(LANES * word + first_lane(lanes)?));
+        found.next()
+    })
+}
+
+/// The lane found, put where the pivot's is.
+fn moved(words: &[u64], found: usize, place: usize) -> u64 {
+    let symbol = lane(words[found / LANES], found % LANES) as u64;
+    symbol << (BITS * place)
+}
+
+/// The column behind its pivot's lane, over the pivot.
+fn factors<const WORDS: usize>(column: &[u64; WORDS], place: usize) -> [u64; WORDS] {
+    let inverse = masks(quotient(1, lane(column[0], place)));
+    let mut factors = *column;
+    for word in &mut factors {
+        *word = scaled(*word, &inverse);
+    }
+    let behind = BITS * place;
+    factors[0] = factors[0] >> behind >> BITS << behind << BITS;
+    factors
+}
+
+#[inline(always)]
+fn put_multiples<const WORDS: usize>(words: &[u64; WORDS], table: &mut Multiples) {
+    for word in 0..WORDS {
+        let multiples = multiples(words[word]);
+        for (entry, multiple) in table.iter_mut().zip(multiples) {
+            entry[MOST_WORDS - WORDS + word] = multiple;
+        }
+    }
+}
+
+impl<const WORDS: usize> Panel<WORDS> {
+    /// Takes the pivot of the column at this place, and answers whether there is one.
+    fn pivot(
+        &mut self,
+        columns: &mut [Column],
+        place: usize,
+        is_followed: bool,
+        table: &mut Multiples,
+    ) -> bool {
+        let (column, behind) = columns[place..].split_first_mut().expect("a column");
+        let column = part_mut::<WORDS>(column);
+        let Some(found) = first_from(column, place) else {
+            return false;
+        };
+        if found != place {
+            column[0] ^= moved(column, found, place);
+            self.added[self.added_count] = (place, found);
+            self.added_count += 1;
+        }
+        let factors = factors(column, place);
+        put_multiples(&factors, table);
+        let before = if is_followed { place } else { 0 };
+        let behind = behind.iter_mut().map(part_mut::<WORDS>);
+        for words in behind.chain(&mut self.became[..before]) {
+            if found != place {
+                words[0] ^= moved(words, found, place);
+            }
+            add(words, part(&table[lane(words[0], place)]));
+        }
+        self.became[place] = factors;
+        self.became[place][0] |= 1 << (BITS * place);
+        true
+    }
+
+    /// The pivots' lanes of a column, before the pivots change them.
+    fn pivots(&self, words: &[u64; WORDS]) -> u64 {
+        let added = self.added[..self.added_count].iter();
+        added.fold(words[0], |pivots, &(place, found)| {
+            pivots ^ moved(words, found, place)
+        })
+    }
+
+    /// Does to the columns behind the panel what its pivots do.
+    fn follow(&self, columns: &mut [Column], tables: &mut [Multiples]) {
+        for (became, table) in self.became.iter().zip(&mut *tables) {
+            put_multiples(became, table);
+        }
+        let tables: &[Multiples; LANES] = tables.first_chunk().expect("a table for each pivot");
+        for column in columns {
+            let words = part_mut::<WORDS>(column);
+            let pivots = self.pivots(words);
+            let mut sums = *words;
+            sums[0] = 0;
+            for (place, table) in tables.iter().enumerate() {
+                add(&mut sums, part(&table[lane(pivots, place)]));
+            }
+            *words = sums;
+        }
+    }
+}
+
+/// Takes the pivots of the lanes of one word. Answers the first column that has none, if any.
+fn reduce<const WORDS: usize>(columns: &mut [Column], tables: &mut Tables) -> Option<usize> {
+    let mut panel = Panel {
+        added: [(0, 0); LANES],
+        added_count: 0,
+        became: [[0; WORDS]; LANES],
+    };
+    let (own, behind) = columns.split_at_mut(LANES.min(columns.len()));
+    for place in 0..own.len() {
+        if !panel.pivot(own, place, !behind.is_empty(), &mut tables.of_factors) {
+            return Some(place);
+        }
+    }
+    if !behind.is_empty() {
+        panel.follow(behind, &mut tables.of_became);
+    }
+    None
+}
+
+/// Reduces the columns until one depends on those before it, and answers that one.
+pub fn first_dependent(columns: &mut [Column], words: usize) -> usize {
+    let followed = if columns.len() > LANES { LANES } else { 0 };
+    let tables = &mut Tables {
+        of_factors: [[0; MOST_WORDS]; SYMBOLS],
+        of_became: vec![[[0; MOST_WORDS]; SYMBOLS]; followed],
+    };
+    for word in 0..words {
+        let left = &mut columns[LANES * word..];
+        let dependent = match words - word {
+            1 => reduce::<1>(left, tables),
+            2 => reduce::<2>(left, tables),
+            3 => reduce::<3>(left, tables),
+            4 => reduce::<4>(left, tables),
+            5 => reduce::<5>(left, tables),
+            6 => reduce::<6>(left, tables),
+            7 => reduce::<7>(left, tables),
+            8 => reduce::<8>(left, tables),
+            9 => reduce::<9>(left, tables),
+            _ => reduce::<MOST_WORDS>(left, tables),
+        };
+        if let Some(place) = dependent {
+            return LANES * word + place;
+        }
+    }
+    LANES * words
+}

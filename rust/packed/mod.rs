@@ -1,0 +1,20 @@
+//! The list by the same method, packed by hand for speed: sixteen symbols in each word of 64 bits.
+//! A column of the conditions is up to ten words, so that elimination changes all its rows at once,
+//! sixteen pivots at a time. Roots are searched in words of sixteen powers of x, and a symbol that
+//! is a simple root decides all those after it.
+//! Safe Rust for up to fifteen positions and a cost up to 150; nothing is refused here.
+
+mod conditions;
+mod elimination;
+mod field;
+mod interpolation;
+mod lanes;
+mod list;
+mod monomials;
+mod points;
+mod roots;
+mod straight;
+mod substitution;
+
+pub use interpolation::interpolate;
+pub use list::list;
