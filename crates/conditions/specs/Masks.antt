@@ -49,23 +49,30 @@ baseAt b = cond (eqb b 0) 1 b
 abbrev pub keptOrder : List ℕ → List ℕ → ℕ → ℕ → List (List ℕ)
 keptOrder row ys b m = map (λ (t : ℕ). keptRow row ys (askedAt b t) t) (below m)
 
+-- the rows of the order s by x, of a point of multiplicity m
+abbrev pub orderAt : List ℕ → List (List ℕ) → ℕ → ℕ → ℕ → List (List ℕ)
+orderAt row es b m s = keptOrder (keptRow row (getD es 0 []) s s) (getD es 1 []) b (m - s)
+
 -- the rows of the orders (s, t) with s + t < m
 abbrev pub keptOrders : List ℕ → List (List ℕ) → ℕ → ℕ → List (List ℕ)
-keptOrders row es b m = flatMap (λ (s : ℕ). keptOrder (keptRow row (getD es 0 []) s s) (getD es 1 []) b (m - s)) (below m)
+keptOrders row es b m = flatMap (orderAt row es b m) (below m)
 
 -- the rows of a point of multiplicity m
 abbrev pub maskedPoint : List ℕ → ℕ → ℕ → List (List ℕ) → ℕ → ℕ → List (List ℕ)
 maskedPoint px n count es b m = keptOrders (valuesRow count px (powersRow n (baseAt b)) es) es b m
 
+-- the rows of a symbol at a position
+abbrev pub pointAt : List ℕ → ℕ → ℕ → List (List ℕ) → List ℕ → ℕ → List (List ℕ)
+pointAt px n count es column b = maskedPoint px n count es b (getD column b 0)
+
 -- the rows of a position
 abbrev pub maskedColumn : List ℕ → ℕ → ℕ → List (List ℕ) → List ℕ → List (List ℕ)
-maskedColumn px n count es column = flatMap (λ (b : ℕ). maskedPoint px n count es b (getD column b 0)) (below (sixteen .symbols))
+maskedColumn px n count es column = flatMap (pointAt px n count es column) (below (sixteen .symbols))
 
--- the rows of the first n positions of a matrix
-abbrev pub maskedPositions : ℕ → ℕ → ℕ → List (List ℕ) → ℕ → List (List ℕ)
-maskedPositions v d count a n =
-    flatMap (λ (i : ℕ). maskedColumn (powersRow (d + 1) (point sixteen i)) (d / v + 1) count (exponentRows v count) (getD a i [])) (below n)
+-- the rows of position i of a matrix
+abbrev pub columnAt : ℕ → ℕ → ℕ → List (List ℕ) → ℕ → List (List ℕ)
+columnAt v d count a i = maskedColumn (powersRow (d + 1) (point sixteen i)) (d / v + 1) count (exponentRows v count) (getD a i [])
 
--- the rows of a whole matrix
+-- the rows of a matrix
 abbrev pub maskedRows : ℕ → ℕ → ℕ → List (List ℕ) → List (List ℕ)
-maskedRows v d count a = maskedPositions v d count a (sixteen .positions)
+maskedRows v d count a = flatMap (columnAt v d count a) (below (sixteen .positions))

@@ -1,64 +1,43 @@
+-- The loop puts one row more behind those of the lower orders.
+use mathlib.Core.Path.{_≡_, refl, _∙_, ap}
+use Prim.Native.Nat.{ℕ, _+_, _-_, _≤_}
+use native.Mathlib.Omega.{arith}
+use borrow.Author.Needs.{needs}
+use lib.ListN.{length, set, length-set}
+use lib.Seq.{sets}
+use Rattle.conditions.proofs.Placed.{rows-none, rows-more}
+use Rattle.conditions.specs.Masks.{askedAt, keptRow, keptOrder}
 use Rattle.conditions.proofs.inside.masked_order.Statement.{statement}
 use Rattle.conditions.proofs.inside.masked_order.Tie as tie
-use Rattle.conditions.proofs.inside.masked_order.Reads as reads
-use Rattle.conditions.proofs.inside.masked_order.Lts as lts
-use Rattle.conditions.proofs.inside.asked_at.Reads as asked-at-reads
-use Rattle.conditions.proofs.inside.kept.Reads as kept-reads
-use Rattle.field.proofs.inside.wide.Reads as wide-reads
 
 abbrev Inv-loop : tie.InvT-loop
-Inv-loop rows₀ at row ys b m t₀ rows t = ?
+Inv-loop rows₀ at row ys b m t₀ rows t = (t ≤ m) × (length rows ≡ length rows₀) × (rows ≡ sets rows₀ at (keptOrder row ys b t))
 
 abbrev μ-loop : tie.MeasureT-loop
-μ-loop rows₀ at row ys b m t₀ rows t = ?
+μ-loop rows₀ at row ys b m t₀ rows t = m - t
 
--- src/inside.rt:310:5
 loop-holds : tie.Need-loop-holds Inv-loop μ-loop
-loop-holds c = ?
+loop-holds c =
+    let a = c .args in
+    (omega arith, refl, rows-none (λ (t : ℕ). keptRow (a .row .now) (a .ys .now) (askedAt (a .b) t) t) (a .rows .now) (a .at))
 
--- src/inside.rt:311:34
-asked-at-requires : tie.Need-asked-at-requires Inv-loop μ-loop
-asked-at-requires c κs = ?
-
--- src/inside.rt:311:13
-kept-requires : tie.Need-kept-requires Inv-loop μ-loop
-kept-requires c κs = ?
-
--- src/inside.rt:312:19
-wide-requires : tie.Need-wide-requires Inv-loop μ-loop
-wide-requires c κs = ?
-
--- src/inside.rt:312:14
-add-next : tie.Need-add-next Inv-loop μ-loop
-add-next c = ?
-
--- src/inside.rt:312:9
-mul-next : tie.Need-mul-next Inv-loop μ-loop
-mul-next c = ?
-
--- src/inside.rt:312:9
-slice-set-from-next : tie.Need-slice-set-from-next Inv-loop μ-loop
-slice-set-from-next c = ?
-
--- src/inside.rt:313:9
-add-t : tie.Need-add-t Inv-loop μ-loop
-add-t c = ?
-
--- src/inside.rt:310:5
-loop-less : tie.Need-loop-less Inv-loop μ-loop
-loop-less c = ?
-
--- src/inside.rt:310:5
 loop-again : tie.Need-loop-again Inv-loop μ-loop
-loop-again c = ?
+loop-again c =
+    let k = c .before in
+    let l = k .before .before .before in
+    let a = l .before .args in (
+      omega arith,
+      length-set (l .loop .rows) (a .at + c .wide .result) (k .kept .result) ∙ l .loop .inv .1,
+      ap (λ (n : ℕ). set (l .loop .rows) (a .at + n) (k .kept .result)) (c .wide .ensures .0)
+          ∙ rows-more (λ (t : ℕ). keptRow (a .row .now) (a .ys .now) (askedAt (a .b) t) t) (a .rows .now) (a .at) (l .loop .rows) (l .loop .t) (k .kept .result) (l .loop .inv .2)
+          (k .kept .ensures ∙ ap (λ (asked : ℕ). keptRow (a .row .now) (a .ys .now) asked (l .loop .t)) (k .before .asked-at .ensures)),
+    )
 
--- src/inside.rt:298:1
-same-length : tie.Need-same-length Inv-loop μ-loop
-same-length c = ?
-
--- src/inside.rt:298:1
 returns : tie.Need-returns Inv-loop μ-loop
-returns c = ?
+returns c =
+    let l = c .before in
+    let e : l .loop .t ≡ l .before .args .m = omega arith in
+    rw e at (l .loop .inv .2)
 
 pub masked-order-spec : {M : Type 1} → statement M
 masked-order-spec =
@@ -67,14 +46,14 @@ masked-order-spec =
     Inv-loop
     μ-loop
     loop-holds
-    asked-at-requires
-    kept-requires
-    wide-requires
-    add-next
-    mul-next
-    slice-set-from-next
-    add-t
-    loop-less
+    (λ c κs. search needs)
+    (λ c κs. search needs)
+    (λ c κs. search needs)
+    (λ c. search needs)
+    (λ c. search needs)
+    (λ c. search needs)
+    (λ c. search needs)
+    (λ c. search needs)
     loop-again
-    same-length
+    (λ c. search needs)
     returns)
