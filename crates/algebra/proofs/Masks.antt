@@ -32,7 +32,7 @@ module _ (A : Ops) where
   infixl 70 _⊗_
   -- what two masks leave of x
   abbrev pub masked : Bool → Bool → K → K
-  masked p q x = cond p (cond q x o) o
+  masked p q x = cond q (cond p x o) o
 
   -- the values of the monomials at (x, y), where the power of x has the bits of s and that of y passes a test against t
   abbrev pub maskedRow : (ℕ → ℕ → Bool) → List (ℕ × ℕ) → ℕ → ℕ → K → K → ℕ → K
@@ -114,8 +114,8 @@ module _ (R : Ring) where
   -- the masks of a product mask its factors
   masked-product : (p q : Bool) (u v : K) → masked (R .ops) p q (u ⊗ v) ≡ cond p u o ⊗ cond q v o
   masked-product true true u v = refl
-  masked-product true false u v = sym (times-zero R u)
-  masked-product false q u v = sym (zero-times R (cond q v o))
+  masked-product false true u v = sym (zero-times R v)
+  masked-product p false u v = sym (times-zero R (cond p u o))
 
   -- factors sorted
   exchange : (p d g e : K) → (p ⊗ d) ⊗ (g ⊗ e) ≡ p ⊗ g ⊗ (d ⊗ e)
@@ -171,8 +171,8 @@ module _ (A R : Ops) (h : Hom A R) where
   -- a map that keeps zero carries what masks leave
   carry-masked : (p q : Bool) (x : A .K) → φ (masked A p q x) ≡ masked R p q (φ x)
   carry-masked true true x = refl
-  carry-masked true false x = φ-zero
-  carry-masked false q x = φ-zero
+  carry-masked false true x = φ-zero
+  carry-masked p false x = φ-zero
 
   -- and so masked rows
   carry-maskedRow : (test : ℕ → ℕ → Bool) (l : List (ℕ × ℕ)) (s t : ℕ) (x y : A .K) (k : ℕ)

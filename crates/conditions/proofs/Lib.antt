@@ -3,3 +3,4 @@ pub mod Walk
 pub mod Placed
 pub mod Counts
 pub mod Masks
+pub mod Vanishing
