@@ -194,10 +194,10 @@ fn exponents(v: usize, count: usize) -> [[u8; WIDTH]; 2]
     let mut x = 0;
     let mut y = 0usize;
     let mut degree = 0;
-    let mut k = 0;
-    while k < count {
-        xs[k] = x as u8;
-        ys[k] = y as u8;
+    let mut step = 0;
+    while step < count {
+        xs[step] = x as u8;
+        ys[step] = y as u8;
         if v <= x {
             x -= v;
             y += 1;
@@ -206,7 +206,7 @@ fn exponents(v: usize, count: usize) -> [[u8; WIDTH]; 2]
             x = degree;
             y = 0;
         }
-        k += 1;
+        step += 1;
     }
     [xs, ys]
 }
@@ -242,12 +242,12 @@ fn values(
     ensures { λ r. ⌜ r ≡ valuesRow count (now (px .entry)) (now (py .entry)) (now (es .entry)) ⌝ }
 {
     let mut row = [0u8; WIDTH];
-    let mut k = 0;
-    while k < count {
-        let x = field::inside::wide(es[0][k]);
-        let y = field::inside::wide(es[1][k]);
-        row[k] = field::inside::look(table, px[x], py[y]);
-        k += 1;
+    let mut place = 0;
+    while place < count {
+        let x = field::inside::wide(es[0][place]);
+        let y = field::inside::wide(es[1][place]);
+        row[place] = field::inside::look(table, px[x], py[y]);
+        place += 1;
     }
     row
 }

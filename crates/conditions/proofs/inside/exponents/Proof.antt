@@ -13,22 +13,22 @@ use Rattle.conditions.proofs.inside.exponents.Statement.{statement}
 use Rattle.conditions.proofs.inside.exponents.Tie as tie
 
 abbrev Inv-loop : tie.InvT-loop
-Inv-loop v count xs₀ ys₀ x₀ y₀ degree₀ k₀ xs ys x y degree k =
-    (k ≤ count) × ((x ≡ walked v k .0) × (y ≡ walked v k .1) × (degree ≡ walked v k .2))
-    × (xs ≡ filled k (λ (j : ℕ). walked v j .0)) × (ys ≡ filled k (λ (j : ℕ). walked v j .1))
+Inv-loop v count xs₀ ys₀ x₀ y₀ degree₀ step₀ xs ys x y degree step =
+    (step ≤ count) × ((x ≡ walked v step .0) × (y ≡ walked v step .1) × (degree ≡ walked v step .2))
+    × (xs ≡ filled step (λ (k : ℕ). walked v k .0)) × (ys ≡ filled step (λ (k : ℕ). walked v k .1))
 
 abbrev μ-loop : tie.MeasureT-loop
-μ-loop v count xs₀ ys₀ x₀ y₀ degree₀ k₀ xs ys x y degree k = count - k
+μ-loop v count xs₀ ys₀ x₀ y₀ degree₀ step₀ xs ys x y degree step = count - step
 
 loop-holds : tie.Need-loop-holds Inv-loop μ-loop
 loop-holds c =
     let v = c .args .v in
-    (omega arith, walk-begins v, filled-none (λ j. walked v j .0), filled-none (λ j. walked v j .1))
+    (omega arith, walk-begins v, filled-none (λ k. walked v k .0), filled-none (λ k. walked v k .1))
 
 -- no power is above the number of steps
-low : (c : tie.At-loop Inv-loop μ-loop) → (c .loop .x ≤ c .loop .k) × (c .loop .y ≤ c .loop .k) × (c .loop .degree ≤ c .loop .k)
+low : (c : tie.At-loop Inv-loop μ-loop) → (c .loop .x ≤ c .loop .step) × (c .loop .y ≤ c .loop .step) × (c .loop .degree ≤ c .loop .step)
 low c =
-    let w = walked-le (c .before .args .v) (omega arith) (c .loop .k) in
+    let w = walked-le (c .before .args .v) (omega arith) (c .loop .step) in
     (omega arith, omega arith, omega arith)
 
 cast-xs : tie.Need-cast-xs Inv-loop μ-loop
@@ -51,19 +51,19 @@ loop-again c =
       omega arith,
       ⊎-elim
           (λ w.
-          let r = walk-stays v (l .loop .k) (l .loop .x) (l .loop .y) (l .loop .degree) (i .0) (i .1) (i .2) (w .0 .taken) in
+          let r = walk-stays v (l .loop .step) (l .loop .x) (l .loop .y) (l .loop .degree) (i .0) (i .1) (i .2) (w .0 .taken) in
           (w .1 ∙ r .0, w .2 ∙ r .1, w .3 ∙ r .2))
           (λ w.
-          let r = walk-turns v (l .loop .k) (l .loop .x) (l .loop .y) (l .loop .degree) (i .0) (i .1) (i .2) (w .0 .left) in
+          let r = walk-turns v (l .loop .step) (l .loop .x) (l .loop .y) (l .loop .degree) (i .0) (i .1) (i .2) (w .0 .left) in
           (w .1 ∙ r .0, w .2 ∙ r .1, w .3 ∙ r .2)) (c .if1 .came),
-      filled-more (λ j. walked v j .0) (l .loop .xs) (l .loop .k) (l .loop .x) (omega arith) (l .loop .inv .2) (i .0),
-      filled-more (λ j. walked v j .1) (l .loop .ys) (l .loop .k) (l .loop .y) (omega arith) (l .loop .inv .3) (i .1),
+      filled-more (λ k. walked v k .0) (l .loop .xs) (l .loop .step) (l .loop .x) (omega arith) (l .loop .inv .2) (i .0),
+      filled-more (λ k. walked v k .1) (l .loop .ys) (l .loop .step) (l .loop .y) (omega arith) (l .loop .inv .3) (i .1),
     )
 
 returns : tie.Need-returns Inv-loop μ-loop
 returns c =
     let l = c .before in
-    let e : l .loop .k ≡ l .before .args .count = omega arith in
+    let e : l .loop .step ≡ l .before .args .count = omega arith in
     ap₂ (λ (x y : List ℕ). x ∷ y ∷ []) (rw e at (l .loop .inv .2)) (rw e at (l .loop .inv .3))
 
 pub exponents-spec : {M : Type 1} → statement M
