@@ -23,7 +23,7 @@ use Rattle.algebra.proofs.Elements.{number-injective, zero-symbol, zero
 use Rattle.algebra.proofs.Linear.{dot, row, dot-equal, dot-multiple, carry-dot, hasse-is-dot}
 use Rattle.algebra.proofs.Numbers.{elements, number-power}
 use Rattle.algebra.proofs.Parity.{within, odd-binomial}
-use Rattle.algebra.proofs.RingLaws.{ring, one-times, times-zero, zero-times, times-assoc, cancel}
+use Rattle.algebra.proofs.RingLaws.{ring, one-times, times-zero, zero-times, times-assoc, times-left, cancel}
 use Rattle.algebra.proofs.Solutions.{number-entry, number-hasse-at}
 
 module _ (A : Ops) where
@@ -58,10 +58,6 @@ module _ (R : Ring) where
   power-of-one zero = power-zero (R .ops) i
   power-of-one (suc n) = power-suc (R .ops) i n ∙ one-times R (power (R .ops) i n) ∙ power-of-one n
 
-  -- a factor behind the next
-  swap : (p m d : K) → p ⊗ (m ⊗ d) ≡ m ⊗ (p ⊗ d)
-  swap p m d = simp ring
-
   -- x^s times the derivative of order s of x^e is x^e, as often as the binomial says
   power-derivative : (e s : ℕ) (x : K)
       → power (R .ops) x s ⊗ derivative (R .ops) e s x ≡ modulo2 (R .ops) (binomial e s) ⊗ power (R .ops) x e
@@ -71,7 +67,7 @@ module _ (R : Ring) where
         | no n ↦
             let f : s + (e - s) ≡ e = omega arith in
             ap (λ (y : K). power (R .ops) x s ⊗ y) (derivative-at R e s x)
-            ∙ swap (power (R .ops) x s) (modulo2 (R .ops) (binomial e s)) (power (R .ops) x (e - s))
+            ∙ times-left R (power (R .ops) x s) (modulo2 (R .ops) (binomial e s)) (power (R .ops) x (e - s))
             ∙ ap (λ (y : K). modulo2 (R .ops) (binomial e s) ⊗ y) (sym (power-add x s (e - s)) ∙ ap (power (R .ops) x) f)
       ]
 

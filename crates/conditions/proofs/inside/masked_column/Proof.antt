@@ -1,5 +1,5 @@
 -- The loop puts the rows of one symbol more behind those of the symbols below it.
-use mathlib.Core.List.{List, flatMap}
+use mathlib.Core.List.{flatMap}
 use mathlib.Core.Path.{_≡_, refl, sym, _∙_, ap, subst}
 use Prim.Native.Nat.{ℕ, _+_, _-_, _≤_}
 use native.Mathlib.Omega.{arith}

@@ -1,11 +1,11 @@
 -- The loop puts the rows of one order by x more behind those of the lower orders.
 use mathlib.Core.List.{List, [], flatMap}
-use mathlib.Core.Path.{_≡_, refl, sym, _∙_, ap, ap₂}
+use mathlib.Core.Path.{_≡_, refl, _∙_, ap}
 use Prim.Native.Nat.{ℕ, _+_, _-_, _≤_}
 use native.Mathlib.Omega.{arith}
 use borrow.Author.Needs.{needs}
 use lib.ListN.{length, getD}
-use lib.Seq.{sets, length-sets}
+use lib.Seq.{sets}
 use Rattle.conditions.proofs.Masks.{length-orderAt}
 use Rattle.conditions.proofs.Placed.{joined-none, none-counted, joined-more, count-more}
 use Rattle.conditions.specs.Masks.{keptOrder, orderAt}
