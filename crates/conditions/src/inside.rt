@@ -294,7 +294,7 @@ fn base_at(b: u8) -> u8
     b
 }
 
-// The conditions of one order by x: the orders by y below m.
+// The conditions of one order by x: the orders by y below m. Answers the place after them.
 fn masked_order(
     rows: &mut [[u8; WIDTH]],
     at: usize,
@@ -302,16 +302,20 @@ fn masked_order(
     ys: &[u8; WIDTH],
     b: u8,
     m: u8,
-)
+) -> usize
     requires { ⌜ at + m ≤ length (now rows) ⌝ }
+    ensures { λ r. ⌜ r ≡ at + m ⌝ }
     ensures { λ _. ⌜ now (rows .exit) ≡ sets (now (rows .entry)) at (keptOrder (now (row .entry)) (now (ys .entry)) b m) ⌝ }
 {
+    let mut next = at;
     let mut t = 0u8;
     while t < m {
-        let next = kept(row, ys, asked_at(b, t), t);
-        rows[at + field::inside::wide(t)] = next;
+        let condition = kept(row, ys, asked_at(b, t), t);
+        rows[next] = condition;
+        next += 1;
         t += 1;
     }
+    next
 }
 
 // The conditions of all orders below m, of the monomials' values. Answers the place after them.
@@ -331,8 +335,7 @@ fn masked_orders(
     let mut s = 0u8;
     while s < m {
         let part = kept(row, &es[0], s, s);
-        masked_order(rows, next, &part, &es[1], b, m - s);
-        next += field::inside::wide(m - s);
+        next = masked_order(rows, next, &part, &es[1], b, m - s);
         s += 1;
     }
     next

@@ -11,33 +11,34 @@ use Rattle.conditions.proofs.inside.masked_order.Statement.{statement}
 use Rattle.conditions.proofs.inside.masked_order.Tie as tie
 
 abbrev Inv-loop : tie.InvT-loop
-Inv-loop rows₀ at row ys b m t₀ rows t = (t ≤ m) × (length rows ≡ length rows₀) × (rows ≡ sets rows₀ at (keptOrder row ys b t))
+Inv-loop rows₀ at row ys b m next₀ t₀ rows next t =
+    (t ≤ m) × (length rows ≡ length rows₀) × (next ≡ at + t) × (rows ≡ sets rows₀ at (keptOrder row ys b t))
 
 abbrev μ-loop : tie.MeasureT-loop
-μ-loop rows₀ at row ys b m t₀ rows t = m - t
+μ-loop rows₀ at row ys b m next₀ t₀ rows next t = m - t
 
 loop-holds : tie.Need-loop-holds Inv-loop μ-loop
 loop-holds c =
     let a = c .args in
-    (omega arith, refl, rows-none (λ (t : ℕ). keptRow (a .row .now) (a .ys .now) (askedAt (a .b) t) t) (a .rows .now) (a .at))
+    (omega arith, refl, omega arith, rows-none (λ (t : ℕ). keptRow (a .row .now) (a .ys .now) (askedAt (a .b) t) t) (a .rows .now) (a .at))
 
 loop-again : tie.Need-loop-again Inv-loop μ-loop
 loop-again c =
-    let k = c .before in
-    let l = k .before .before .before in
+    let l = c .before .before .before in
     let a = l .before .args in (
       omega arith,
-      length-set (l .loop .rows) (a .at + c .wide .result) (k .kept .result) ∙ l .loop .inv .1,
-      ap (λ (n : ℕ). set (l .loop .rows) (a .at + n) (k .kept .result)) (c .wide .ensures .0)
-          ∙ rows-more (λ (t : ℕ). keptRow (a .row .now) (a .ys .now) (askedAt (a .b) t) t) (a .rows .now) (a .at) (l .loop .rows) (l .loop .t) (k .kept .result) (l .loop .inv .2)
-          (k .kept .ensures ∙ ap (λ (asked : ℕ). keptRow (a .row .now) (a .ys .now) asked (l .loop .t)) (k .before .asked-at .ensures)),
+      length-set (l .loop .rows) (l .loop .next) (c .kept .result) ∙ l .loop .inv .1,
+      omega arith,
+      ap (λ (n : ℕ). set (l .loop .rows) n (c .kept .result)) (l .loop .inv .2)
+          ∙ rows-more (λ (t : ℕ). keptRow (a .row .now) (a .ys .now) (askedAt (a .b) t) t) (a .rows .now) (a .at) (l .loop .rows) (l .loop .t) (c .kept .result) (l .loop .inv .3)
+          (c .kept .ensures ∙ ap (λ (asked : ℕ). keptRow (a .row .now) (a .ys .now) asked (l .loop .t)) (c .before .asked-at .ensures)),
     )
 
 returns : tie.Need-returns Inv-loop μ-loop
 returns c =
     let l = c .before in
     let e : l .loop .t ≡ l .before .args .m = omega arith in
-    rw e at (l .loop .inv .2)
+    (omega arith, rw e at (l .loop .inv .3))
 
 pub masked-order-spec : {M : Type 1} → statement M
 masked-order-spec =
@@ -46,7 +47,6 @@ masked-order-spec =
     Inv-loop
     μ-loop
     loop-holds
-    (λ c κs. search needs)
     (λ c κs. search needs)
     (λ c κs. search needs)
     (λ c. search needs)

@@ -28,35 +28,29 @@ loop-holds c =
     let f = orderAt (a .row .now) (a .es .now) (a .b) (a .m) in
     (omega arith, refl, none-counted f (a .rows .now) (a .at), joined-none f (a .rows .now) (a .at))
 
--- there is room for the rows of the order
-room : (c : tie.In-loop Inv-loop μ-loop) → (let l = c .before in let a = l .before .args in l .loop .next + (a .m - l .loop .s) ≤ length (a .rows .now))
-room c =
-    let l = c .before in
+masked-order-requires : tie.Need-masked-order-requires Inv-loop μ-loop
+masked-order-requires c κs =
+    let l = c .before .before .before .before .before .before in
     let a = l .before .args in
     let fits = joined-room (orderAt (a .row .now) (a .es .now) (a .b) (a .m)) (a .m) (l .loop .s) (omega arith) in
     let size = length-orderAt (a .row .now) (a .es .now) (a .b) (a .m) (l .loop .s) in
     omega arith
 
-masked-order-requires : tie.Need-masked-order-requires Inv-loop μ-loop
-masked-order-requires c κs = let h = room (c .before .before .before .before .before) in omega arith
-
-add-next : tie.Need-add-next Inv-loop μ-loop
-add-next c = let h = room (c .before .before .before .before .before .before .before .before) in omega arith
-
 loop-again : tie.Need-loop-again Inv-loop μ-loop
 loop-again c =
-    let o = c .before .before in
+    let o = c .before in
     let k = o .before .before .before .before in
     let l = k .before .before .before in
     let a = l .before .args in
     let f = orderAt (a .row .now) (a .es .now) (a .b) (a .m) in
     let size = length-orderAt (a .row .now) (a .es .now) (a .b) (a .m) (l .loop .s) in
-    let more = count-more f (a .rows .now) (a .at) (l .loop .s) (l .loop .next) (l .loop .inv .2) in (
+    let more = count-more f (a .rows .now) (a .at) (l .loop .s) (l .loop .next) (l .loop .inv .2) in
+    let next = o .masked-order .ensures .0 in (
       omega arith,
       search needs,
       omega arith,
       joined-more f (a .rows .now) (a .at) (l .loop .rows) (o .masked-order .last .0) (l .loop .s) (l .loop .next) (l .loop .inv .3) (l .loop .inv .2)
-          (o .masked-order .ensures
+          (o .masked-order .ensures .1
           ∙ ap (λ (part : List ℕ). sets (l .loop .rows) (l .loop .next) (keptOrder part (getD (a .es .now) 1 []) (a .b) (a .m - l .loop .s))) (k .kept .ensures)),
     )
 
@@ -78,9 +72,6 @@ masked-orders-spec =
     (λ c. search needs)
     (λ c. search needs)
     masked-order-requires
-    (λ c. search needs)
-    (λ c κs. search needs)
-    add-next
     (λ c. search needs)
     (λ c. search needs)
     loop-again
