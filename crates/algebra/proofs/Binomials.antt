@@ -17,18 +17,18 @@ use Rattle.algebra.proofs.RingLaws.{ring, plus-zero, zero-plus, plus-se
 use Rattle.algebra.proofs.Series.{Series, linear, constant, linear-mul-zero, linear-mul-suc}
 
 -- nothing can be taken in one way
-binomial-zero : (n : ℕ) → binomial n zero ≡ 1
+pub binomial-zero : (n : ℕ) → binomial n zero ≡ 1
 unfolding binomial
 binomial-zero zero = refl
 binomial-zero (suc n) = refl
 
 -- Pascal's rule
-binomial-suc : (n k : ℕ) → binomial (suc n) (suc k) ≡ binomial n k + binomial n (suc k)
+pub binomial-suc : (n k : ℕ) → binomial (suc n) (suc k) ≡ binomial n k + binomial n (suc k)
 unfolding binomial
 binomial-suc n k = refl
 
 -- no more than n of n can be taken
-binomial-over : (n k : ℕ) → n < k → binomial n k ≡ 0
+pub binomial-over : (n k : ℕ) → n < k → binomial n k ≡ 0
 unfolding binomial
 binomial-over n zero h = absurd (not-suc-le-zero h)
 binomial-over zero (suc k) h = refl
@@ -40,12 +40,12 @@ module _ (R : Ring) where
   infixl 60 _⊕_
   infixl 70 _⊗_
   -- 0 counts as the zero of the ring
-  modulo2-zero : modulo2 (R .ops) 0 ≡ o
+  pub modulo2-zero : modulo2 (R .ops) 0 ≡ o
   unfolding modulo2
   modulo2-zero = refl
 
   -- 1 counts as its one
-  modulo2-one : modulo2 (R .ops) 1 ≡ i
+  pub modulo2-one : modulo2 (R .ops) 1 ≡ i
   unfolding modulo2
   modulo2-one = refl
 
@@ -72,7 +72,7 @@ module _ (R : Ring) where
       ∙ ap₂ _⊕_ (modulo2-bit (m % 2) m (omega arith)) (modulo2-bit (n % 2) n (omega arith))
 
   -- the definition, as an equation
-  derivative-at : (a s : ℕ) (x : K) → derivative (R .ops) a s x ≡ modulo2 (R .ops) (binomial a s) ⊗ power (R .ops) x (a - s)
+  pub derivative-at : (a s : ℕ) (x : K) → derivative (R .ops) a s x ≡ modulo2 (R .ops) (binomial a s) ⊗ power (R .ops) x (a - s)
   unfolding derivative
   derivative-at a s x = refl
 

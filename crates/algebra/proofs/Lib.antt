@@ -18,6 +18,8 @@ pub mod Numbers
 pub mod Passing
 pub mod Score
 pub mod Solutions
+pub mod Parity
+pub mod Masks
 pub mod Tests
 pub mod Sums
 pub mod Finite

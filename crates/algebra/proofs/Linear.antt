@@ -97,6 +97,17 @@ module _ (A : Ring) where
       ap (λ (z : K). z ⊕ r (suc n) ⊗ q (suc n)) (dot-first n r q)
       ∙ plus-assoc A (r zero ⊗ q zero) (dot (A .ops) n (λ k. r (suc k)) (λ k. q (suc k))) (r (suc n) ⊗ q (suc n))
 
+  -- one entry more
+  multiple-step : (x c r q : K) → c ⊗ x ⊕ c ⊗ r ⊗ q ≡ c ⊗ (x ⊕ r ⊗ q)
+  multiple-step x c r q = simp ring
+
+  -- a multiple of a row
+  pub dot-multiple : (n : ℕ) (r q : ℕ → K) (c : K) → dot (A .ops) n (λ k. c ⊗ r k) q ≡ c ⊗ dot (A .ops) n r q
+  unfolding dot
+  dot-multiple zero r q c = sym (times-zero A c)
+  dot-multiple (suc n) r q c =
+      ap (λ (x : K). x ⊕ c ⊗ r n ⊗ q n) (dot-multiple n r q c) ∙ multiple-step (dot (A .ops) n r q) c (r n) (q n)
+
   -- the coefficient behind its entry
   turn : (c d e z : K) → c ⊗ d ⊗ e ⊕ z ≡ d ⊗ e ⊗ c ⊕ z
   turn c d e z = simp ring

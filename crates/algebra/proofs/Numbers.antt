@@ -50,12 +50,17 @@ module _ (C : Code) (F : FieldOf C) where
   numbers-symbols (x ∷ l) zero = F .number-symbol x
   numbers-symbols (x ∷ l) (suc j) = numbers-symbols l j
 
+  -- the number of a power
+  pub number-power : (a : ℕ) → a < C .symbols → (n : ℕ) → F .number .φ (power (F .ring .ops) (F .element a) n) ≡ power (numbers C) a n
+  number-power a h n = carry-power G N (F .number) (F .element a) n ∙ ap (λ (b : ℕ). power N b n) (F .number-element a h)
+
+  -- a power of a symbol is a symbol
+  pub power-symbol : (a : ℕ) → a < C .symbols → (n : ℕ) → power (numbers C) a n < C .symbols
+  power-symbol a h n = subst (λ (b : ℕ). b < C .symbols) (number-power a h n) (F .number-symbol (power G (F .element a) n))
+
   -- a point is a symbol
   pub point-symbol : (i : ℕ) → point C i < C .symbols
-  point-symbol i =
-      subst (λ (a : ℕ). a < C .symbols)
-      (carry-power G N (F .number) (F .element (C .α)) i ∙ ap (λ (a : ℕ). power N a i) (F .number-element (C .α) (F .α-symbol)))
-      (F .number-symbol (power G (F .element (C .α)) i))
+  point-symbol = power-symbol (C .α) (F .α-symbol)
 
   -- the number of a value
   pub number-value : (x : F .ring .ops .K) (f : List ℕ) → Symbols C f → F .number .φ (value (F .ring .ops) x (elements f)) ≡ value (numbers C) (F .number .φ x) f

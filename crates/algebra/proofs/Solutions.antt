@@ -47,7 +47,7 @@ module _ (C : Code) (F : FieldOf C) where
       (elements-pass C F n v D m p sp hp i h b) (elements-pass C F n v D m q sq hq i h b)))
 
   -- a coefficient for the element's
-  number-entry : (q : List ℕ) → Symbols C q → (k : ℕ) → φ (getD (elements C F q) k (G .o)) ≡ getD q k 0
+  pub number-entry : (q : List ℕ) → Symbols C q → (k : ℕ) → φ (getD (elements C F q) k (G .o)) ≡ getD q k 0
   number-entry q sq k =
       sym (number-at C F (elements C F q) k) ∙ ap (λ (l : List ℕ). getD l k 0) (numbers-elements C F q sq)
 
@@ -58,13 +58,20 @@ module _ (C : Code) (F : FieldOf C) where
       carry-row G N (F .number) l s t (F .element a) (F .element b) k
       ∙ ap₂ (λ (x y : ℕ). row N l s t x y k) (F .number-element a ha) (F .number-element b hb)
 
+  -- a Hasse derivative for that of the elements
+  pub number-hasse-at : (l : List (ℕ × ℕ)) (q : List ℕ) (s t a b : ℕ) → Symbols C q → a < C .symbols → b < C .symbols
+      → F .number .φ (hasse (F .ring .ops) (terms (F .ring .ops) (elements C F q) l) s t (F .element a) (F .element b))
+      ≡ hasse (numbers C) (terms (numbers C) q l) s t a b
+  number-hasse-at l q s t a b sq ha hb =
+      number-hasse C F (elements C F q) l s t (F .element a) (F .element b)
+      ∙ ap (λ (p : List ℕ). hasse N (terms N p l) s t (φ (F .element a)) (φ (F .element b))) (numbers-elements C F q sq)
+      ∙ ap₂ (λ (x y : ℕ). hasse N (terms N q l) s t x y) (F .number-element a ha) (F .number-element b hb)
+
   -- a Hasse derivative of numbers is a row times the coefficients
   pub hasse-is-dot-of-numbers : (l : List (ℕ × ℕ)) (q : List ℕ) (s t a b : ℕ) → Symbols C q → a < C .symbols → b < C .symbols
       → hasse (numbers C) (terms (numbers C) q l) s t a b ≡ dot (numbers C) (length l) (row (numbers C) l s t a b) (λ k. getD q k 0)
   hasse-is-dot-of-numbers l q s t a b sq ha hb =
-      ap₂ (λ (x y : ℕ). hasse N (terms N q l) s t x y) (sym (F .number-element a ha)) (sym (F .number-element b hb))
-      ∙ ap (λ (p : List ℕ). hasse N (terms N p l) s t (φ (F .element a)) (φ (F .element b))) (sym (numbers-elements C F q sq))
-      ∙ sym (number-hasse C F (elements C F q) l s t (F .element a) (F .element b))
+      sym (number-hasse-at l q s t a b sq ha hb)
       ∙ ap φ (hasse-is-dot (F .ring) l (elements C F q) s t (F .element a) (F .element b))
       ∙ carry-dot G N (F .number) (length l) (row G l s t (F .element a) (F .element b)) (λ k. getD (elements C F q) k (G .o))
       ∙ dot-equal N (length l) _ (row N l s t a b) _ (λ k. getD q k 0) (λ k h. number-row l s t a b ha hb k) (λ k h. number-entry q sq k)

@@ -2,3 +2,5 @@ pub mod Derivatives
 pub mod Walk
 pub mod Placed
 pub mod Counts
+pub mod Masks
+pub mod Vanishing

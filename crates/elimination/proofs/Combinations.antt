@@ -31,17 +31,6 @@ module _ (A : Ring) where
       ap (λ (x : K). x ⊕ (r n ⊕ c ⊗ s n) ⊗ q n) (dot-added n r s q c)
       ∙ added-step (dot (A .ops) n r q) (dot (A .ops) n s q) c (r n) (s n) (q n)
 
-  -- one entry more
-  multiple-step : (x c r q : K) → c ⊗ x ⊕ c ⊗ r ⊗ q ≡ c ⊗ (x ⊕ r ⊗ q)
-  multiple-step x c r q = simp ring
-
-  -- a multiple of a row
-  pub dot-multiple : (n : ℕ) (r q : ℕ → K) (c : K) → dot (A .ops) n (λ k. c ⊗ r k) q ≡ c ⊗ dot (A .ops) n r q
-  unfolding dot
-  dot-multiple zero r q c = sym (times-zero A c)
-  dot-multiple (suc n) r q c =
-      ap (λ (x : K). x ⊕ c ⊗ r n ⊗ q n) (dot-multiple n r q c) ∙ multiple-step (dot (A .ops) n r q) c (r n) (q n)
-
   -- a row of zeros
   pub dot-zeros : (n : ℕ) (r q : ℕ → K) → ((k : ℕ) → k < n → r k ≡ o) → dot (A .ops) n r q ≡ o
   dot-zeros n r q e =

@@ -7,11 +7,11 @@ use mathlib.Core.Path.{_≡_, sym, _∙_, ap, ap₂}
 use Prim.Native.Nat.{ℕ, suc, _≤_, _<_}
 use native.Mathlib.Decide.{ℕ-discrete, decLt}
 use native.Mathlib.Omega.{arith}
-use Rattle.algebra.proofs.Linear.{dot, dot-suc}
+use Rattle.algebra.proofs.Linear.{dot, dot-suc, dot-multiple}
 use Rattle.algebra.proofs.RingLaws.{plus-zero, zero-plus, plus-self, times-one, times-zero, zero-times, equal-of-sum, cancel}
 use Rattle.algebra.specs.Ring.{Ring, IsField}
 use Rattle.definitions.specs.Field.{Ops}
-use Rattle.elimination.proofs.Combinations.{dot-rows, dot-added, dot-multiple, dot-zeros, dot-unit, dot-ends}
+use Rattle.elimination.proofs.Combinations.{dot-rows, dot-added, dot-zeros, dot-unit, dot-ends}
 
 module _ (A : Ops) where
   -- q solves the R rows of m, each of W entries

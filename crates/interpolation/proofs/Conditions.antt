@@ -1,14 +1,12 @@
 -- The rows of a matrix's conditions: as many as it costs, and what solves them is what passes.
 -- Assumes nothing.
-use mathlib.Core.List.{List, [], _∷_, List·Memᴰ, List·Memᴰ·head, List·Memᴰ·tail, Memᴰ·map, Memᴰ·of-map, List·Memᴰ·cases-cons, List·Memᴰ·not-nil}
-use mathlib.Core.Logic.{⊎-elim}
+use mathlib.Core.List.{List, [], _∷_, List·Memᴰ, List·Memᴰ·head, List·Memᴰ·tail, Memᴰ·map, Memᴰ·of-map}
 use mathlib.Core.Path.{_≡_, refl, sym, _∙_, ap, subst}
-use Prim.Native.Nat.{ℕ, zero, suc, _+_, _-_, _*_, _/_, _≤_, _<_}
+use Prim.Native.Nat.{ℕ, suc, _+_, _-_, _*_, _/_, _≤_, _<_}
 use native.Mathlib.Decide.{decLt}
-use native.Mathlib.Nat.{suc-mul, mul-suc}
 use native.Mathlib.Omega.{arith}
-use lib.ListN.{length, getD, drop, set, replicate, length-replicate, getD-replicate, List·getD-append, List·getD-eq-default}
-use lib.Seq.{sets, sets-eq}
+use lib.ListN.{length, getD, set, replicate, length-replicate, getD-replicate, List·getD-eq-default}
+use lib.Seq.{sets}
 use Rattle.algebra.proofs.Elements.{times-symbol, times-none}
 use Rattle.algebra.proofs.Numbers.{point-symbol}
 use Rattle.algebra.proofs.Linear.{dot, row, dot-equal, dot-ended}
@@ -18,50 +16,30 @@ use Rattle.definitions.proofs.Joined.{join-member, member-join, length-join}
 use Rattle.definitions.proofs.Monomials.{monomials-in-order}
 use Rattle.definitions.proofs.Ordered.{member-at}
 use Rattle.definitions.proofs.Symbols.{replicate-symbols}
-use Rattle.definitions.proofs.Tools.{below-member, member-below, sum-zero, sum-suc, sum-ext}
+use Rattle.definitions.proofs.Tools.{below-member, member-below, sum-ext}
 use Rattle.definitions.specs.Bound.{count}
 use Rattle.definitions.specs.Code.{Symbols, point}
 use Rattle.definitions.specs.Field.{numbers, sixteen}
 use Rattle.definitions.specs.Limits.{greatestLimit}
 use Rattle.definitions.specs.Polynomial.{Through, hasse, terms, monomials}
-use Rattle.definitions.specs.Tools.{below, sum}
+use Rattle.definitions.specs.Tools.{below}
 use Rattle.definitions.specs.Weights.{entry, entryCost}
 use Rattle.algebra.specs.Grid.{entryOf}
 use Rattle.elimination.specs.Rows.{Solves}
 use Rattle.field.proofs.Instance.{sixteen-field}
 use Rattle.dependence.proofs.Steps.{system-set}
 use Rattle.dependence.specs.Dependence.{System}
-use Rattle.conditions.proofs.Counts.{orders, length-orders}
+use Rattle.conditions.proofs.Counts.{orders, length-orders, point-cost}
 use Rattle.conditions.proofs.Derivatives.{derivatives-symbols}
 use Rattle.rows.proofs.Filled.{filled-symbols}
 use Rattle.conditions.proofs.Walk.{product-entry}
 use Rattle.conditions.specs.Conditions.{walked, derivativesRow, productRow, pointRows, columnRows, matrixRows}
 use Rattle.rows.specs.Row.{width}
-use Rattle.weights.proofs.Cost.{matrix-entry}
+use Rattle.interpolation.proofs.Loaded.{entry-is, used}
+use Rattle.interpolation.proofs.Placing.{place-of, placed-at}
 use Rattle.weights.specs.Matrix.{matrixOf, columnCost, matrixCost}
 
 -- ---- how many
-
--- m + (m - 1) + .. , n numbers of it
-falling-sum : (m n : ℕ) → n ≤ m → 2 * sum n (λ s. m - s) ≡ n * (2 * m + 1 - n)
-falling-sum m zero h = let e = sum-zero (λ s. m - s) in omega arith
-falling-sum m (suc n) h =
-    let e = sum-suc n (λ s. m - s) in
-    let i = falling-sum m n (omega arith) in
-    let a : 2 * m + 1 - n ≡ suc (2 * m - n) = omega arith in
-    let b = mul-suc n (2 * m - n) in
-    let c = suc-mul n (2 * m - n) in
-    let d : 2 * m + 1 - suc n ≡ 2 * m - n = omega arith in
-    let x : n * (2 * m + 1 - n) ≡ n * suc (2 * m - n) = ap (λ (k : ℕ). n * k) a in
-    ap (λ (k : ℕ). 2 * k) e ∙ sym (ap (λ (k : ℕ). suc n * k) d ∙ sym (omega arith))
-
--- a point of multiplicity m has m(m+1)/2 conditions
-point-cost : (m : ℕ) → sum m (λ s. m - s) ≡ entryCost m
-point-cost m =
-    let e = falling-sum m m (omega arith) in
-    let d : 2 * m + 1 - m ≡ m + 1 = omega arith in
-    let f : m * (2 * m + 1 - m) ≡ m * (m + 1) = ap (λ (k : ℕ). m * k) d in
-    omega arith
 
 module _ (v d w : ℕ) where
   -- the conditions of a point
@@ -82,12 +60,6 @@ module _ (v d w : ℕ) where
       ∙ sum-ext (sixteen .positions) _ (λ i. columnCost (getD a i [])) (λ i h. length-column (point sixteen i) (getD a i []))
 
 -- ---- which
-
--- a member has a place
-place-of : {A : Type 0} (l : List A) (x d : A) → List·Memᴰ x l → (r : ℕ) × (r < length l) × (getD l r d ≡ x)
-place-of [] x d m = absurd (List·Memᴰ·not-nil m)
-place-of (y ∷ l) x d m =
-    ⊎-elim (λ e. (0, omega arith, sym e)) (λ t. let p = place-of l x d t in (suc (p .0), (let h = p .1 in omega arith), p .2)) (List·Memᴰ·cases-cons m)
 
 -- a condition of a matrix: its position, symbol and orders, and its row
 pub record Condition (v d w : ℕ) (a : List (List ℕ)) (ρ : List ℕ) : Type 0 where
@@ -160,11 +132,6 @@ system-sets o at [] s h f = s
 system-sets o at (ρ ∷ l) s h f =
     system-sets (set o at ρ) (suc at) l (system-set o at ρ s (omega arith) (f ρ (List·Memᴰ·head refl))) (omega arith) (λ x m. f x (List·Memᴰ·tail m))
 
--- and stand there
-placed-at : (o l : List (List ℕ)) (r : ℕ) → length l ≤ length o → r < length l → getD (sets o 0 l) r [] ≡ getD l r []
-placed-at o l r h k =
-    ap (λ (x : List (List ℕ)). getD x r []) (sets-eq l o 0 (omega arith)) ∙ List·getD-append l (drop (0 + length l) o) [] r k
-
 -- ---- what solves passes, and what passes solves
 
 module _ (m : List ℕ) (n v D : ℕ) (small : n ≤ sixteen .positions) (size : length m ≡ sixteen .symbols * n) (pos : 0 < v) (fits : count v D ≤ width) (a : List (List ℕ)) (loaded : a ≡ matrixOf m n)
@@ -182,23 +149,11 @@ module _ (m : List ℕ) (n v D : ℕ) (small : n ≤ sixteen .positions) (size :
       ∙ ap (λ (w : ℕ). dot (numbers sixteen) w (row (numbers sixteen) (monomials v D) (c .s) (c .t) (point sixteen (c .i)) (c .b)) (λ k. getD q k 0)) (sym (monomials-in-order v pos D .size))
       ∙ sym (hasse-is-dot-of-numbers sixteen sixteen-field (monomials v D) q (c .s) (c .t) (point sixteen (c .i)) (c .b) sq (point-symbol sixteen sixteen-field (c .i)) (c .symbol))
 
-  -- the entry of a condition is that of the bytes
-  entry-is : (i b : ℕ) → i < sixteen .positions → b < sixteen .symbols → entryOf a i b ≡ entry sixteen m i b
-  entry-is i b hi hb = ap (λ (x : List (List ℕ)). entryOf x i b) loaded ∙ matrix-entry m n small size i b hi hb
-
-  -- a position with a multiplicity is one of the n
-  used : (i b : ℕ) → b < sixteen .symbols → 0 < entry sixteen m i b → i < n
-  used i b hb h =
-      elim (decLt i n) [
-        | yes l ↦ l
-        | no l ↦ let z = List·getD-eq-default m 0 {n = sixteen .symbols * i + b} (omega arith) in let y : ⊥ = omega arith in absurd y
-      ]
-
   module _ (o : List (List ℕ)) (so : System o) (room : length (matrixRows v D (count v D) a) ≤ greatestLimit) where
     -- row r of the system is condition r
     stands : (r : ℕ) → r < length (matrixRows v D (count v D) a)
         → getD (sets o 0 (matrixRows v D (count v D) a)) r [] ≡ getD (matrixRows v D (count v D) a) r []
-    stands r h = placed-at o (matrixRows v D (count v D) a) r (let e = so .size in omega arith) h
+    stands r h = placed-at o (matrixRows v D (count v D) a) [] (let e = so .size in omega arith) r h
 
     -- what passes solves
     pub through-solves : Through sixteen n v D m q
@@ -206,17 +161,17 @@ module _ (m : List ℕ) (n v D : ℕ) (small : n ≤ sixteen .positions) (size :
     through-solves passes r h =
         let ρ = getD (matrixRows v D (count v D) a) r [] in
         let c = condition-of v D (count v D) a ρ (member-at (matrixRows v D (count v D) a) r [] h) in
-        let e = entry-is (c .i) (c .b) (c .position) (c .symbol) in
+        let e = entry-is m n small size a loaded (c .i) (c .b) (c .position) (c .symbol) in
         let below : c .s + c .t < entry sixteen m (c .i) (c .b) = (let f = c .order in omega arith) in
         ap (λ (x : List ℕ). dot (numbers sixteen) width (λ k. getD x k 0) (λ k. getD q k 0)) (stands r h) ∙ row-is-hasse ρ c
-        ∙ passes (c .i) (c .b) (used (c .i) (c .b) (c .symbol) (omega arith)) (c .symbol) (c .s) (c .t) below
+        ∙ passes (c .i) (c .b) (used m n small size a loaded (c .i) (c .b) (c .symbol) (omega arith)) (c .symbol) (c .s) (c .t) below
 
     -- what solves passes
     pub solves-through : Solves sixteen (length (matrixRows v D (count v D) a)) width (sets o 0 (matrixRows v D (count v D) a)) q
         → Through sixteen n v D m q
     solves-through solves i b hi hb s t h =
         let ρ = productRow v (count v D) (derivativesRow (D + 1) (point sixteen i) s) (derivativesRow (D / v + 1) b t) in
-        let e = entry-is i b (omega arith) hb in
+        let e = entry-is m n small size a loaded i b (omega arith) hb in
         let c : Condition v D (count v D) a ρ = record { i = i; b = b; s = s; t = t; position = omega arith; symbol = hb; order = omega arith; is-row = refl } in
         let p = place-of (matrixRows v D (count v D) a) ρ [] (member-of v D (count v D) a ρ c) in
         sym (row-is-hasse ρ c)

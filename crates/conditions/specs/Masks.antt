@@ -1,0 +1,78 @@
+-- The rows of the Hasse conditions as masked rows: the monomials' values at a point, kept for each order where the powers have its bits.
+-- Assumes nothing.
+use mathlib.Core.Bool.{cond}
+use mathlib.Core.List.{List, [], _∷_, map, flatMap}
+use Prim.Native.Nat.{ℕ, _+_, _-_, _/_, _<_}
+use lib.Bits.{bitAnd}
+use lib.Dec.{eqb}
+use lib.ListN.{getD}
+use Rattle.algebra.specs.Grid.{entryOf}
+use Rattle.definitions.specs.Code.{point}
+use Rattle.definitions.specs.Field.{numbers, sixteen, power}
+use Rattle.definitions.specs.Tools.{below}
+use Rattle.conditions.specs.Conditions.{walked}
+use Rattle.rows.specs.Row.{width, filled}
+
+-- the powers of x that the monomials have, and those of y
+abbrev pub exponentRows : ℕ → ℕ → List (List ℕ)
+exponentRows v count = filled count (λ (k : ℕ). walked v k .0) ∷ filled count (λ (k : ℕ). walked v k .1) ∷ []
+
+-- each is the place of an entry of a row
+abbrev pub Places : List (List ℕ) → Type 0
+Places es = (i k : ℕ) → entryOf es i k < width
+
+-- the first n powers of x
+abbrev pub powersRow : ℕ → ℕ → List ℕ
+powersRow n x = filled n (λ (e : ℕ). power (numbers sixteen) x e)
+
+-- the monomials' values, of the powers of x and of y
+abbrev pub valuesRow : ℕ → List ℕ → List ℕ → List (List ℕ) → List ℕ
+valuesRow count px py es = filled count (λ (k : ℕ). sixteen .times (getD px (entryOf es 0 k) 0) (getD py (entryOf es 1 k) 0))
+
+-- 255 where a power has, of the bits asked for, just those of the order, else 0
+abbrev pub maskByte : ℕ → ℕ → ℕ → ℕ
+maskByte e asked order = cond (eqb (bitAnd e asked) order) 255 0
+
+-- what the masks of an order leave of a row
+abbrev pub keptRow : List ℕ → List ℕ → ℕ → ℕ → List ℕ
+keptRow row es asked order = filled width (λ (k : ℕ). bitAnd (getD row k 0) (maskByte (getD es k 0) asked order))
+
+-- of a power of y the bits of the order are asked for, and at y = 0 all bits
+abbrev pub askedAt : ℕ → ℕ → ℕ
+askedAt b t = cond (eqb b 0) 255 t
+
+-- powers are taken of y, and at y = 0 of 1
+abbrev pub baseAt : ℕ → ℕ
+baseAt b = cond (eqb b 0) 1 b
+
+-- the rows of the orders 0 to m - 1 by y
+abbrev pub keptOrder : List ℕ → List ℕ → ℕ → ℕ → List (List ℕ)
+keptOrder row ys b m = map (λ (t : ℕ). keptRow row ys (askedAt b t) t) (below m)
+
+-- the rows of the order s by x, of a point of multiplicity m
+abbrev pub orderAt : List ℕ → List (List ℕ) → ℕ → ℕ → ℕ → List (List ℕ)
+orderAt row es b m s = keptOrder (keptRow row (getD es 0 []) s s) (getD es 1 []) b (m - s)
+
+-- the rows of the orders (s, t) with s + t < m
+abbrev pub keptOrders : List ℕ → List (List ℕ) → ℕ → ℕ → List (List ℕ)
+keptOrders row es b m = flatMap (orderAt row es b m) (below m)
+
+-- the rows of a point of multiplicity m
+abbrev pub maskedPoint : List ℕ → ℕ → ℕ → List (List ℕ) → ℕ → ℕ → List (List ℕ)
+maskedPoint px n count es b m = keptOrders (valuesRow count px (powersRow n (baseAt b)) es) es b m
+
+-- the rows of a symbol at a position
+abbrev pub pointAt : List ℕ → ℕ → ℕ → List (List ℕ) → List ℕ → ℕ → List (List ℕ)
+pointAt px n count es column b = maskedPoint px n count es b (getD column b 0)
+
+-- the rows of a position
+abbrev pub maskedColumn : List ℕ → ℕ → ℕ → List (List ℕ) → List ℕ → List (List ℕ)
+maskedColumn px n count es column = flatMap (pointAt px n count es column) (below (sixteen .symbols))
+
+-- the rows of position i of a matrix
+abbrev pub columnAt : ℕ → ℕ → ℕ → List (List ℕ) → ℕ → List (List ℕ)
+columnAt v d count a i = maskedColumn (powersRow (d + 1) (point sixteen i)) (d / v + 1) count (exponentRows v count) (getD a i [])
+
+-- the rows of a matrix
+abbrev pub maskedRows : ℕ → ℕ → ℕ → List (List ℕ) → List (List ℕ)
+maskedRows v d count a = flatMap (columnAt v d count a) (below (sixteen .positions))
