@@ -11,12 +11,13 @@ use lib.Bits.{bitXor}
 use lib.Dec.{T, eqb, eqb→eq}
 use lib.ListN.{length, getD, set, replicate, length-set, getD-replicate}
 use lib.Seq.{getD-set-same, getD-set-other}
-use Rattle.algebra.proofs.Elements.{times-symbol, none-times}
+use Rattle.algebra.proofs.Elements.{plus-symbol, times-symbol, none-times}
 use Rattle.algebra.proofs.Tests.{every, every-at}
 use Rattle.definitions.proofs.Zeros.{zero-at}
+use Rattle.definitions.specs.Code.{Symbols}
 use Rattle.definitions.specs.Field.{sixteen, sumOf, double, shifted}
 use Rattle.field.proofs.Instance.{sixteen-field}
-use Rattle.rows.specs.Row.{block, Front, SymbolBlock, PutAt, ScaledBlock, SummedBlock, FilledTo, MultiplesBlock}
+use Rattle.rows.specs.Row.{block, Front, SymbolBlock, BlockOf, PutAt, ScaledBlock, SummedBlock, FilledTo, MultiplesBlock}
 
 -- no entry yet
 pub front-none : (f : ℕ → ℕ) (l : List ℕ) → Front 0 f l
@@ -77,12 +78,23 @@ unfolding double sumOf
 twice-high x h l =
     sym (ap (λ (b : Bool). cond b (x * 2) (bitXor (x * 2) 19)) (le-ltb (x * 2) (sixteen .symbols) (omega arith))) ∙ double-is-product x l
 
--- ---- multiples
+-- ---- blocks of symbols
 
--- a multiple of a block of symbols is one
+-- a block of a row of symbols is one
+pub block-symbols : (at : ℕ) (row a : List ℕ) → Symbols sixteen row → BlockOf at row a → SymbolBlock a
+block-symbols at row a s e k l = subst (λ (x : ℕ). x < sixteen .symbols) (sym (e k l)) (s (at + k))
+
+-- so is a sum of such blocks
+pub summed-symbols : (a b r : List ℕ) → SymbolBlock a → SymbolBlock b → SummedBlock a b r → SymbolBlock r
+summed-symbols a b r sa sb e k l =
+    subst (λ (x : ℕ). x < sixteen .symbols) (sym (e k l)) (plus-symbol sixteen sixteen-field (getD a k 0) (getD b k 0) (sa k l) (sb k l))
+
+-- and a multiple of one
 pub scaled-symbols : (u : ℕ) (a r : List ℕ) → u < sixteen .symbols → SymbolBlock a → ScaledBlock u a r → SymbolBlock r
 scaled-symbols u a r h sa e k l =
     subst (λ (x : ℕ). x < sixteen .symbols) (sym (e k l)) (times-symbol sixteen sixteen-field u (getD a k 0) h (sa k l))
+
+-- ---- multiples
 
 -- computed of sixteen symbols
 ones : T (every (sixteen .symbols) (λ x. eqb x (sixteen .times 1 x)))
