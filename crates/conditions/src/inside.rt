@@ -5,12 +5,10 @@ ghost use lib.ListN.{length};
 ghost use lib.Seq.{sets};
 ghost use Rattle.definitions.specs.Code.{Symbols};
 ghost use Rattle.definitions.specs.Field.{sixteen};
-ghost use Rattle.definitions.specs.Limits.{greatestLimit};
 ghost use Rattle.field.specs.Table.{Products};
 ghost use Rattle.conditions.specs.Conditions.{stepped, productRow, orderRows, pointRows, columnRows, matrixRows};
 ghost use Rattle.rows.specs.Row.{width, filled};
 use field::inside::ALPHA;
-use refusals::limits::GREATEST_LIMIT;
 use refusals::limits::GREATEST_SYMBOL;
 use refusals::limits::POSITIONS;
 use refusals::limits::SYMBOLS;
@@ -70,7 +68,7 @@ fn condition(
 
 // The conditions of one order by x: the orders by y below m.
 fn order_rows(
-    rows: &mut [[u8; WIDTH]; GREATEST_LIMIT],
+    rows: &mut [[u8; WIDTH]],
     table: &[u8; 256],
     at: usize,
     hx: &[u8; WIDTH],
@@ -82,7 +80,7 @@ fn order_rows(
 )
     requires { ⌜ Products (now table) ⌝ }
     requires { ⌜ Symbols sixteen (now hx) ⌝ }
-    requires { ⌜ (b < sixteen .symbols) × (0 < v) × (n ≤ width) × (count ≤ width) × (at + m ≤ greatestLimit) ⌝ }
+    requires { ⌜ (b < sixteen .symbols) × (0 < v) × (n ≤ width) × (count ≤ width) × (at + m ≤ length (now rows)) ⌝ }
     ensures { λ _. ⌜ now (rows .exit) ≡ sets (now (rows .entry)) at (orderRows v n count (now (hx .entry)) b m) ⌝ }
 {
     let mut hy = [0u8; WIDTH];
@@ -99,7 +97,7 @@ fn order_rows(
 
 // The conditions of one point: the orders by x below m. Answers the place after them.
 fn point_rows(
-    rows: &mut [[u8; WIDTH]; GREATEST_LIMIT],
+    rows: &mut [[u8; WIDTH]],
     table: &[u8; 256],
     at: usize,
     a: u8,
@@ -111,7 +109,7 @@ fn point_rows(
 ) -> usize
     requires { ⌜ Products (now table) ⌝ }
     requires { ⌜ (a < sixteen .symbols) × (b < sixteen .symbols) × (0 < v) × (d < width) × (count ≤ width) ⌝ }
-    requires { ⌜ at + length (pointRows v d count a b m) ≤ greatestLimit ⌝ }
+    requires { ⌜ at + length (pointRows v d count a b m) ≤ length (now rows) ⌝ }
     ensures { λ r. ⌜ r ≡ at + length (pointRows v d count a b m) ⌝ }
     ensures { λ _. ⌜ now (rows .exit) ≡ sets (now (rows .entry)) at (pointRows v d count a b m) ⌝ }
 {
@@ -131,7 +129,7 @@ fn point_rows(
 
 // The conditions of one position.
 fn column_rows(
-    rows: &mut [[u8; WIDTH]; GREATEST_LIMIT],
+    rows: &mut [[u8; WIDTH]],
     table: &[u8; 256],
     at: usize,
     a: u8,
@@ -142,7 +140,7 @@ fn column_rows(
 ) -> usize
     requires { ⌜ Products (now table) ⌝ }
     requires { ⌜ (a < sixteen .symbols) × (0 < v) × (d < width) × (count ≤ width) ⌝ }
-    requires { ⌜ at + length (columnRows v d count a (now column)) ≤ greatestLimit ⌝ }
+    requires { ⌜ at + length (columnRows v d count a (now column)) ≤ length (now rows) ⌝ }
     ensures { λ r. ⌜ r ≡ at + length (columnRows v d count a (now (column .entry))) ⌝ }
     ensures { λ _. ⌜ now (rows .exit) ≡ sets (now (rows .entry)) at (columnRows v d count a (now (column .entry))) ⌝ }
 {
@@ -159,7 +157,7 @@ fn column_rows(
 
 // The conditions of a whole matrix, from the first row on. Answers how many there are.
 pub fn matrix_rows(
-    rows: &mut [[u8; WIDTH]; GREATEST_LIMIT],
+    rows: &mut [[u8; WIDTH]],
     table: &[u8; 256],
     matrix: &[[u8; SYMBOLS]; POSITIONS],
     v: usize,
@@ -168,7 +166,7 @@ pub fn matrix_rows(
 ) -> usize
     requires { ⌜ Products (now table) ⌝ }
     requires { ⌜ (0 < v) × (d < width) × (count ≤ width) ⌝ }
-    requires { ⌜ length (matrixRows v d count (now matrix)) ≤ greatestLimit ⌝ }
+    requires { ⌜ length (matrixRows v d count (now matrix)) ≤ length (now rows) ⌝ }
     ensures { λ r. ⌜ r ≡ length (matrixRows v d count (now (matrix .entry))) ⌝ }
     ensures { λ _. ⌜ now (rows .exit) ≡ sets (now (rows .entry)) 0 (matrixRows v d count (now (matrix .entry))) ⌝ }
 {

@@ -2,7 +2,7 @@ use mathlib.Core.List.{flatMap}
 use mathlib.Core.Path.{_≡_, sym, _∙_, ap, subst}
 use Prim.Native.Nat.{ℕ, _+_, _-_, _≤_}
 use lib.ListN.{length, getD}
-use lib.Seq.{sets}
+use lib.Seq.{sets, length-sets}
 use Rattle.definitions.specs.Tools.{below}
 use Rattle.conditions.proofs.Placed.{joined-none, none-counted, joined-more, count-more}
 use Rattle.definitions.proofs.Joined.{joined-room}
@@ -10,7 +10,6 @@ use Rattle.conditions.specs.Conditions.{pointRows}
 use native.Mathlib.Omega.{arith}
 use borrow.Author.Needs.{needs}
 use Rattle.definitions.specs.Field.{sixteen}
-use Rattle.definitions.specs.Limits.{greatestLimit}
 use Rattle.conditions.proofs.inside.column_rows.Statement.{statement}
 use Rattle.conditions.proofs.inside.column_rows.Tie as tie
 
@@ -25,6 +24,10 @@ loop-holds : tie.Need-loop-holds Inv-loop μ-loop
 loop-holds c =
     let a = c .args in
     (omega arith, none-counted (λ (b : ℕ). pointRows (a .v) (a .d) (a .count) (a .a) b (getD (a .column .now) b 0)) (a .rows .now) (a .at), joined-none (λ (b : ℕ). pointRows (a .v) (a .d) (a .count) (a .a) b (getD (a .column .now) b 0)) (a .rows .now) (a .at))
+
+-- there are as many rows as before
+kept : (c : tie.At-loop Inv-loop μ-loop) → length (c .loop .rows) ≡ length (c .before .args .rows .now)
+kept c = simp length-sets at (ap length (c .loop .inv .2))
 
 wide-requires : tie.Need-wide-requires Inv-loop μ-loop
 wide-requires c κs = search needs
@@ -42,11 +45,12 @@ point-rows-requires c κs =
     let a = s .args in
     let m : c .before .wide2 .result ≡ getD (a .column .now) (l .loop .symbol) 0 =
     c .before .wide2 .ensures .0 ∙ ap (λ (k : ℕ). getD (a .column .now) k 0) (c .before .before .before .wide .ensures .0) in
+    let same = kept l in
     let room = joined-room (λ (b : ℕ). pointRows (a .v) (a .d) (a .count) (a .a) b (getD (a .column .now) b 0)) (sixteen .symbols) (l .loop .symbol) (omega arith) in (
       s .pre .0,
       (
         (omega arith, omega arith, omega arith, omega arith, omega arith),
-        subst (λ (k : ℕ). l .loop .next + length (pointRows (a .v) (a .d) (a .count) (a .a) (l .loop .symbol) k) ≤ greatestLimit) (sym m) (omega arith),
+        subst (λ (k : ℕ). l .loop .next + length (pointRows (a .v) (a .d) (a .count) (a .a) (l .loop .symbol) k) ≤ length (l .loop .rows)) (sym m) (omega arith),
       ),
     )
 
@@ -58,18 +62,21 @@ loop-less c = omega arith
 
 loop-again : tie.Need-loop-again Inv-loop μ-loop
 loop-again c =
-    let l = c .before .before .before .before .before .before in
+    let l = c .before .before .before .before .before .before .before in
     let s = l .before in
     let a = s .args in
-    let m : c .before .before .wide2 .result ≡ getD (a .column .now) (l .loop .symbol) 0 =
-    c .before .before .wide2 .ensures .0 ∙ ap (λ (k : ℕ). getD (a .column .now) k 0) (c .before .before .before .before .wide .ensures .0) in (
+    let m : c .before .before .before .wide2 .result ≡ getD (a .column .now) (l .loop .symbol) 0 =
+    c .before .before .before .wide2 .ensures .0 ∙ ap (λ (k : ℕ). getD (a .column .now) k 0) (c .before .before .before .before .before .wide .ensures .0) in (
       omega arith,
-      c .point-rows .ensures .0
+      c .before .point-rows .ensures .0
           ∙ ap (λ (k : ℕ). l .loop .next + length (pointRows (a .v) (a .d) (a .count) (a .a) (l .loop .symbol) k)) m
           ∙ count-more (λ (b : ℕ). pointRows (a .v) (a .d) (a .count) (a .a) b (getD (a .column .now) b 0)) (a .rows .now) (a .at) (l .loop .symbol) (l .loop .next) (l .loop .inv .1),
-      joined-more (λ (b : ℕ). pointRows (a .v) (a .d) (a .count) (a .a) b (getD (a .column .now) b 0)) (a .rows .now) (a .at) (l .loop .rows) (c .point-rows .last .0) (l .loop .symbol) (l .loop .next) (l .loop .inv .2) (l .loop .inv .1)
-          (c .point-rows .ensures .1 ∙ ap (λ (k : ℕ). sets (l .loop .rows) (l .loop .next) (pointRows (a .v) (a .d) (a .count) (a .a) (l .loop .symbol) k)) m),
+      joined-more (λ (b : ℕ). pointRows (a .v) (a .d) (a .count) (a .a) b (getD (a .column .now) b 0)) (a .rows .now) (a .at) (l .loop .rows) (c .before .point-rows .last .0) (l .loop .symbol) (l .loop .next) (l .loop .inv .2) (l .loop .inv .1)
+          (c .before .point-rows .ensures .1 ∙ ap (λ (k : ℕ). sets (l .loop .rows) (l .loop .next) (pointRows (a .v) (a .d) (a .count) (a .a) (l .loop .symbol) k)) m),
     )
+
+same-length : tie.Need-same-length Inv-loop μ-loop
+same-length c = kept (c .before)
 
 returns : tie.Need-returns Inv-loop μ-loop
 returns c =
@@ -91,4 +98,5 @@ column-rows-spec =
     add-symbol
     loop-less
     loop-again
+    same-length
     returns)

@@ -1,7 +1,8 @@
 use mathlib.Core.Path.{_≡_, refl, sym, _∙_, ap, subst}
 use Prim.Native.Nat.{ℕ, _-_, _≤_, _<_}
 use native.Mathlib.Numerals.{add-one}
-use lib.Seq.{sets}
+use lib.ListN.{length}
+use lib.Seq.{sets, length-sets}
 use Rattle.definitions.specs.Code.{Symbols}
 use Rattle.definitions.specs.Field.{sixteen}
 use Rattle.conditions.proofs.Derivatives.{lead, lower, lead-symbol, lower-symbols, next-order, derivatives-symbols}
@@ -42,14 +43,20 @@ condition-requires c κs =
     let e = (next-order (a .b) (omega arith) (a .n) (l .loop .t) (l .loop .first) (l .loop .hy) (c .before .derivatives .result) (omega arith) (l .loop .inv .2) (l .loop .inv .1) (c .before .derivatives .ensures)) in
     (s .pre .0, (s .pre .1 .0, (subst (Symbols sixteen) (sym e) (derivatives-symbols (a .b) (omega arith) (a .n) (l .loop .t)), (omega arith, omega arith))))
 
+-- there are as many rows as before
+kept : (c : tie.At-loop Inv-loop μ-loop) → length (c .loop .rows) ≡ length (c .before .args .rows .now)
+kept c = simp length-sets at (ap length (c .loop .inv .3))
+
 add-row : tie.Need-add-row Inv-loop μ-loop
 add-row c = omega arith
 
 mul-row : tie.Need-mul-row Inv-loop μ-loop
 mul-row c = omega arith
 
-element-set-from-row : tie.Need-element-set-from-row Inv-loop μ-loop
-element-set-from-row c = omega arith
+slice-set-from-row : tie.Need-slice-set-from-row Inv-loop μ-loop
+slice-set-from-row c =
+    let e = kept (c .before .before .before .before .before) in
+    omega arith
 
 add-t : tie.Need-add-t Inv-loop μ-loop
 add-t c = omega arith
@@ -70,6 +77,9 @@ loop-again c =
           (c .condition .ensures ∙ ap (productRow (a .v) (a .count) (a .hx .now)) e),
     )
 
+same-length : tie.Need-same-length Inv-loop μ-loop
+same-length c = kept (c .before)
+
 returns : tie.Need-returns Inv-loop μ-loop
 returns c =
     let l = c .before in
@@ -87,8 +97,9 @@ order-rows-spec =
     condition-requires
     add-row
     mul-row
-    element-set-from-row
+    slice-set-from-row
     add-t
     loop-less
     loop-again
+    same-length
     returns)

@@ -4,7 +4,7 @@ use Prim.Native.Nat.{ℕ, _+_, _-_, _/_, _≤_, _<_}
 use native.Mathlib.Nat.{div-le-self}
 use native.Mathlib.Numerals.{add-one}
 use lib.ListN.{length}
-use lib.Seq.{sets}
+use lib.Seq.{sets, length-sets}
 use Rattle.definitions.specs.Code.{Symbols}
 use Rattle.definitions.specs.Field.{sixteen}
 use Rattle.definitions.specs.Tools.{below}
@@ -14,7 +14,6 @@ use Rattle.conditions.proofs.Placed.{joined-none, none-counted, joined-
 use Rattle.definitions.proofs.Joined.{joined-room}
 use Rattle.conditions.specs.Conditions.{orderRows}
 use native.Mathlib.Omega.{arith}
-use Rattle.definitions.specs.Limits.{greatestLimit}
 use Rattle.conditions.proofs.inside.point_rows.Statement.{statement}
 use Rattle.conditions.proofs.inside.point_rows.Tie as tie
 
@@ -30,6 +29,10 @@ loop-holds : tie.Need-loop-holds Inv-loop μ-loop
 loop-holds c =
     let a = c .args in
     (omega arith, refl, refl, none-counted (orders (a .v) (a .d) (a .count) (a .a) (a .b) (a .m)) (a .rows .now) (a .at), joined-none (orders (a .v) (a .d) (a .count) (a .a) (a .b) (a .m)) (a .rows .now) (a .at))
+
+-- there are as many rows as before
+kept : (c : tie.At-loop Inv-loop μ-loop) → length (c .loop .rows) ≡ length (c .before .args .rows .now)
+kept c = simp length-sets at (ap length (c .loop .inv .4))
 
 add-derivatives : tie.Need-add-derivatives Inv-loop μ-loop
 add-derivatives c = omega arith
@@ -70,7 +73,8 @@ order-rows-requires c κs =
     let room = joined-room (orders (a .v) (a .d) (a .count) (a .a) (a .b) (a .m)) (a .m) (l .loop .s) (omega arith) in
     let size = length-orders (a .v) (a .d) (a .count) (a .a) (a .b) (a .m) (l .loop .s) in
     let small = div-le-self (a .d) (a .v) in
-    let fits : l .loop .next + (a .m - l .loop .s) ≤ greatestLimit = omega arith in (
+    let same = kept l in
+    let fits : l .loop .next + (a .m - l .loop .s) ≤ length (l .loop .rows) = omega arith in (
       s .pre .0,
       (
         subst (Symbols sixteen) (sym e) (derivatives-symbols (a .a) (omega arith) (a .d + 1) (l .loop .s)),
@@ -83,7 +87,7 @@ sub-next c = omega arith
 
 add-next : tie.Need-add-next Inv-loop μ-loop
 add-next c =
-    let l = c .before .before .before .before .before .before in
+    let l = c .before .before .before .before .before .before .before in
     let a = l .before .args in
     let room = joined-room (orders (a .v) (a .d) (a .count) (a .a) (a .b) (a .m)) (a .m) (l .loop .s) (omega arith) in
     let size = length-orders (a .v) (a .d) (a .count) (a .a) (a .b) (a .m) (l .loop .s) in
@@ -98,20 +102,23 @@ loop-less c = omega arith
 
 loop-again : tie.Need-loop-again Inv-loop μ-loop
 loop-again c =
-    let l = c .before .before .before .before .before .before in
+    let l = c .before .before .before .before .before .before .before in
     let s = l .before in
     let a = s .args in
-    let e = (next-order (a .a) (omega arith) (a .d + 1) (l .loop .s) (l .loop .first) (l .loop .hx) (c .before .before .before .derivatives .result) (omega arith) (l .loop .inv .2) (l .loop .inv .1) (c .before .before .before .derivatives .ensures)) in
+    let e = (next-order (a .a) (omega arith) (a .d + 1) (l .loop .s) (l .loop .first) (l .loop .hx) (c .before .before .before .before .derivatives .result) (omega arith) (l .loop .inv .2) (l .loop .inv .1) (c .before .before .before .before .derivatives .ensures)) in
     let size = length-orders (a .v) (a .d) (a .count) (a .a) (a .b) (a .m) (l .loop .s) in
     let more = count-more (orders (a .v) (a .d) (a .count) (a .a) (a .b) (a .m)) (a .rows .now) (a .at) (l .loop .s) (l .loop .next) (l .loop .inv .3) in (
       omega arith,
       e ∙ ap (lower (a .d + 1) (a .a)) (sym (add-one (l .loop .s))),
       ap lead (sym (add-one (l .loop .s))),
       omega arith,
-      joined-more (orders (a .v) (a .d) (a .count) (a .a) (a .b) (a .m)) (a .rows .now) (a .at) (l .loop .rows) (c .order-rows .last .0) (l .loop .s) (l .loop .next) (l .loop .inv .4) (l .loop .inv .3)
-          (c .order-rows .ensures
+      joined-more (orders (a .v) (a .d) (a .count) (a .a) (a .b) (a .m)) (a .rows .now) (a .at) (l .loop .rows) (c .before .order-rows .last .0) (l .loop .s) (l .loop .next) (l .loop .inv .4) (l .loop .inv .3)
+          (c .before .order-rows .ensures
           ∙ ap (λ (h : List ℕ). sets (l .loop .rows) (l .loop .next) (orderRows (a .v) (a .d / a .v + 1) (a .count) h (a .b) (a .m - l .loop .s))) e),
     )
+
+same-length : tie.Need-same-length Inv-loop μ-loop
+same-length c = kept (c .before)
 
 returns : tie.Need-returns Inv-loop μ-loop
 returns c =
@@ -137,4 +144,5 @@ point-rows-spec =
     add-s
     loop-less
     loop-again
+    same-length
     returns)
