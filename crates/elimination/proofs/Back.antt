@@ -10,7 +10,7 @@ use lib.Seq.{length-take-le, getD-set-same, getD-set-other, getD-take, getD-drop
 use Rattle.algebra.specs.Grid.{entryOf}
 use Rattle.definitions.specs.Field.{Code, numbers}
 use Rattle.elimination.proofs.Triangle.{behind-equal}
-use Rattle.elimination.specs.Rows.{behind, Back, Solved}
+use Rattle.elimination.specs.Rows.{behind, Back, Solved, Led}
 
 module _ (C : Code) (j : ℕ) (m : List (List ℕ)) where
   -- no entry is found yet
@@ -37,15 +37,14 @@ module _ (C : Code) (j : ℕ) (m : List (List ℕ)) where
           (λ i g _. sym (getD-set-other now s i y 0 (λ e. omega arith)))
 
   -- out was led by 1 at j and zeros behind it, up to count
-  module _ (count : ℕ) (out led new : List ℕ) (low : j < count) (room : count ≤ length out) (size : length led ≡ length out) (one : getD led j 0 ≡ 1)
-      (zeros : (k : ℕ) → j < k → k < count → getD led k 0 ≡ 0) (kept : (k : ℕ) → count ≤ k → getD led k 0 ≡ getD out k 0) (d : Solved C j 0 m led new) where
+  module _ (count : ℕ) (out led new : List ℕ) (low : j < count) (room : count ≤ length out) (l : Led j count out led) (d : Solved C j 0 m led new) where
     -- the coefficients
-    abbrev pub coefficients : List ℕ
+    abbrev coefficients : List ℕ
     coefficients = take count new
 
     -- they are so many
     pub coefficients-size : length coefficients ≡ count
-    coefficients-size = length-take-le count new (let e = d .size in omega arith)
+    coefficients-size = length-take-le count new (let e = d .size in let f = l .size in omega arith)
 
     -- each before j is found by back substitution
     pub coefficients-back : Back C j m coefficients
@@ -56,22 +55,22 @@ module _ (C : Code) (j : ℕ) (m : List (List ℕ)) where
 
     -- the one at j is 1
     pub coefficients-one : getD coefficients j 0 ≡ 1
-    coefficients-one = getD-take count new j 0 low ∙ d .rest j (omega arith) ∙ one
+    coefficients-one = getD-take count new j 0 low ∙ d .rest j (omega arith) ∙ l .one
 
     -- those after it are zero
     pub coefficients-end : (k : ℕ) → j < k → getD coefficients k 0 ≡ 0
     coefficients-end k h =
         elim (decLt k count) [
-          | yes l ↦ getD-take count new k 0 l ∙ d .rest k (omega arith) ∙ zeros k h l
-          | no l ↦ List·getD-eq-default coefficients 0 {n = k} (let e = coefficients-size in omega arith)
+          | yes g ↦ getD-take count new k 0 g ∙ d .rest k (omega arith) ∙ l .zeros k h g
+          | no g ↦ List·getD-eq-default coefficients 0 {n = k} (let e = coefficients-size in omega arith)
         ]
 
     -- and past them the list stays
     pub coefficients-written : new ≡ coefficients ++ drop count out
-    coefficients-written = sym (take-append-drop count new) ∙ ap (λ (l : List ℕ). coefficients ++ l) past
+    coefficients-written = sym (take-append-drop count new) ∙ ap (λ (x : List ℕ). coefficients ++ x) past
       where
         past : drop count new ≡ drop count out
         past =
             ext-getD 0 (drop count new) (drop count out)
-            (let a = length-drop count new in let b = length-drop count out in let e = d .size in omega arith)
-            (λ i h. getD-drop count new i 0 ∙ d .rest (count + i) (omega arith) ∙ kept (count + i) (omega arith) ∙ sym (getD-drop count out i 0))
+            (let a = length-drop count new in let b = length-drop count out in let e = d .size in let f = l .size in omega arith)
+            (λ i h. getD-drop count new i 0 ∙ d .rest (count + i) (omega arith) ∙ l .kept (count + i) (omega arith) ∙ sym (getD-drop count out i 0))

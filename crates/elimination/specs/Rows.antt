@@ -47,3 +47,10 @@ pub record Solved (C : Code) (j s : ℕ) (m : List (List ℕ)) (old new : List �
   pub size : length new ≡ length old
   pub back : (k : ℕ) → s ≤ k → k < j → getD new k 0 ≡ behind (numbers C) (entryOf m k j) k j (entryOf m k) (λ i. getD new i 0)
   pub rest : (k : ℕ) → j ≤ k → getD new k 0 ≡ getD old k 0
+
+-- 1 is put at place j, and zeros behind it and before count; the rest stays
+pub record Led (j count : ℕ) (old new : List ℕ) : Type 0 where
+  pub size : length new ≡ length old
+  pub one : getD new j 0 ≡ 1
+  pub zeros : (k : ℕ) → j < k → k < count → getD new k 0 ≡ 0
+  pub kept : (k : ℕ) → count ≤ k → getD new k 0 ≡ getD old k 0

@@ -7,7 +7,7 @@ use Prim.Native.Nat.{ℕ, zero, suc, _+_, _-_, _*_, _/_, _≤_, _<_}
 use native.Mathlib.Decide.{decLt}
 use native.Mathlib.Nat.{suc-mul, mul-suc}
 use native.Mathlib.Omega.{arith}
-use lib.ListN.{length, getD, drop, set, replicate, length-replicate, getD-replicate, List·getD-append, List·getD-eq-default}
+use lib.ListN.{length, getD, drop, set, replicate, length-replicate, length-set, getD-replicate, List·getD-append, List·getD-eq-default}
 use lib.Seq.{sets, sets-eq}
 use Rattle.algebra.proofs.Elements.{times-symbol, times-none}
 use Rattle.algebra.proofs.Numbers.{point-symbol}
@@ -22,18 +22,17 @@ use Rattle.definitions.proofs.Tools.{below-member, member-below, sum-zero, sum-
 use Rattle.definitions.specs.Bound.{count}
 use Rattle.definitions.specs.Code.{Symbols, point}
 use Rattle.definitions.specs.Field.{numbers, sixteen}
-use Rattle.definitions.specs.Limits.{greatestLimit}
 use Rattle.definitions.specs.Polynomial.{Through, hasse, terms, monomials}
 use Rattle.definitions.specs.Tools.{below, sum}
 use Rattle.definitions.specs.Weights.{entry, entryCost}
 use Rattle.algebra.specs.Grid.{entryOf}
 use Rattle.elimination.specs.Rows.{Solves}
 use Rattle.field.proofs.Instance.{sixteen-field}
-use Rattle.dependence.proofs.Steps.{system-set}
+use Rattle.dependence.proofs.Blocks.{system-set}
 use Rattle.dependence.specs.Dependence.{System}
 use Rattle.conditions.proofs.Counts.{orders, length-orders}
 use Rattle.conditions.proofs.Derivatives.{derivatives-symbols}
-use Rattle.rows.proofs.Filled.{filled-symbols}
+use Rattle.rows.proofs.Filled.{length-filled, filled-symbols}
 use Rattle.conditions.proofs.Walk.{product-entry}
 use Rattle.conditions.specs.Conditions.{walked, derivativesRow, productRow, pointRows, columnRows, matrixRows}
 use Rattle.rows.specs.Row.{width}
@@ -139,6 +138,10 @@ module _ (v d w : ℕ) (a : List (List ℕ)) where
       (derivatives-symbols (point sixteen (c .i)) (point-symbol sixteen sixteen-field (c .i)) (d + 1) (c .s) (walked v k .0))
       (derivatives-symbols (c .b) (c .symbol) (d / v + 1) (c .t) (walked v k .1))))
 
+  -- and has its width
+  pub condition-wide : (ρ : List ℕ) → w ≤ width → Condition v d w a ρ → length ρ ≡ width
+  condition-wide ρ h c = ap length (sym (c .is-row)) ∙ length-filled _ w h
+
 -- ---- the system that holds them
 
 -- rows of zeros are a system
@@ -150,15 +153,19 @@ zero-rows n c r k =
     ]
 
 -- a system of zeros
-pub empty-system : (n c : ℕ) → n ≡ greatestLimit → System (replicate n (replicate c 0))
-empty-system n c e = record { size = length-replicate n (replicate {A = ℕ} c 0) ∙ e; symbols = zero-rows n c }
+pub empty-system : (n : ℕ) → System (replicate n (replicate width 0))
+empty-system n = record {
+  wide = λ t h. ap length (getD-replicate n t (replicate width 0) [] (let e = length-replicate n (replicate {A = ℕ} width 0) in omega arith)) ∙ length-replicate {A = ℕ} width 0;
+  symbols = zero-rows n width;
+}
 
--- rows of symbols are put into a system
-pub system-sets : (o : List (List ℕ)) (at : ℕ) (l : List (List ℕ)) → System o → at + length l ≤ greatestLimit → ((ρ : List ℕ) → List·Memᴰ ρ l → Symbols sixteen ρ)
-    → System (sets o at l)
+-- rows of symbols, each of its width, are put into a system
+pub system-sets : (o : List (List ℕ)) (at : ℕ) (l : List (List ℕ)) → System o → at + length l ≤ length o
+    → ((ρ : List ℕ) → List·Memᴰ ρ l → (length ρ ≡ width) × Symbols sixteen ρ) → System (sets o at l)
 system-sets o at [] s h f = s
 system-sets o at (ρ ∷ l) s h f =
-    system-sets (set o at ρ) (suc at) l (system-set o at ρ s (omega arith) (f ρ (List·Memᴰ·head refl))) (omega arith) (λ x m. f x (List·Memᴰ·tail m))
+    let here = f ρ (List·Memᴰ·head refl) in
+    system-sets (set o at ρ) (suc at) l (system-set o at ρ s (omega arith) (here .0) (here .1)) (let e = length-set o at ρ in omega arith) (λ x m. f x (List·Memᴰ·tail m))
 
 -- and stand there
 placed-at : (o l : List (List ℕ)) (r : ℕ) → length l ≤ length o → r < length l → getD (sets o 0 l) r [] ≡ getD l r []
@@ -194,11 +201,11 @@ module _ (m : List ℕ) (n v D : ℕ) (small : n ≤ sixteen .positions) (size :
         | no l ↦ let z = List·getD-eq-default m 0 {n = sixteen .symbols * i + b} (omega arith) in let y : ⊥ = omega arith in absurd y
       ]
 
-  module _ (o : List (List ℕ)) (so : System o) (room : length (matrixRows v D (count v D) a) ≤ greatestLimit) where
+  module _ (o : List (List ℕ)) (room : length (matrixRows v D (count v D) a) ≤ length o) where
     -- row r of the system is condition r
     stands : (r : ℕ) → r < length (matrixRows v D (count v D) a)
         → getD (sets o 0 (matrixRows v D (count v D) a)) r [] ≡ getD (matrixRows v D (count v D) a) r []
-    stands r h = placed-at o (matrixRows v D (count v D) a) r (let e = so .size in omega arith) h
+    stands r h = placed-at o (matrixRows v D (count v D) a) r room h
 
     -- what passes solves
     pub through-solves : Through sixteen n v D m q
