@@ -34,7 +34,7 @@ system-set m t row s h e sr = record {
 }
 
 -- a block of symbols is put into a row
-pub put-system : (m : List (List ℕ)) (t at : ℕ) (part row : List ℕ) → System m → t < length m → SymbolBlock part → PutBlock at part (getD m t []) row
+put-system : (m : List (List ℕ)) (t at : ℕ) (part row : List ℕ) → System m → t < length m → SymbolBlock part → PutBlock at part (getD m t []) row
     → System (set m t row)
 put-system m t at part row s h sp p =
     system-set m t row s h (p .size ∙ s .wide t h)

@@ -31,12 +31,8 @@ pub back-more : (y s i now x : ℕ) (r q : ℕ → ℕ) → s < i → now ≡ be
 back-more y s i now x r q h e f =
     ap₂ (sixteen .plus) e f ∙ sym (behind-more (numbers sixteen) y s i r q h) ∙ ap (λ (n : ℕ). behind (numbers sixteen) y s n r q) (sym (add-one i))
 
--- nothing lies between
-pub between-nothing : (s j : ℕ) (q : List ℕ) → j ≤ s + 1 → SymbolsBetween s j q
-between-nothing s j q h k l g = let z : ⊥ = omega arith in absurd z
-
 -- one symbol more
-pub between-symbols : (m : List (List ℕ)) → SymbolRows sixteen m → (s j y : ℕ) (q : List ℕ) → s < length q → SymbolsBetween s j q
+between-symbols : (m : List (List ℕ)) → SymbolRows sixteen m → (s j y : ℕ) (q : List ℕ) → s < length q → SymbolsBetween s j q
     → y ≡ behind (numbers sixteen) (entryOf m s j) s j (entryOf m s) (λ i. getD q i 0) → (k : ℕ) → s ≤ k → k < j → getD (set q s y) k 0 < sixteen .symbols
 between-symbols m sm s j y q h sq e k l g =
     elim (ℕ-discrete k s) [

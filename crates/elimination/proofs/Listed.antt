@@ -87,7 +87,7 @@ module _ (C : Code) (from to j : ℕ) (places c : ℕ → ℕ) where
   done-none m = record { done = λ i h. let z : ⊥ = omega arith in absurd z; rest = λ t n k. refl; before = λ k h t. refl; after = λ k h t. refl }
 
   -- one more is done
-  pub done-more : (R n total : ℕ) (o m b : ℕ → ℕ → ℕ) → Targets R j total places → n < total → Done C from to j n places c o m
+  done-more : (R n total : ℕ) (o m b : ℕ → ℕ → ℕ) → Targets R j total places → n < total → Done C from to j n places c o m
       → ((k : ℕ) → from ≤ k → k < to → b (places n) k ≡ C .plus (m (places n) k) (C .times (c n) (o j k)))
       → ((k : ℕ) → k < from → b (places n) k ≡ m (places n) k) → ((k : ℕ) → to ≤ k → b (places n) k ≡ m (places n) k)
       → ((t : ℕ) → t ≢ places n → (k : ℕ) → b t k ≡ m t k) → Done C from to j (suc n) places c o b

@@ -212,7 +212,7 @@ module _ (A : Ring) where
   behind-step y d x a w e = sym (A .add-assoc y d w) ∙ ap (λ (z : K). z ⊕ w) e ∙ A .add-assoc x a w
 
   -- such a row, times q, is the entry at s and what lies behind it
-  pub dot-behind : (y : K) (s n : ℕ) (r q : ℕ → K) → s < n → ((k : ℕ) → k < s → r k ≡ o) → r s ≡ i
+  dot-behind : (y : K) (s n : ℕ) (r q : ℕ → K) → s < n → ((k : ℕ) → k < s → r k ≡ o) → r s ≡ i
       → y ⊕ dot (A .ops) n r q ≡ q s ⊕ behind (A .ops) y s n r q
   dot-behind y s zero r q h e f = let z : ⊥ = omega arith in absurd z
   dot-behind y s (suc n) r q h e f =
