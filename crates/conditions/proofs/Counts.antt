@@ -1,24 +1,12 @@
--- How many conditions a point has, of one order by x and of all.
+-- How many conditions a point has.
 -- Assumes nothing.
-use mathlib.Core.List.{List}
 use mathlib.Core.Path.{_≡_, sym, _∙_, ap}
-use Prim.Native.Nat.{ℕ, zero, suc, _+_, _-_, _*_, _/_, _≤_}
+use Prim.Native.Nat.{ℕ, zero, suc, _+_, _-_, _*_, _≤_}
 use native.Mathlib.Nat.{suc-mul, mul-suc}
 use native.Mathlib.Omega.{arith}
-use lib.ListN.{length, length-map}
-use Rattle.definitions.proofs.Tools.{length-below, sum-zero, sum-suc}
-use Rattle.definitions.specs.Tools.{below, sum}
+use Rattle.definitions.proofs.Tools.{sum-zero, sum-suc}
+use Rattle.definitions.specs.Tools.{sum}
 use Rattle.definitions.specs.Weights.{entryCost}
-use Rattle.conditions.specs.Conditions.{derivativesRow, productRow, orderRows}
-
--- the conditions of order s by x, of a point of multiplicity m
-abbrev pub orders : ℕ → ℕ → ℕ → ℕ → ℕ → ℕ → ℕ → List (List ℕ)
-orders v d count x y m s = orderRows v (d / v + 1) count (derivativesRow (d + 1) x s) y (m - s)
-
--- they are m - s
-pub length-orders : (v d count x y m s : ℕ) → length (orders v d count x y m s) ≡ m - s
-length-orders v d count x y m s =
-    length-map (below (m - s)) (λ (t : ℕ). productRow v count (derivativesRow (d + 1) x s) (derivativesRow (d / v + 1) y t)) ∙ length-below (m - s)
 
 -- m + (m - 1) + .. , n numbers of it
 falling-sum : (m n : ℕ) → n ≤ m → 2 * sum n (λ s. m - s) ≡ n * (2 * m + 1 - n)

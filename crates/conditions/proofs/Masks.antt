@@ -19,7 +19,7 @@ use Rattle.field.proofs.Instance.{sixteen-field}
 use Rattle.rows.proofs.Filled.{filled-at, filled-rest, filled-symbols}
 use Rattle.rows.specs.Row.{width, filled}
 use Rattle.conditions.proofs.Walk.{walked-le}
-use Rattle.conditions.specs.Conditions.{walked}
+use Rattle.conditions.specs.Walk.{walked}
 use Rattle.conditions.specs.Masks.{exponentRows, Places, powersRow, keptRow, askedAt, baseAt, orderAt, keptOrders}
 
 module _ (m n x y : ℕ) where

@@ -28,7 +28,7 @@ use Rattle.rows.proofs.Filled.{length-filled, filled-at, filled-rest}
 use Rattle.rows.specs.Row.{width}
 use Rattle.conditions.proofs.Masks.{base-symbol}
 use Rattle.conditions.proofs.Walk.{walked-le, x-within, y-within, walked-monomial}
-use Rattle.conditions.specs.Conditions.{walked}
+use Rattle.conditions.specs.Walk.{walked}
 use Rattle.conditions.specs.Masks.{exponentRows, powersRow, valuesRow, maskByte, keptRow, askedAt, baseAt}
 
 -- all bits of a byte

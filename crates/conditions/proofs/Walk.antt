@@ -11,16 +11,13 @@ use native.Mathlib.Omega.{arith}
 use borrow.Author.Tests.{le-leb, lt-leb}
 use lib.ListN.{length, getD, List·getD-append}
 use lib.Seq.{getD-append-add}
-use Rattle.algebra.proofs.Linear.{row}
 use Rattle.definitions.proofs.Joined.{join-below}
 use Rattle.definitions.proofs.Monomials.{monomials-in-order, degree-grows, lower, none-lower, lower-more, lower-grows}
 use Rattle.definitions.proofs.Tools.{map-below-at}
 use Rattle.definitions.specs.Bound.{count}
-use Rattle.definitions.specs.Field.{numbers, sixteen}
-use Rattle.definitions.specs.Polynomial.{monomialsOf, monomials, derivative}
+use Rattle.definitions.specs.Polynomial.{monomialsOf, monomials}
 use Rattle.definitions.specs.Tools.{below}
-use Rattle.rows.proofs.Filled.{filled-at}
-use Rattle.conditions.specs.Conditions.{Place, nextPlace, walked, derivativesRow, productRow}
+use Rattle.conditions.specs.Walk.{Place, nextPlace, walked}
 
 module _ (v : ℕ) where
   -- no step
@@ -199,12 +196,3 @@ module _ (v : ℕ) (pos : 0 < v) where
         let x : walked v k .2 - v * walked v k .1 ≡ walked v k .0 = (let r = s .rest in omega arith) in
         ap₂ (λ (n j : ℕ). getD (flatMap (monomialsOf v) (below n)) j (0, 0)) (add-one D) (s .place)
         ∙ monomial-at v D (walked v k .2) (walked v k .1) degree-within l ∙ ap (λ (n : ℕ). (n, walked v k .1)) x
-
-    -- the entry of a constraint row at place k
-    pub product-entry : (x y s t : ℕ)
-        → getD (productRow v (count v D) (derivativesRow (D + 1) x s) (derivativesRow (D / v + 1) y t)) k 0 ≡ row (numbers sixteen) (monomials v D) s t x y k
-    product-entry x y s t =
-        filled-at _ (count v D) k h
-        ∙ ap₂ (sixteen .times) (filled-at (λ e. derivative (numbers sixteen) e s x) (D + 1) (walked v k .0) x-within)
-        (filled-at (λ e. derivative (numbers sixteen) e t y) (D / v + 1) (walked v k .1) y-within)
-        ∙ ap (λ (m : ℕ × ℕ). sixteen .times (derivative (numbers sixteen) (m .0) s x) (derivative (numbers sixteen) (m .1) t y)) (sym walked-monomial)

@@ -1,2 +1,2 @@
-pub mod Conditions
+pub mod Walk
 pub mod Masks

@@ -10,7 +10,7 @@ use Rattle.algebra.specs.Grid.{entryOf}
 use Rattle.definitions.specs.Code.{point}
 use Rattle.definitions.specs.Field.{numbers, sixteen, power}
 use Rattle.definitions.specs.Tools.{below}
-use Rattle.conditions.specs.Conditions.{walked}
+use Rattle.conditions.specs.Walk.{walked}
 use Rattle.rows.specs.Row.{width, filled}
 
 -- the powers of x that the monomials have, and those of y

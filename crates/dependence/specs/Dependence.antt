@@ -1,41 +1,75 @@
 -- What each step of the elimination makes of the rows.
 -- Assumes nothing.
+use mathlib.Core.Bool.{cond}
 use mathlib.Core.List.{List, []}
-use mathlib.Core.Logic.{_≢_}
 use mathlib.Core.Path.{_≡_}
-use Prim.Native.Nat.{ℕ, suc, _≤_, _<_}
+use Prim.Native.Nat.{ℕ, _*_, _≤_, _<_}
+use lib.Dec.{eqb}
 use lib.ListN.{length, getD}
-use Rattle.definitions.specs.Field.{sixteen}
-use Rattle.definitions.specs.Limits.{greatestLimit}
 use Rattle.algebra.specs.Grid.{entryOf}
-use Rattle.elimination.specs.Rows.{SymbolRows, SameSolutions, Units}
-use Rattle.rows.specs.Row.{width}
+use Rattle.definitions.specs.Field.{sixteen, numbers}
+use Rattle.definitions.specs.Limits.{greatestLimit}
+use Rattle.elimination.specs.Columns.{Between, Exchanged, Lowered, Targets, Listed, Done}
+use Rattle.elimination.specs.Rows.{SymbolRows, SameSolutions, Triangle}
+use Rattle.rows.specs.Row.{width, block}
 
--- all the rows that there is room for, of symbols
+-- rows of symbols, each of its width
 pub record System (m : List (List ℕ)) : Type 0 where
-  pub size : length m ≡ greatestLimit
+  pub wide : (t : ℕ) → t < length m → length (getD m t []) ≡ width
   pub symbols : SymbolRows sixteen m
 
--- what is left of the entry of row t in column k when row j, times the entry in column j, is taken away
-abbrev pub left : List (List ℕ) → ℕ → ℕ → ℕ → ℕ
-left m j t k = sixteen .plus (entryOf m t k) (sixteen .times (entryOf m t j) (entryOf m j k))
+-- the rows that count are there, and are fewer than the columns of the blocks, which lie within a row
+pub record Within (rows blocks : ℕ) (m : List (List ℕ)) : Type 0 where
+  pub there : rows ≤ length m
+  pub few : rows ≤ greatestLimit
+  pub fewer : rows < blocks * block
+  pub inside : blocks * block ≤ width
 
--- row t is cleared in column j, the other rows stay
-pub record ClearedRow (j t : ℕ) (m b : List (List ℕ)) : Type 0 where
+-- rows r and j change places in some columns, and the one that comes to j is scaled by u
+pub record ExchangedIn (from to r j u : ℕ) (m b : List (List ℕ)) : Type 0 where
+  pub size : length b ≡ length m
   pub system : System b
-  pub here : t ≢ j → (k : ℕ) → k < width → entryOf b t k ≡ left m j t k
-  pub others : (r : ℕ) → r ≢ t → getD b r [] ≡ getD m r []
-  pub pivot : getD b j [] ≡ getD m j []
+  pub columns : Between (Exchanged (numbers sixteen) r j u) from to (entryOf m) (entryOf b)
 
--- the first n rows are, but for row j
-pub record Cleared (j n : ℕ) (m b : List (List ℕ)) : Type 0 where
-  pub system : System b
-  pub here : (t : ℕ) → t < n → t ≢ j → (k : ℕ) → k < width → entryOf b t k ≡ left m j t k
-  pub pivot : getD b j [] ≡ getD m j []
-  pub later : (t : ℕ) → n ≤ t → getD b t [] ≡ getD m t []
+-- 0 of zero, else 1
+abbrev pub oneOf : ℕ → ℕ
+oneOf x = cond (eqb x 0) 0 1
 
--- column j is made a unit column, and the solutions stay
-pub record Step (rows j : ℕ) (m b : List (List ℕ)) : Type 0 where
+-- column j
+abbrev pub columnOf : List (List ℕ) → ℕ → ℕ → ℕ
+columnOf m j t = entryOf m t j
+
+-- the rows behind j that are not zero in column j are listed, with their entries there
+abbrev pub ListedRows : ℕ → ℕ → ℕ → List (List ℕ) → List ℕ → List ℕ → Type 0
+ListedRows rows j n m places c = Listed rows j n (columnOf m j) (λ (i : ℕ). getD places i 0) (λ (i : ℕ). getD c i 0)
+
+-- the first n places are different rows behind j
+abbrev pub TargetRows : ℕ → ℕ → ℕ → List ℕ → Type 0
+TargetRows R j n places = Targets R j n (λ (i : ℕ). getD places i 0)
+
+-- the first n factors are symbols
+abbrev pub Factors : ℕ → List ℕ → Type 0
+Factors n c = (i : ℕ) → i < n → getD c i 0 < sixteen .symbols
+
+-- the first n places have lost their factors times row j in some columns
+pub record DoneIn (from to j n : ℕ) (places c : List ℕ) (m b : List (List ℕ)) : Type 0 where
+  pub size : length b ≡ length m
   pub system : System b
-  pub same : SameSolutions sixteen rows width m b
-  pub units : Units rows j m → Units rows (suc j) b
+  pub done : Done sixteen from to j n (λ (i : ℕ). getD places i 0) (λ (i : ℕ). getD c i 0) (entryOf m) (entryOf b)
+
+-- the rows behind j have lost x t times row j in some columns
+pub record LoweredIn (from to R j : ℕ) (x : ℕ → ℕ) (m b : List (List ℕ)) : Type 0 where
+  pub size : length b ≡ length m
+  pub system : System b
+  pub columns : Between (Lowered (numbers sixteen) R j x) from to (entryOf m) (entryOf b)
+
+-- the columns before j are a triangle, and the solutions are those of o
+pub record Eliminated (rows w j : ℕ) (o m : List (List ℕ)) : Type 0 where
+  pub size : length m ≡ length o
+  pub system : System m
+  pub same : SameSolutions sixteen rows w o m
+  pub triangle : Triangle rows j m
+
+-- the entries behind s and before j are symbols
+abbrev pub SymbolsBetween : ℕ → ℕ → List ℕ → Type 0
+SymbolsBetween s j q = (k : ℕ) → s < k → k < j → getD q k 0 < sixteen .symbols

@@ -1,12 +1,10 @@
--- Rows times vectors, over any commutative ring of characteristic 2: sums and multiples of rows, and rows with few entries.
+-- Rows times vectors, over any commutative ring of characteristic 2: sums and multiples of rows, rows of zeros and vectors that end.
 -- Assumes nothing.
-use mathlib.Core.Logic.{_≢_}
-use mathlib.Core.Path.{_≡_, refl, sym, _∙_, ap, ap₂}
+use mathlib.Core.Path.{_≡_, refl, sym, _∙_, ap}
 use Prim.Native.Nat.{ℕ, zero, suc, _≤_, _<_}
-use native.Mathlib.Decide.{ℕ-discrete}
 use native.Mathlib.Omega.{arith}
 use Rattle.algebra.proofs.Linear.{dot, dot-none, dot-equal, dot-ended}
-use Rattle.algebra.proofs.RingLaws.{ring, plus-zero, zero-plus, one-times, times-zero, zero-times}
+use Rattle.algebra.proofs.RingLaws.{ring, plus-zero, zero-plus, times-zero, zero-times}
 use Rattle.algebra.specs.Ring.{Ring}
 use Rattle.definitions.specs.Field.{Ops}
 
@@ -35,20 +33,6 @@ module _ (A : Ring) where
   pub dot-zeros : (n : ℕ) (r q : ℕ → K) → ((k : ℕ) → k < n → r k ≡ o) → dot (A .ops) n r q ≡ o
   dot-zeros n r q e =
       dot-ended (A .ops) (plus-zero A) n 0 r q (omega arith) (λ k _ h. ap (λ (x : K). x ⊗ q k) (e k h) ∙ zero-times A (q k)) ∙ dot-none (A .ops) r q
-
-  -- a row with 1 at a, and zeros
-  pub dot-unit : (n : ℕ) (r q : ℕ → K) (a : ℕ) → a < n → r a ≡ i → ((k : ℕ) → k < n → k ≢ a → r k ≡ o) → dot (A .ops) n r q ≡ q a
-  unfolding dot
-  dot-unit zero r q a h u e = let z : ⊥ = omega arith in absurd z
-  dot-unit (suc n) r q a h u e =
-      elim (ℕ-discrete a n) [
-        | yes d ↦
-            ap₂ (λ (x y : K). x ⊕ y ⊗ q n) (dot-zeros n r q (λ k l. e k (omega arith) (λ f. omega arith))) (ap r (sym d) ∙ u)
-            ∙ zero-plus A (i ⊗ q n) ∙ one-times A (q n) ∙ ap q (sym d)
-        | no d ↦
-            ap₂ (λ (x y : K). x ⊕ y ⊗ q n) (dot-unit n r q a (omega arith) u (λ k l f. e k (omega arith) f)) (e n (omega arith) (λ f. d (sym f)))
-            ∙ ap (λ (x : K). q a ⊕ x) (zero-times A (q n)) ∙ plus-zero A (q a)
-      ]
 
   -- a vector that ends before j
   pub dot-ends : (n j : ℕ) (r q : ℕ → K) → j ≤ n → ((k : ℕ) → j ≤ k → k < n → q k ≡ o) → dot (A .ops) n r q ≡ dot (A .ops) j r q

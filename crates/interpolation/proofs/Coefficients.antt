@@ -1,121 +1,147 @@
--- The coefficients that the reduced rows show are the polynomial that interpolates.
+-- What back substitution makes of the reduced rows is the polynomial that interpolates.
 -- Assumes nothing.
-use mathlib.Core.Bool.{Bool, true, cond, true≢false}
-use mathlib.Core.List.{List, _++_, map}
+use mathlib.Core.Bool.{true, true≢false}
+use mathlib.Core.List.{List, _++_}
 use mathlib.Core.Logic.{_≢_}
-use mathlib.Core.Path.{_≡_, refl, sym, _∙_, ap, ap₂, subst}
-use Prim.Native.Nat.{ℕ, _+_, _*_, _≤_, _<_}
+use mathlib.Core.Path.{_≡_, refl, sym, _∙_, ap, subst}
+use Prim.Native.Nat.{ℕ, _+_, _*_, _/_, _≤_, _<_}
 use native.Mathlib.Decide.{decLt, ℕ-discrete}
 use native.Mathlib.Omega.{arith}
-use borrow.Author.Tests.{lt-ltb, le-ltb, eq-eqb, ne-eqb}
-use lib.Dec.{eqb}
-use lib.ListN.{length, drop, getD, List·getD-eq-default}
-use lib.Seq.{sets}
+use lib.ListN.{length, take, drop, getD, set, length-set, List·getD-eq-default}
+use lib.Seq.{sets, length-sets, getD-set-same, getD-set-other}
+use Rattle.conditions.specs.Masks.{maskedRows}
 use Rattle.definitions.proofs.Bound.{bound-le, bound-is-least}
-use Rattle.definitions.proofs.Tools.{below-zero, length-map-below, map-below-at}
 use Rattle.definitions.proofs.Zeros.{isZero-of-zeros, isZero-false}
 use Rattle.definitions.specs.Bound.{count, bound}
 use Rattle.definitions.specs.Code.{Symbols}
 use Rattle.definitions.specs.Field.{sixteen}
 use Rattle.definitions.specs.Limits.{greatestLimit}
 use Rattle.definitions.specs.Polynomial.{Interpolates, Through, isZero, leading}
-use Rattle.definitions.specs.Tools.{below}
-use Rattle.algebra.specs.Grid.{entryOf}
+use Rattle.dependence.specs.Dependence.{System, Within, Eliminated}
+use Rattle.elimination.proofs.Back.{coefficients-size, coefficients-back, coefficients-one, coefficients-end, coefficients-written}
 use Rattle.elimination.proofs.Leading.{zero-after, leading-is}
-use Rattle.elimination.proofs.Symbols.{reduced-solves, reduced-least}
-use Rattle.elimination.specs.Rows.{Solves, SameSolutions, Reduced}
+use Rattle.elimination.proofs.Narrow.{narrow-solves, narrow-least}
+use Rattle.elimination.proofs.Symbols.{back-symbols}
+use Rattle.elimination.specs.Rows.{Solves, Reduced, Solved, Led}
 use Rattle.field.proofs.Instance.{sixteen-field}
-use Rattle.interpolation.proofs.Conditions.{length-conditions, condition-of, condition-symbols, system-sets, through-solves, solves-through}
+use Rattle.interpolation.proofs.MaskedConditions.{length-conditions, conditions-symbols, conditions-wide, through-solves, solves-through}
 use Rattle.interpolation.proofs.Width.{width-fits}
-use Rattle.interpolation.specs.Found.{Found}
-use Rattle.dependence.specs.Dependence.{System}
-use Rattle.interpolation.specs.Found.{coefficientOf}
-use Rattle.conditions.specs.Conditions.{matrixRows}
-use Rattle.rows.specs.Row.{width}
+use Rattle.interpolation.specs.Found.{Given, Found}
+use Rattle.rows.specs.Row.{width, block}
 use Rattle.weights.specs.Matrix.{matrixOf, matrixCost}
 
-module _ (j : ℕ) (m : List (List ℕ)) (k : ℕ) where
-  -- before j it is the entry of column j
-  pub coefficient-before : k < j → entryOf m k j ≡ coefficientOf j m k
-  coefficient-before h = sym (ap (λ (b : Bool). cond b (entryOf m k j) (cond (eqb k j) 1 0)) (lt-ltb k j h))
+-- ---- the leading coefficient
 
-  -- at j it is 1
-  pub coefficient-at : k ≡ j → 1 ≡ coefficientOf j m k
-  coefficient-at e =
-      sym (ap₂ (λ (a b : Bool). cond a (entryOf m k j) (cond b 1 0)) (le-ltb k j (omega arith)) (eq-eqb k j e))
+-- 1 is put at j
+pub led-first : (j : ℕ) (out : List ℕ) → j < length out → Led j (j + 1) (set out j 1) (set out j 1)
+led-first j out h = record {
+  size = refl;
+  one = getD-set-same out j 1 0 h;
+  zeros = λ k l g. let z : ⊥ = omega arith in absurd z;
+  kept = λ k l. refl;
+}
 
-  -- after j it is 0
-  pub coefficient-after : j ≤ k → k ≢ j → 0 ≡ coefficientOf j m k
-  coefficient-after h n = sym (ap₂ (λ (a b : Bool). cond a (entryOf m k j) (cond b 1 0)) (le-ltb k j h) (ne-eqb k j n))
+-- one zero more
+pub led-more : (j n : ℕ) (out now : List ℕ) → j < n → n < length out → Led j n out now → Led j (n + 1) out (set now n 0)
+led-more j n out now low h l = record {
+  size = length-set now n 0 ∙ l .size;
+  one = getD-set-other now n j 0 0 (λ e. omega arith) ∙ l .one;
+  zeros = λ k g f. elim (ℕ-discrete k n) [
+    | yes e ↦ ap (λ (i : ℕ). getD (set now n 0) i 0) e ∙ getD-set-same now n 0 0 (let s = l .size in omega arith)
+    | no e ↦ getD-set-other now n k 0 0 e ∙ l .zeros k g (omega arith)
+  ];
+  kept = λ k g. getD-set-other now n k 0 0 (λ e. omega arith) ∙ l .kept k (omega arith);
+}
 
--- nothing is written yet
-pub written-none : (f : ℕ → ℕ) (out : List ℕ) → out ≡ map f (below 0) ++ drop 0 out
-written-none f out = ap (λ (l : List ℕ). map f l ++ out) (sym below-zero)
+-- what stays behind them stood there before the 1
+pub led-whole : (j n : ℕ) (out now : List ℕ) → j < n → Led j n (set out j 1) now → Led j n out now
+led-whole j n out now low l = record {
+  size = l .size ∙ length-set out j 1;
+  one = l .one;
+  zeros = l .zeros;
+  kept = λ k g. l .kept k g ∙ getD-set-other out j k 1 0 (λ e. omega arith);
+}
 
--- the rows of a matrix within limits are a system
-pub conditions-system : (v d w : ℕ) (a o : List (List ℕ)) → System o → matrixCost a ≤ greatestLimit → System (sets o 0 (matrixRows v d w a))
-conditions-system v d w a o so h =
-    system-sets o 0 (matrixRows v d w a) so (let e = length-conditions v d w a in omega arith) (λ ρ m. condition-symbols v d w a ρ (condition-of v d w a ρ m))
+-- ---- what is given is within the limits of the functions
 
-module _ (v D : ℕ) (a o b : List (List ℕ)) (pos : 0 < v) (hv : v < sixteen .positions) (cheap : matrixCost a ≤ greatestLimit) (is-bound : D ≡ bound v (matrixCost a))
-    (so : System o) (sb : System b) (rows j : ℕ) (is-rows : rows ≡ length (matrixRows v D (count v D) a)) (low : j ≤ rows)
-    (same : SameSolutions sixteen rows width (sets o 0 (matrixRows v D (count v D) a)) b) (reduced : Reduced rows j b) where
-  -- the coefficients
+module _ (v D w : ℕ) (a : List (List ℕ)) (pos : 0 < v) (hv : v < sixteen .positions) (cheap : matrixCost a ≤ greatestLimit) (is-bound : D ≡ bound v (matrixCost a))
+    (is-count : w ≡ count v D) where
+  -- the coefficients fit into a row
+  pub count-small : w ≤ width
+  count-small = let f = subst (λ (d : ℕ). count v d ≤ width) (sym is-bound) (width-fits v (matrixCost a) pos hv cheap) in omega arith
+
+module _ (a : List (List ℕ)) (v D w cost : ℕ) (out : List ℕ) (g : Given a v D w cost out) where
+  -- so do the powers of x
+  pub degree-small : D < width
+  degree-small = let b = bound-le v (g .weighted) (matrixCost a) in let e = g .bounded in let p = g .priced in let c = g .cheap in omega arith
+
+  -- and the coefficients
+  pub row-fits : w ≤ width
+  row-fits = count-small v D w a (g .weighted) (g .low) (let p = g .priced in let c = g .cheap in omega arith) (g .bounded) (g .counted)
+
+  -- there are as many rows as the matrix costs
+  pub rows-priced : length (maskedRows v D w a) ≡ cost
+  rows-priced = length-conditions v D w a ∙ sym (g .priced)
+
+  -- and more monomials
+  pub more : cost < w
+  more =
+      let f : matrixCost a < count v D = subst (λ (d : ℕ). matrixCost a < count v d) (sym (g .bounded)) (bound-is-least v (g .weighted) (matrixCost a) .0) in
+      let e = g .counted in let p = g .priced in omega arith
+
+  -- the rows of the system that holds them
+  module _ (o start : List (List ℕ)) (so : System o) (room : cost ≤ length o) (is-start : start ≡ sets o 0 (maskedRows v D w a)) where
+    -- the conditions are a system
+    pub start-system : System start
+    start-system =
+        let there : length (maskedRows v D (count v D) a) ≤ length o = (let e = rows-priced in let p = ap (λ (n : ℕ). length (maskedRows v D n a)) (g .counted) in omega arith) in
+        let fits : count v D ≤ width = (let f = row-fits in let c = g .counted in omega arith) in
+        subst System (sym (is-start ∙ ap (λ (n : ℕ). sets o 0 (maskedRows v D n a)) (g .counted))) (record {
+          wide = λ t h. conditions-wide v D (g .weighted) fits a o there t (so .wide t (let e = length-sets o 0 (maskedRows v D (count v D) a) in omega arith));
+          symbols = λ r. conditions-symbols v D (g .weighted) fits a o there r (so .symbols r);
+        })
+
+    -- and their blocks are within it
+    pub start-within : (rows : ℕ) → rows ≡ length (maskedRows v D w a) → Within rows (cost / block + 1) start
+    start-within rows e =
+        let p = rows-priced in let c = g .cheap in
+        let n = ap length is-start ∙ length-sets o 0 (maskedRows v D w a) in
+        record { there = omega arith; few = omega arith; fewer = omega arith; inside = omega arith }
+
+-- ---- the coefficients
+
+module _ (a : List (List ℕ)) (v D cost : ℕ) (out : List ℕ) (g : Given a v D (count v D) cost out) (o start b : List (List ℕ)) (so : System o) (room : cost ≤ length o)
+    (is-start : start ≡ sets o 0 (maskedRows v D (count v D) a)) (rows j : ℕ) (is-rows : rows ≡ length (maskedRows v D (count v D) a)) (low : j ≤ rows)
+    (e : Eliminated rows ((cost / block + 1) * block) j start b) (reduced : Reduced rows j b) (led after : List ℕ) (l : Led j (count v D) out led)
+    (s : Solved sixteen j 0 b led after) where
+  -- those that are written
   q : List ℕ
-  q = map (coefficientOf j b) (below (count v D))
+  q = take (count v D) after
+
+  -- j is one of their places
+  place : j < count v D
+  place = let m = more a v D (count v D) cost out g in let p = rows-priced a v D (count v D) cost out g in omega arith
 
   -- they are N(D)
   size : length q ≡ count v D
   unfolding q
-  size = length-map-below (coefficientOf j b) (count v D)
+  size = coefficients-size sixteen j b (count v D) out led after place (g .room) l s
 
-  -- which fit into a row
-  fits : count v D ≤ width
-  fits = subst (λ (d : ℕ). count v d ≤ width) (sym is-bound) (width-fits v (matrixCost a) pos hv cheap)
-
-  -- there are more monomials than conditions
-  more : rows < count v D
-  more =
-      let e = length-conditions v D (count v D) a in
-      let f : matrixCost a < count v D = subst (λ (d : ℕ). matrixCost a < count v d) (sym is-bound) (bound-is-least v pos (matrixCost a) .0) in
-      omega arith
-
-  -- coefficient k
-  at : (k : ℕ) → k < count v D → getD q k 0 ≡ coefficientOf j b k
-  unfolding q
-  at k h = map-below-at (coefficientOf j b) (count v D) k 0 h
-
-  -- past the last there are zeros
-  past : (k : ℕ) → count v D ≤ k → getD q k 0 ≡ 0
-  past k h = List·getD-eq-default q 0 {n = k} (let e = size in omega arith)
-
-  -- before j
-  column : (k : ℕ) → k < j → getD q k 0 ≡ entryOf b k j
-  column k h = at k (let m = more in omega arith) ∙ sym (coefficient-before j b k h)
-
-  -- at j
+  -- the one at j is 1
   one : getD q j 0 ≡ 1
-  one = at j (let m = more in omega arith) ∙ sym (coefficient-at j b j refl)
+  unfolding q
+  one = coefficients-one sixteen j b (count v D) out led after place (g .room) l s
 
-  -- after j
+  -- those after it are zero
   ends : (k : ℕ) → j < k → getD q k 0 ≡ 0
-  ends k h =
-      elim (decLt k (count v D)) [
-        | yes l ↦ at k l ∙ sym (coefficient-after j b k (omega arith) (λ e. omega arith))
-        | no l ↦ past k (omega arith)
-      ]
+  unfolding q
+  ends = coefficients-end sixteen j b (count v D) out led after place (g .room) l s
 
   -- all are symbols
   symbols : Symbols sixteen q
-  symbols k =
-      elim (decLt k j) [
-        | yes h ↦ subst (λ (x : ℕ). x < sixteen .symbols) (sym (column k h)) (sb .symbols k j)
-        | no n ↦
-            elim (ℕ-discrete k j) [
-              | yes e ↦ subst (λ (x : ℕ). getD q x 0 < sixteen .symbols) (sym e) (let f = one in omega arith)
-              | no f ↦ let g = ends k (omega arith) in omega arith
-            ]
-      ]
+  unfolding q
+  symbols =
+      back-symbols sixteen sixteen-field b j (e .system .symbols) q (coefficients-back sixteen j b (count v D) out led after place (g .room) l s) one ends
 
   -- the one at j is not zero
   nonzero-at : getD q j 0 ≢ 0
@@ -125,34 +151,47 @@ module _ (v D : ℕ) (a o b : List (List ℕ)) (pos : 0 < v) (hv : v < sixteen .
   leads-at : leading q ≡ j
   leads-at = leading-is q j nonzero-at ends
 
-  -- j is a column of the rows
-  inside : j < width
-  inside = let m = more in let f = fits in omega arith
+  -- the rows that were reduced
+  begun : System start
+  begun = start-system a v D (count v D) cost out g o start so room is-start
+
+  -- and the columns that were
+  within : Within rows (cost / block + 1) start
+  within = start-within a v D (count v D) cost out g o start so room is-start rows is-rows
+
+  -- they solve the conditions
+  solves : Solves sixteen rows width start q
+  unfolding q
+  solves =
+      narrow-solves sixteen sixteen-field rows width ((cost / block + 1) * block) start start b (begun .symbols) (begun .symbols) (e .system .symbols) (within .inside)
+      (λ r k _ _. refl) (e .same) j (let w = within .fewer in omega arith) low reduced q symbols
+      (coefficients-back sixteen j b (count v D) out led after place (g .room) l s) one (λ k h _. ends k h)
 
   module _ (m : List ℕ) (n : ℕ) (small : n ≤ sixteen .positions) (full : length m ≡ sixteen .symbols * n) (loaded : a ≡ matrixOf m n) where
-    -- there is room for the conditions
-    room : length (matrixRows v D (count v D) a) ≤ greatestLimit
-    room = let e = length-conditions v D (count v D) a in omega arith
+    -- the conditions are there
+    there : length (maskedRows v D (count v D) a) ≤ length o
+    there = let p = rows-priced a v D (count v D) cost out g in omega arith
 
     -- they pass
     passes : Through sixteen n v D m q
     passes =
-        solves-through m n v D small full pos fits a loaded q symbols size o so room
-        (subst (λ (r : ℕ). Solves sixteen r width (sets o 0 (matrixRows v D (count v D) a)) q) is-rows
-        (same q symbols .1 (reduced-solves sixteen sixteen-field rows width b j (sb .symbols) inside low reduced q symbols column one (λ k l _. ends k l))))
+        solves-through m n v D small full (g .weighted) (row-fits a v D (count v D) cost out g) a loaded q symbols o there
+        (subst (λ (x : List (List ℕ)). Solves sixteen (length (maskedRows v D (count v D) a)) width x q) is-start
+        (subst (λ (r : ℕ). Solves sixteen r width start q) is-rows solves))
 
     -- what passes and ends earlier is zero
     none-earlier : (p : List ℕ) → length p ≡ count v D → Symbols sixteen p → Through sixteen n v D m p → leading p < j → isZero p ≡ true
-    none-earlier p e sp through h =
+    none-earlier p f sp through h =
         isZero-of-zeros p
         (λ k. elim (decLt k width) [
-          | yes l ↦
-              reduced-least sixteen sixteen-field rows width b j (sb .symbols) inside low reduced p sp
-              (same p sp .0
-              (subst (λ (r : ℕ). Solves sixteen r width (sets o 0 (matrixRows v D (count v D) a)) p) (sym is-rows)
-              (through-solves m n v D small full pos fits a loaded p sp e o so room through)))
-              (λ i low _. zero-after p i (omega arith)) k l
-          | no l ↦ List·getD-eq-default p 0 {n = k} (let f = fits in omega arith)
+          | yes i ↦
+              narrow-least sixteen sixteen-field rows width ((cost / block + 1) * block) start start b (begun .symbols) (begun .symbols) (e .system .symbols) (within .inside)
+              (λ r k _ _. refl) (e .same) j (let w = within .fewer in omega arith) low reduced p sp
+              (subst (λ (r : ℕ). Solves sixteen r width start p) (sym is-rows)
+              (subst (λ (x : List (List ℕ)). Solves sixteen (length (maskedRows v D (count v D) a)) width x p) (sym is-start)
+              (through-solves m n v D small full (g .weighted) (row-fits a v D (count v D) cost out g) a loaded p sp o there through)))
+              (λ i low _. zero-after p i (omega arith)) k i
+          | no i ↦ List·getD-eq-default p 0 {n = k} (let w = row-fits a v D (count v D) cost out g in omega arith)
         ])
 
     -- they interpolate
@@ -169,40 +208,23 @@ module _ (v D : ℕ) (a o b : List (List ℕ)) (pos : 0 < v) (hv : v < sixteen .
       ];
     }
 
-  pub found : (before after : List ℕ) → after ≡ map (coefficientOf j b) (below (count v D)) ++ drop (count v D) before → Found a v D before j after
+  -- so the polynomial is found
+  found : Found a v D out j after
   unfolding q
-  found before after e = record {
+  found = record {
     coefficients = q;
     interpolates = interpolates;
     size = size;
     leads = sym leads-at;
-    written = e ∙ ap (λ (n : ℕ). q ++ drop n before) (sym size);
+    written = coefficients-written sixteen j b (count v D) out led after place (g .room) l s ∙ ap (λ (n : ℕ). q ++ drop n out) (sym size);
   }
 
-module _ (v D w : ℕ) (a : List (List ℕ)) (pos : 0 < v) (hv : v < sixteen .positions) (cheap : matrixCost a ≤ greatestLimit) (is-bound : D ≡ bound v (matrixCost a)) (is-count : w ≡ count v D) where
-  -- what the functions are called with is within their limits
-  pub degree-small : D < width
-  degree-small = let b = bound-le v pos (matrixCost a) in omega arith
-
-  -- so is the count
-  pub count-small : w ≤ width
-  count-small = let f = subst (λ (d : ℕ). count v d ≤ width) (sym is-bound) (width-fits v (matrixCost a) pos hv cheap) in omega arith
-
-  -- and so are the conditions
-  pub rows-small : length (matrixRows v D w a) ≤ greatestLimit
-  rows-small = let e = length-conditions v D w a in omega arith
-
-  module _ {o start : List (List ℕ)} (so : System o) (is-start : start ≡ sets o 0 (matrixRows v D w a)) where
-    -- the conditions are a system
-    pub start-system : System start
-    start-system = subst System (sym is-start) (conditions-system v D w a o so cheap)
-
-    -- the function's answer
-    pub polynomial-found : (b : List (List ℕ)) → System b → (rows j : ℕ) → rows ≡ length (matrixRows v D w a) → j ≤ rows
-        → SameSolutions sixteen rows width start b → Reduced rows j b → (before after : List ℕ)
-        → after ≡ map (coefficientOf j b) (below w) ++ drop w before → Found a v D before j after
-    polynomial-found b sb rows j is-rows low same reduced before after e =
-        found v D a o b pos hv cheap is-bound so sb rows j (subst (λ (n : ℕ). rows ≡ length (matrixRows v D n a)) is-count is-rows) low
-        (subst (λ (n : ℕ). SameSolutions sixteen rows width (sets o 0 (matrixRows v D n a)) b) is-count
-        (subst (λ (m : List (List ℕ)). SameSolutions sixteen rows width m b) is-start same)) reduced before after
-        (subst (λ (n : ℕ). after ≡ map (coefficientOf j b) (below n) ++ drop n before) is-count e)
+-- the function's answer
+pub polynomial-found : (a : List (List ℕ)) (v D w cost : ℕ) (out : List ℕ) → Given a v D w cost out → (o start b : List (List ℕ)) → System o → cost ≤ length o
+    → start ≡ sets o 0 (maskedRows v D w a) → (rows j : ℕ) → rows ≡ length (maskedRows v D w a) → j ≤ rows → Eliminated rows ((cost / block + 1) * block) j start b → Reduced rows j b
+    → (led after : List ℕ) → Led j w out led → Solved sixteen j 0 b led after → Found a v D out j after
+polynomial-found a v D w cost out g o start b so room is-start rows j is-rows low e reduced led after =
+    subst
+    (λ (n : ℕ).
+    Given a v D n cost out → start ≡ sets o 0 (maskedRows v D n a) → rows ≡ length (maskedRows v D n a) → Led j n out led → Solved sixteen j 0 b led after → Found a v D out j after)
+    (sym (g .counted)) (λ g is-start is-rows l s. found a v D cost out g o start b so room is-start rows j is-rows low e reduced led after l s) g is-start is-rows

@@ -1,20 +1,24 @@
--- What the reduced rows show, and what the inner function leaves: the polynomial that interpolates, and the place of its leading monomial.
+-- What the inner functions are given, and what they leave: the polynomial that interpolates, and the place of its leading monomial.
 -- Assumes nothing.
-use mathlib.Core.Bool.{cond}
 use mathlib.Core.List.{List, _++_}
 use mathlib.Core.Path.{_≡_}
-use Prim.Native.Nat.{ℕ, _*_, _≤_}
-use lib.Dec.{eqb, ltb}
+use Prim.Native.Nat.{ℕ, _*_, _≤_, _<_}
 use lib.ListN.{length, drop}
-use Rattle.definitions.specs.Bound.{count}
+use Rattle.definitions.specs.Bound.{bound, count}
 use Rattle.definitions.specs.Field.{sixteen}
+use Rattle.definitions.specs.Limits.{greatestLimit}
 use Rattle.definitions.specs.Polynomial.{Interpolates, leading}
-use Rattle.algebra.specs.Grid.{entryOf}
-use Rattle.weights.specs.Matrix.{matrixOf}
+use Rattle.weights.specs.Matrix.{matrixOf, matrixCost}
 
--- the coefficient that the reduced rows show: column j, then 1, then 0
-abbrev pub coefficientOf : ℕ → List (List ℕ) → ℕ → ℕ
-coefficientOf j m k = cond (ltb k j) (entryOf m k j) (cond (eqb k j) 1 0)
+-- a matrix within limits, its cost, its bound and how many coefficients that has, for which there is room
+pub record Given (a : List (List ℕ)) (v D w cost : ℕ) (out : List ℕ) : Type 0 where
+  pub weighted : 0 < v
+  pub low : v < sixteen .positions
+  pub cheap : cost ≤ greatestLimit
+  pub priced : cost ≡ matrixCost a
+  pub bounded : D ≡ bound v (matrixCost a)
+  pub counted : w ≡ count v D
+  pub room : w ≤ length out
 
 pub record Found (a : List (List ℕ)) (v D : ℕ) (before : List ℕ) (place : ℕ) (after : List ℕ) : Type 0 where
   pub coefficients : List ℕ

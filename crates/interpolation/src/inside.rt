@@ -1,43 +1,87 @@
 // The polynomial of what is within limits already.
-ghost use mathlib.Core.List.{_++_, map};
 ghost use mathlib.Core.Path.{_≡_};
 ghost use Prim.Native.Nat.{_≤_, _<_};
-ghost use lib.ListN.{length, drop};
+ghost use lib.ListN.{length};
 ghost use Rattle.definitions.specs.Bound.{bound};
 ghost use Rattle.definitions.specs.Field.{sixteen};
 ghost use Rattle.definitions.specs.Limits.{greatestLimit};
-ghost use Rattle.definitions.specs.Tools.{below};
-ghost use Rattle.interpolation.specs.Found.{coefficientOf, Found};
+ghost use Rattle.dependence.specs.Dependence.{System};
+ghost use Rattle.elimination.specs.Rows.{Led};
+ghost use Rattle.interpolation.specs.Found.{Given, Found};
+ghost use Rattle.rows.specs.Row.{block};
 ghost use Rattle.weights.specs.Matrix.{matrixCost};
 use refusals::limits::GREATEST_LIMIT;
 use refusals::limits::POSITIONS;
 use refusals::limits::SYMBOLS;
+use rows::BLOCK;
 use rows::WIDTH;
 
-// The coefficient k that the reduced rows show: column j, then 1, then zeros.
-fn coefficient(system: &[[u8; WIDTH]; GREATEST_LIMIT], j: usize, k: usize) -> u8
-    requires { ⌜ j ≤ greatestLimit ⌝ }
-    ensures { λ r. ⌜ r ≡ coefficientOf j (now (system .entry)) k ⌝ }
+// 1 at place j, and zeros behind it.
+fn lead(j: usize, count: usize, out: &mut [u8])
+    requires { ⌜ (j < count) × (count ≤ length (now out)) ⌝ }
+    ensures { λ _. ⌜ Led j count (now (out .entry)) (now (out .exit)) ⌝ }
 {
-    if k < j {
-        return system[k][j];
-    }
-    if k == j {
-        return 1;
-    }
-    0
-}
-
-// All coefficients that the reduced rows show, to the front of out.
-fn read_off(system: &[[u8; WIDTH]; GREATEST_LIMIT], j: usize, count: usize, out: &mut [u8])
-    requires { ⌜ (j ≤ greatestLimit) × (count ≤ length (now out)) ⌝ }
-    ensures { λ _. ⌜ now (out .exit) ≡ map (coefficientOf j (now (system .entry))) (below count) ++ drop count (now (out .entry)) ⌝ }
-{
-    let mut k = 0;
+    out[j] = 1;
+    let mut k = j + 1;
     while k < count {
-        out[k] = coefficient(system, j, k);
+        out[k] = 0;
         k += 1;
     }
+}
+
+// The polynomial of a matrix within limits, worked out in a system of rows that has room for its conditions.
+fn polynomial_in(
+    system: &mut [[u8; WIDTH]],
+    matrix: &[[u8; SYMBOLS]; POSITIONS],
+    v: usize,
+    d: usize,
+    count: usize,
+    cost: usize,
+    out: &mut [u8],
+) -> usize
+    requires { ⌜ Given (now matrix) v d count cost (now out) ⌝ }
+    requires { ⌜ System (now system) × (cost ≤ length (now system)) ⌝ }
+    ensures { λ r. ⌜ Found (now (matrix .entry)) v d (now (out .entry)) r (now (out .exit)) ⌝ }
+{
+    let table = field::inside::products();
+    let blocks = cost / BLOCK + 1;
+    let rows = conditions::inside::matrix_rows(system, &table, matrix, v, d, count);
+    let leading = dependence::inside::first_dependent(system, &table, rows, blocks);
+    lead(leading, count, out);
+    dependence::inside::solve(system, &table, leading, out);
+    leading
+}
+
+// In a system of one block of rows.
+fn small_polynomial(
+    matrix: &[[u8; SYMBOLS]; POSITIONS],
+    v: usize,
+    d: usize,
+    count: usize,
+    cost: usize,
+    out: &mut [u8],
+) -> usize
+    requires { ⌜ Given (now matrix) v d count cost (now out) × (cost ≤ block) ⌝ }
+    ensures { λ r. ⌜ Found (now (matrix .entry)) v d (now (out .entry)) r (now (out .exit)) ⌝ }
+{
+    let mut system = [[0u8; WIDTH]; BLOCK];
+    polynomial_in(&mut system, matrix, v, d, count, cost, out)
+}
+
+// In a system of as many rows as the greatest limit.
+fn large_polynomial(
+    matrix: &[[u8; SYMBOLS]; POSITIONS],
+    v: usize,
+    d: usize,
+    count: usize,
+    cost: usize,
+    out: &mut [u8],
+) -> usize
+    requires { ⌜ Given (now matrix) v d count cost (now out) ⌝ }
+    ensures { λ r. ⌜ Found (now (matrix .entry)) v d (now (out .entry)) r (now (out .exit)) ⌝ }
+{
+    let mut system = [[0u8; WIDTH]; GREATEST_LIMIT];
+    polynomial_in(&mut system, matrix, v, d, count, cost, out)
 }
 
 // The polynomial of a matrix within limits, d being its bound and count N(d), to the front of out. Answers the place of its leading monomial.
@@ -52,10 +96,9 @@ pub fn polynomial(
     requires { ⌜ (d ≡ bound v (matrixCost (now matrix))) × (count ≡ Rattle.definitions.specs.Bound.count v d) × (count ≤ length (now out)) ⌝ }
     ensures { λ r. ⌜ Found (now (matrix .entry)) v d (now (out .entry)) r (now (out .exit)) ⌝ }
 {
-    let table = field::inside::products();
-    let mut system = [[0u8; WIDTH]; GREATEST_LIMIT];
-    let rows = conditions::inside::matrix_rows(&mut system, &table, matrix, v, d, count);
-    let leading = dependence::inside::first_dependent(&mut system, &table, rows);
-    read_off(&system, leading, count, out);
-    leading
+    let cost = weights::inside::cost(matrix);
+    if cost <= BLOCK {
+        return small_polynomial(matrix, v, d, count, cost, out);
+    }
+    large_polynomial(matrix, v, d, count, cost, out)
 }

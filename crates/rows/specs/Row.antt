@@ -1,8 +1,10 @@
--- Rows of symbols: sums and multiples of them.
+-- Rows of symbols, and the blocks of columns in which they are worked on.
 -- Assumes nothing.
-use mathlib.Core.List.{List, _++_, map}
-use Prim.Native.Nat.{ℕ}
-use lib.ListN.{drop, getD, replicate}
+use mathlib.Core.List.{List, [], _++_, map}
+use mathlib.Core.Path.{_≡_}
+use Prim.Native.Nat.{ℕ, _+_, _-_, _≤_, _<_}
+use lib.ListN.{length, drop, getD, replicate}
+use Rattle.algebra.specs.Grid.{Patched}
 use Rattle.definitions.specs.Field.{sixteen}
 use Rattle.definitions.specs.Tools.{below}
 
@@ -10,16 +12,53 @@ use Rattle.definitions.specs.Tools.{below}
 abbrev pub width : ℕ
 width = 160
 
+-- the columns that are worked on at a time
+abbrev pub block : ℕ
+block = 16
+
 -- the row whose entry k is f k, for k below n, and zero from n on
 unfoldable pub filled : ℕ → (ℕ → ℕ) → List ℕ
 filled n f = map f (below n) ++ drop n (replicate width 0)
 
-abbrev pub summedRow : List ℕ → List ℕ → List ℕ
-summedRow a b = filled width (λ (k : ℕ). sixteen .plus (getD a k 0) (getD b k 0))
+-- the first n entries of a list are those of f
+abbrev pub Front : ℕ → (ℕ → ℕ) → List ℕ → Type 0
+Front n f l = (k : ℕ) → k < n → getD l k 0 ≡ f k
 
-abbrev pub multipleRow : ℕ → List ℕ → List ℕ
-multipleRow c p = filled width (λ (k : ℕ). sixteen .times c (getD p k 0))
+-- a block of symbols
+abbrev pub SymbolBlock : List ℕ → Type 0
+SymbolBlock a = (k : ℕ) → k < block → getD a k 0 < sixteen .symbols
 
--- the first n multiples of a row; zeros after them
-unfoldable pub multiplesTo : ℕ → List ℕ → List (List ℕ)
-multiplesTo n p = map (λ (c : ℕ). multipleRow c p) (below n) ++ drop n (replicate (sixteen .symbols) (replicate width 0))
+-- a block from a place on lies within a row
+abbrev pub InRow : ℕ → Type 0
+InRow at = at + block ≤ width
+
+-- the block of a row from a place on
+abbrev pub BlockOf : ℕ → List ℕ → List ℕ → Type 0
+BlockOf at row a = Front block (λ (k : ℕ). getD row (at + k) 0) a
+
+-- the first n entries of a part are put into a row from a place on
+pub record PutAt (at n : ℕ) (part old new : List ℕ) : Type 0 where
+  pub size : length new ≡ length old
+  pub patched : Patched at (at + n) (λ k. getD part (k - at) 0) (λ k. getD old k 0) (λ k. getD new k 0)
+
+-- a block is put into a row from a place on
+abbrev pub PutBlock : ℕ → List ℕ → List ℕ → List ℕ → Type 0
+PutBlock at part old new = PutAt at block part old new
+
+-- a sum of blocks
+abbrev pub SummedBlock : List ℕ → List ℕ → List ℕ → Type 0
+SummedBlock a b r = Front block (λ (k : ℕ). sixteen .plus (getD a k 0) (getD b k 0)) r
+
+-- u times a block
+abbrev pub ScaledBlock : ℕ → List ℕ → List ℕ → Type 0
+ScaledBlock u a r = Front block (λ (k : ℕ). sixteen .times u (getD a k 0)) r
+
+-- the n blocks from place h on are those from the first on, each with `high` added; those below h stay
+pub record FilledTo (h n : ℕ) (high : List ℕ) (old new : List (List ℕ)) : Type 0 where
+  pub size : length new ≡ length old
+  pub below : (c : ℕ) → c < h → getD new c [] ≡ getD old c []
+  pub sums : (c : ℕ) → c < n → SummedBlock (getD old c []) high (getD new (h + c) [])
+
+-- the first n of many blocks are the multiples of a block, in order
+abbrev pub MultiplesBlock : ℕ → List ℕ → List (List ℕ) → Type 0
+MultiplesBlock n a times = (c : ℕ) → c < n → ScaledBlock c a (getD times c [])

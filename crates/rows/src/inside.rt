@@ -1,37 +1,63 @@
-// Row functions, for inner use: what they are given is within limits already.
+// Functions on a block of a row, for inner use: what they are given is within limits already.
 ghost use mathlib.Core.Path.{_≡_};
-ghost use Prim.Native.Nat.{_<_};
-ghost use Rattle.definitions.specs.Code.{Symbols};
+ghost use Prim.Native.Nat.{_*_, _≤_, _<_};
+ghost use lib.ListN.{length};
 ghost use Rattle.definitions.specs.Field.{sixteen};
 ghost use Rattle.field.specs.Table.{Products};
-ghost use Rattle.rows.specs.Row.{summedRow, multipleRow, multiplesTo};
+ghost use Rattle.rows.specs.Row.{width, InRow, SymbolBlock, BlockOf, PutBlock, SummedBlock, ScaledBlock, FilledTo, MultiplesBlock};
+use crate::BLOCK;
 use crate::WIDTH;
 use refusals::limits::SYMBOLS;
 
-pub fn summed(a: &[u8; WIDTH], b: &[u8; WIDTH]) -> [u8; WIDTH]
-    ensures { λ r. ⌜ r ≡ summedRow (now (a .entry)) (now (b .entry)) ⌝ }
+// The block of a row from a place on.
+pub fn block(row: &[u8; WIDTH], at: usize) -> [u8; BLOCK]
+    requires { ⌜ InRow at ⌝ }
+    ensures { λ r. ⌜ BlockOf at (now (row .entry)) r ⌝ }
 {
-    let mut row = [0u8; WIDTH];
-    let mut k = 0;
-    while k < WIDTH {
-        row[k] = a[k] ^ b[k];
-        k += 1;
+    let mut part = [0u8; BLOCK];
+    let mut i = 0;
+    while i < BLOCK {
+        part[i] = row[at + i];
+        i += 1;
     }
-    row
+    part
 }
 
-// u times a row, by the table.
-pub fn scaled(table: &[u8; 256], row: &[u8; WIDTH], u: u8) -> [u8; WIDTH]
-    requires { ⌜ Products (now table) ⌝ }
-    requires { ⌜ Symbols sixteen (now row) ⌝ }
-    requires { ⌜ u < sixteen .symbols ⌝ }
-    ensures { λ r. ⌜ r ≡ multipleRow u (now (row .entry)) ⌝ }
+// A block, put into a row from a place on.
+pub fn put(row: &mut [u8; WIDTH], at: usize, part: &[u8; BLOCK])
+    requires { ⌜ InRow at × (length (now row) ≡ width) ⌝ }
+    ensures { λ _. ⌜ PutBlock at (now (part .entry)) (now (row .entry)) (now (row .exit)) ⌝ }
 {
-    let mut times = [0u8; WIDTH];
-    let mut k = 0;
-    while k < WIDTH {
-        times[k] = field::inside::look(table, u, row[k]);
-        k += 1;
+    let mut i = 0;
+    while i < BLOCK {
+        row[at + i] = part[i];
+        i += 1;
+    }
+}
+
+pub fn summed(a: &[u8; BLOCK], b: &[u8; BLOCK]) -> [u8; BLOCK]
+    ensures { λ r. ⌜ SummedBlock (now (a .entry)) (now (b .entry)) r ⌝ }
+{
+    let mut sum = [0u8; BLOCK];
+    let mut i = 0;
+    while i < BLOCK {
+        sum[i] = a[i] ^ b[i];
+        i += 1;
+    }
+    sum
+}
+
+// u times a block, by the table.
+pub fn scaled(table: &[u8; 256], a: &[u8; BLOCK], u: u8) -> [u8; BLOCK]
+    requires { ⌜ Products (now table) ⌝ }
+    requires { ⌜ (u < sixteen .symbols) × SymbolBlock (now a) ⌝ }
+    ensures { λ r. ⌜ ScaledBlock u (now (a .entry)) r ⌝ }
+{
+    let mut times = [0u8; BLOCK];
+    let mut i = 0;
+    while i < BLOCK {
+        times[i] = field::inside::look(table, u, a[i]);
+        i += 1;
     }
     times
 }
@@ -47,43 +73,44 @@ fn twice(x: u8) -> u8
     (x * 2) ^ 19
 }
 
-fn doubled(row: &[u8; WIDTH]) -> [u8; WIDTH]
-    requires { ⌜ Symbols sixteen (now row) ⌝ }
-    ensures { λ r. ⌜ r ≡ multipleRow 2 (now (row .entry)) ⌝ }
+fn doubled(a: &[u8; BLOCK]) -> [u8; BLOCK]
+    requires { ⌜ SymbolBlock (now a) ⌝ }
+    ensures { λ r. ⌜ ScaledBlock 2 (now (a .entry)) r ⌝ }
 {
-    let mut times = [0u8; WIDTH];
-    let mut k = 0;
-    while k < WIDTH {
-        times[k] = twice(row[k]);
-        k += 1;
+    let mut times = [0u8; BLOCK];
+    let mut i = 0;
+    while i < BLOCK {
+        times[i] = twice(a[i]);
+        i += 1;
     }
     times
 }
 
-// The multiple c of a row, from those below it: one row more, or twice the half.
-fn next_multiple(below: &[[u8; WIDTH]; SYMBOLS], row: &[u8; WIDTH], c: usize) -> [u8; WIDTH]
-    requires { ⌜ Symbols sixteen (now row) ⌝ }
-    requires { ⌜ (0 < c) × (c < sixteen .symbols) ⌝ }
-    requires { ⌜ now below ≡ multiplesTo c (now row) ⌝ }
-    ensures { λ r. ⌜ r ≡ multipleRow c (now (row .entry)) ⌝ }
+// The multiples from h on: those below h, each with the multiple h added.
+fn fill(times: &mut [[u8; BLOCK]; SYMBOLS], high: &[u8; BLOCK], h: usize)
+    requires { ⌜ (length (now times) ≡ sixteen .symbols) × (2 * h ≤ sixteen .symbols) ⌝ }
+    ensures { λ _. ⌜ FilledTo h h (now (high .entry)) (now (times .entry)) (now (times .exit)) ⌝ }
 {
-    if c % 2 == 1 {
-        return summed(&below[c - 1], row);
-    }
-    doubled(&below[c / 2])
-}
-
-// Row c is c times the row.
-pub fn multiples(row: &[u8; WIDTH]) -> [[u8; WIDTH]; SYMBOLS]
-    requires { ⌜ Symbols sixteen (now row) ⌝ }
-    ensures { λ r. ⌜ r ≡ multiplesTo (sixteen .symbols) (now (row .entry)) ⌝ }
-{
-    let mut times = [[0u8; WIDTH]; SYMBOLS];
-    let mut c = 1;
-    while c < SYMBOLS {
-        let next = next_multiple(&times, row, c);
-        times[c] = next;
+    let mut c = 0;
+    while c < h {
+        let sum = summed(&times[c], high);
+        times[h + c] = sum;
         c += 1;
     }
+}
+
+// Block c is c times the block.
+pub fn multiples(a: &[u8; BLOCK]) -> [[u8; BLOCK]; SYMBOLS]
+    requires { ⌜ SymbolBlock (now a) ⌝ }
+    ensures { λ r. ⌜ MultiplesBlock (sixteen .symbols) (now (a .entry)) r ⌝ }
+{
+    let two = doubled(a);
+    let four = doubled(&two);
+    let eight = doubled(&four);
+    let mut times = [[0u8; BLOCK]; SYMBOLS];
+    fill(&mut times, a, 1);
+    fill(&mut times, &two, 2);
+    fill(&mut times, &four, 4);
+    fill(&mut times, &eight, 8);
     times
 }

@@ -1,81 +1,78 @@
+-- The loop puts the rows of one symbol more behind those of the symbols below it.
 use mathlib.Core.List.{flatMap}
-use mathlib.Core.Path.{_≡_, sym, _∙_, ap, subst}
+use mathlib.Core.Path.{_≡_, refl, sym, _∙_, ap, subst}
 use Prim.Native.Nat.{ℕ, _+_, _-_, _≤_}
-use lib.ListN.{length, getD}
-use lib.Seq.{sets}
-use Rattle.definitions.specs.Tools.{below}
-use Rattle.conditions.proofs.Placed.{joined-none, none-counted, joined-more, count-more}
-use Rattle.definitions.proofs.Joined.{joined-room}
-use Rattle.conditions.specs.Conditions.{pointRows}
 use native.Mathlib.Omega.{arith}
 use borrow.Author.Needs.{needs}
+use lib.ListN.{length, getD}
+use lib.Seq.{sets}
+use Rattle.conditions.proofs.Placed.{joined-none, none-counted, joined-more, count-more}
+use Rattle.conditions.specs.Masks.{maskedPoint, pointAt}
+use Rattle.definitions.proofs.Joined.{joined-room}
 use Rattle.definitions.specs.Field.{sixteen}
-use Rattle.definitions.specs.Limits.{greatestLimit}
+use Rattle.definitions.specs.Tools.{below}
 use Rattle.conditions.proofs.inside.column_rows.Statement.{statement}
 use Rattle.conditions.proofs.inside.column_rows.Tie as tie
 
 abbrev Inv-loop : tie.InvT-loop
-Inv-loop rows₀ table at a column v d count next₀ symbol₀ rows next symbol =
-    (symbol ≤ sixteen .symbols) × (next ≡ at + length (flatMap (λ (b : ℕ). pointRows v d count a b (getD column b 0)) (below symbol))) × (rows ≡ sets rows₀ at (flatMap (λ (b : ℕ). pointRows v d count a b (getD column b 0)) (below symbol)))
+Inv-loop rows₀ at table px es column n count next₀ b₀ rows next b =
+    (b ≤ sixteen .symbols) × (length rows ≡ length rows₀) × (next ≡ at + length (flatMap (pointAt px n count es column) (below b)))
+    × (rows ≡ sets rows₀ at (flatMap (pointAt px n count es column) (below b)))
 
 abbrev μ-loop : tie.MeasureT-loop
-μ-loop rows₀ table at a column v d count next₀ symbol₀ rows next symbol = sixteen .symbols - symbol
+μ-loop rows₀ at table px es column n count next₀ b₀ rows next b = sixteen .symbols - b
 
 loop-holds : tie.Need-loop-holds Inv-loop μ-loop
 loop-holds c =
     let a = c .args in
-    (omega arith, none-counted (λ (b : ℕ). pointRows (a .v) (a .d) (a .count) (a .a) b (getD (a .column .now) b 0)) (a .rows .now) (a .at), joined-none (λ (b : ℕ). pointRows (a .v) (a .d) (a .count) (a .a) b (getD (a .column .now) b 0)) (a .rows .now) (a .at))
+    let f = pointAt (a .px .now) (a .n) (a .count) (a .es .now) (a .column .now) in
+    (omega arith, refl, none-counted f (a .rows .now) (a .at), joined-none f (a .rows .now) (a .at))
 
-wide-requires : tie.Need-wide-requires Inv-loop μ-loop
-wide-requires c κs = search needs
-
-element-copy-out-wide : tie.Need-element-copy-out-wide Inv-loop μ-loop
-element-copy-out-wide c = omega arith
-
-wide-requires-2 : tie.Need-wide-requires-2 Inv-loop μ-loop
-wide-requires-2 c κs = search needs
+-- the multiplicity that is read is the symbol's
+multiplicity : (c : tie.After-wide Inv-loop μ-loop)
+    → (let l = c .before .before in getD (l .before .args .column .now) (c .wide .result) 0 ≡ getD (l .before .args .column .now) (l .loop .b) 0)
+multiplicity c = ap (λ (k : ℕ). getD (c .before .before .before .args .column .now) k 0) (c .wide .ensures .0)
 
 point-rows-requires : tie.Need-point-rows-requires Inv-loop μ-loop
 point-rows-requires c κs =
-    let l = c .before .before .before .before .before in
+    let w = c .before .before in
+    let l = w .before .before in
     let s = l .before in
     let a = s .args in
-    let m : c .before .wide2 .result ≡ getD (a .column .now) (l .loop .symbol) 0 =
-    c .before .wide2 .ensures .0 ∙ ap (λ (k : ℕ). getD (a .column .now) k 0) (c .before .before .before .wide .ensures .0) in
-    let room = joined-room (λ (b : ℕ). pointRows (a .v) (a .d) (a .count) (a .a) b (getD (a .column .now) b 0)) (sixteen .symbols) (l .loop .symbol) (omega arith) in (
+    let fits = joined-room (pointAt (a .px .now) (a .n) (a .count) (a .es .now) (a .column .now)) (sixteen .symbols) (l .loop .b) (omega arith) in
+    let room : l .loop .next + length (pointAt (a .px .now) (a .n) (a .count) (a .es .now) (a .column .now) (l .loop .b)) ≤ length (l .loop .rows) = omega arith in (
       s .pre .0,
       (
-        (omega arith, omega arith, omega arith, omega arith, omega arith),
-        subst (λ (k : ℕ). l .loop .next + length (pointRows (a .v) (a .d) (a .count) (a .a) (l .loop .symbol) k) ≤ greatestLimit) (sym m) (omega arith),
+        s .pre .1 .0,
+        (
+          (omega arith, omega arith, omega arith),
+          subst (λ (m : ℕ). l .loop .next + length (maskedPoint (a .px .now) (a .n) (a .count) (a .es .now) (l .loop .b) m) ≤ length (l .loop .rows)) (sym (multiplicity w)) room,
+        ),
       ),
     )
 
-add-symbol : tie.Need-add-symbol Inv-loop μ-loop
-add-symbol c = omega arith
-
-loop-less : tie.Need-loop-less Inv-loop μ-loop
-loop-less c = omega arith
-
 loop-again : tie.Need-loop-again Inv-loop μ-loop
 loop-again c =
-    let l = c .before .before .before .before .before .before in
-    let s = l .before in
-    let a = s .args in
-    let m : c .before .before .wide2 .result ≡ getD (a .column .now) (l .loop .symbol) 0 =
-    c .before .before .wide2 .ensures .0 ∙ ap (λ (k : ℕ). getD (a .column .now) k 0) (c .before .before .before .before .wide .ensures .0) in (
+    let p = c .before in
+    let w = p .before .before .before in
+    let l = w .before .before in
+    let a = l .before .args in
+    let f = pointAt (a .px .now) (a .n) (a .count) (a .es .now) (a .column .now) in (
       omega arith,
-      c .point-rows .ensures .0
-          ∙ ap (λ (k : ℕ). l .loop .next + length (pointRows (a .v) (a .d) (a .count) (a .a) (l .loop .symbol) k)) m
-          ∙ count-more (λ (b : ℕ). pointRows (a .v) (a .d) (a .count) (a .a) b (getD (a .column .now) b 0)) (a .rows .now) (a .at) (l .loop .symbol) (l .loop .next) (l .loop .inv .1),
-      joined-more (λ (b : ℕ). pointRows (a .v) (a .d) (a .count) (a .a) b (getD (a .column .now) b 0)) (a .rows .now) (a .at) (l .loop .rows) (c .point-rows .last .0) (l .loop .symbol) (l .loop .next) (l .loop .inv .2) (l .loop .inv .1)
-          (c .point-rows .ensures .1 ∙ ap (λ (k : ℕ). sets (l .loop .rows) (l .loop .next) (pointRows (a .v) (a .d) (a .count) (a .a) (l .loop .symbol) k)) m),
+      search needs,
+      p .point-rows .ensures .0
+          ∙ ap (λ (m : ℕ). l .loop .next + length (maskedPoint (a .px .now) (a .n) (a .count) (a .es .now) (l .loop .b) m)) (multiplicity w)
+          ∙ count-more f (a .rows .now) (a .at) (l .loop .b) (l .loop .next) (l .loop .inv .2),
+      joined-more f (a .rows .now) (a .at) (l .loop .rows) (p .point-rows .last .0) (l .loop .b) (l .loop .next) (l .loop .inv .3) (l .loop .inv .2)
+          (p .point-rows .ensures .1
+          ∙ ap (λ (m : ℕ). sets (l .loop .rows) (l .loop .next) (maskedPoint (a .px .now) (a .n) (a .count) (a .es .now) (l .loop .b) m)) (multiplicity w)),
     )
 
 returns : tie.Need-returns Inv-loop μ-loop
 returns c =
     let l = c .before in
-    let e : l .loop .symbol ≡ sixteen .symbols = omega arith in
-    (rw e at (l .loop .inv .1), rw e at (l .loop .inv .2))
+    let e : l .loop .b ≡ sixteen .symbols = omega arith in
+    (rw e at (l .loop .inv .2), rw e at (l .loop .inv .3))
 
 pub column-rows-spec : {M : Type 1} → statement M
 column-rows-spec =
@@ -84,11 +81,11 @@ column-rows-spec =
     Inv-loop
     μ-loop
     loop-holds
-    wide-requires
-    element-copy-out-wide
-    wide-requires-2
+    (λ c κs. search needs)
+    (λ c. search needs)
     point-rows-requires
-    add-symbol
-    loop-less
+    (λ c. search needs)
+    (λ c. search needs)
     loop-again
+    (λ c. search needs)
     returns)

@@ -6,7 +6,7 @@ use Prim.Native.Nat.{ℕ, _-_, _≤_}
 use native.Mathlib.Omega.{arith}
 use borrow.Author.Needs.{needs}
 use Rattle.conditions.proofs.Walk.{walked-le, walk-begins, walk-stays, walk-turns}
-use Rattle.conditions.specs.Conditions.{walked}
+use Rattle.conditions.specs.Walk.{walked}
 use Rattle.rows.proofs.Filled.{filled-none, filled-more}
 use Rattle.rows.specs.Row.{filled}
 use Rattle.conditions.proofs.inside.exponents.Statement.{statement}

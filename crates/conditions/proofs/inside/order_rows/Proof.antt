@@ -1,80 +1,44 @@
-use mathlib.Core.Path.{_≡_, refl, sym, _∙_, ap, subst}
-use Prim.Native.Nat.{ℕ, _-_, _≤_, _<_}
-use native.Mathlib.Numerals.{add-one}
-use lib.Seq.{sets}
-use Rattle.definitions.specs.Code.{Symbols}
-use Rattle.definitions.specs.Field.{sixteen}
-use Rattle.conditions.proofs.Derivatives.{lead, lower, lead-symbol, lower-symbols, next-order, derivatives-symbols}
-use Rattle.conditions.proofs.Placed.{rows-none, rows-more}
-use Rattle.conditions.specs.Conditions.{derivativesRow, productRow, orderRows}
+-- The loop puts one row more behind those of the lower orders.
+use mathlib.Core.Path.{_≡_, refl, _∙_, ap}
+use Prim.Native.Nat.{ℕ, _+_, _-_, _≤_}
 use native.Mathlib.Omega.{arith}
+use borrow.Author.Needs.{needs}
+use lib.ListN.{length, set, length-set}
+use lib.Seq.{sets}
+use Rattle.conditions.proofs.Placed.{rows-none, rows-more}
+use Rattle.conditions.specs.Masks.{askedAt, keptRow, keptOrder}
 use Rattle.conditions.proofs.inside.order_rows.Statement.{statement}
 use Rattle.conditions.proofs.inside.order_rows.Tie as tie
 
 abbrev Inv-loop : tie.InvT-loop
-Inv-loop rows₀ table at hx b m v n count hy₀ first₀ t₀ rows hy first t = (t ≤ m) × (hy ≡ lower n b t) × (first ≡ lead t) × (rows ≡ sets rows₀ at (orderRows v n count hx b t))
+Inv-loop rows₀ at row ys b m next₀ t₀ rows next t =
+    (t ≤ m) × (length rows ≡ length rows₀) × (next ≡ at + t) × (rows ≡ sets rows₀ at (keptOrder row ys b t))
 
 abbrev μ-loop : tie.MeasureT-loop
-μ-loop rows₀ table at hx b m v n count hy₀ first₀ t₀ rows hy first t = m - t
+μ-loop rows₀ at row ys b m next₀ t₀ rows next t = m - t
 
 loop-holds : tie.Need-loop-holds Inv-loop μ-loop
 loop-holds c =
     let a = c .args in
-    (omega arith, refl, refl, rows-none (λ (t : ℕ). productRow (a .v) (a .count) (a .hx .now) (derivativesRow (a .n) (a .b) t)) (a .rows .now) (a .at))
-
-derivatives-requires : tie.Need-derivatives-requires Inv-loop μ-loop
-derivatives-requires c κs =
-    let l = c .before .before in
-    let s = l .before in
-    let a = s .args in (
-      s .pre .0,
-      (
-        subst (Symbols sixteen) (sym (l .loop .inv .1)) (lower-symbols (a .b) (omega arith) (a .n) (l .loop .t)),
-        (omega arith, subst (λ (x : ℕ). x < sixteen .symbols) (sym (l .loop .inv .2)) (lead-symbol (l .loop .t)), omega arith),
-      ),
-    )
-
-condition-requires : tie.Need-condition-requires Inv-loop μ-loop
-condition-requires c κs =
-    let l = c .before .before .before .before in
-    let s = l .before in
-    let a = s .args in
-    let e = (next-order (a .b) (omega arith) (a .n) (l .loop .t) (l .loop .first) (l .loop .hy) (c .before .derivatives .result) (omega arith) (l .loop .inv .2) (l .loop .inv .1) (c .before .derivatives .ensures)) in
-    (s .pre .0, (s .pre .1 .0, (subst (Symbols sixteen) (sym e) (derivatives-symbols (a .b) (omega arith) (a .n) (l .loop .t)), (omega arith, omega arith))))
-
-add-row : tie.Need-add-row Inv-loop μ-loop
-add-row c = omega arith
-
-mul-row : tie.Need-mul-row Inv-loop μ-loop
-mul-row c = omega arith
-
-element-set-from-row : tie.Need-element-set-from-row Inv-loop μ-loop
-element-set-from-row c = omega arith
-
-add-t : tie.Need-add-t Inv-loop μ-loop
-add-t c = omega arith
-
-loop-less : tie.Need-loop-less Inv-loop μ-loop
-loop-less c = omega arith
+    (omega arith, refl, omega arith, rows-none (λ (t : ℕ). keptRow (a .row .now) (a .ys .now) (askedAt (a .b) t) t) (a .rows .now) (a .at))
 
 loop-again : tie.Need-loop-again Inv-loop μ-loop
 loop-again c =
-    let l = c .before .before .before .before .before in
-    let s = l .before in
-    let a = s .args in
-    let e = (next-order (a .b) (omega arith) (a .n) (l .loop .t) (l .loop .first) (l .loop .hy) (c .before .before .derivatives .result) (omega arith) (l .loop .inv .2) (l .loop .inv .1) (c .before .before .derivatives .ensures)) in (
+    let l = c .before .before .before in
+    let a = l .before .args in (
       omega arith,
-      e ∙ ap (lower (a .n) (a .b)) (sym (add-one (l .loop .t))),
-      ap lead (sym (add-one (l .loop .t))),
-      rows-more (λ (t : ℕ). productRow (a .v) (a .count) (a .hx .now) (derivativesRow (a .n) (a .b) t)) (a .rows .now) (a .at) (l .loop .rows) (l .loop .t) (c .condition .result) (l .loop .inv .3)
-          (c .condition .ensures ∙ ap (productRow (a .v) (a .count) (a .hx .now)) e),
+      length-set (l .loop .rows) (l .loop .next) (c .kept .result) ∙ l .loop .inv .1,
+      omega arith,
+      ap (λ (n : ℕ). set (l .loop .rows) n (c .kept .result)) (l .loop .inv .2)
+          ∙ rows-more (λ (t : ℕ). keptRow (a .row .now) (a .ys .now) (askedAt (a .b) t) t) (a .rows .now) (a .at) (l .loop .rows) (l .loop .t) (c .kept .result) (l .loop .inv .3)
+          (c .kept .ensures ∙ ap (λ (asked : ℕ). keptRow (a .row .now) (a .ys .now) asked (l .loop .t)) (c .before .asked-at .ensures)),
     )
 
 returns : tie.Need-returns Inv-loop μ-loop
 returns c =
     let l = c .before in
     let e : l .loop .t ≡ l .before .args .m = omega arith in
-    rw e at (l .loop .inv .3)
+    (omega arith, rw e at (l .loop .inv .3))
 
 pub order-rows-spec : {M : Type 1} → statement M
 order-rows-spec =
@@ -83,12 +47,13 @@ order-rows-spec =
     Inv-loop
     μ-loop
     loop-holds
-    derivatives-requires
-    condition-requires
-    add-row
-    mul-row
-    element-set-from-row
-    add-t
-    loop-less
+    (λ c κs. search needs)
+    (λ c κs. search needs)
+    (λ c. search needs)
+    (λ c. search needs)
+    (λ c. search needs)
+    (λ c. search needs)
+    (λ c. search needs)
     loop-again
+    (λ c. search needs)
     returns)

@@ -1,140 +1,74 @@
-use mathlib.Core.List.{List, flatMap}
-use mathlib.Core.Path.{_≡_, refl, sym, _∙_, ap, subst}
-use Prim.Native.Nat.{ℕ, _+_, _-_, _/_, _≤_, _<_}
-use native.Mathlib.Nat.{div-le-self}
-use native.Mathlib.Numerals.{add-one}
+-- The values at the point, and the rows of its orders; a point without multiplicity has none.
+use mathlib.Core.List.{List}
+use mathlib.Core.Path.{_≡_, sym, _∙_, ap, subst}
+use Prim.Native.Nat.{ℕ, _+_, _≤_}
+use native.Mathlib.Omega.{arith}
+use borrow.Author.Needs.{needs}
 use lib.ListN.{length}
 use lib.Seq.{sets}
+use Rattle.conditions.proofs.Masks.{orders-none, powers-symbols, base-symbol}
+use Rattle.conditions.specs.Masks.{baseAt, powersRow, valuesRow, keptOrders}
 use Rattle.definitions.specs.Code.{Symbols}
 use Rattle.definitions.specs.Field.{sixteen}
-use Rattle.definitions.specs.Tools.{below}
-use Rattle.conditions.proofs.Counts.{orders, length-orders}
-use Rattle.conditions.proofs.Derivatives.{lead, lower, lead-symbol, lower-symbols, next-order, derivatives-symbols}
-use Rattle.conditions.proofs.Placed.{joined-none, none-counted, joined-more, count-more}
-use Rattle.definitions.proofs.Joined.{joined-room}
-use Rattle.conditions.specs.Conditions.{orderRows}
-use native.Mathlib.Omega.{arith}
-use Rattle.definitions.specs.Limits.{greatestLimit}
 use Rattle.conditions.proofs.inside.point_rows.Statement.{statement}
 use Rattle.conditions.proofs.inside.point_rows.Tie as tie
 
-abbrev Inv-loop : tie.InvT-loop
-Inv-loop rows₀ table at a b m v d count next₀ hx₀ first₀ s₀ rows next hx first s =
-    (s ≤ m) × (hx ≡ lower (d + 1) a s) × (first ≡ lead s) × (next ≡ at + length (flatMap (orders v d count a b m) (below s)))
-    × (rows ≡ sets rows₀ at (flatMap (orders v d count a b m) (below s)))
-
-abbrev μ-loop : tie.MeasureT-loop
-μ-loop rows₀ table at a b m v d count next₀ hx₀ first₀ s₀ rows next hx first s = m - s
-
-loop-holds : tie.Need-loop-holds Inv-loop μ-loop
-loop-holds c =
-    let a = c .args in
-    (omega arith, refl, refl, none-counted (orders (a .v) (a .d) (a .count) (a .a) (a .b) (a .m)) (a .rows .now) (a .at), joined-none (orders (a .v) (a .d) (a .count) (a .a) (a .b) (a .m)) (a .rows .now) (a .at))
-
-add-derivatives : tie.Need-add-derivatives Inv-loop μ-loop
-add-derivatives c = omega arith
-
-derivatives-requires : tie.Need-derivatives-requires Inv-loop μ-loop
-derivatives-requires c κs =
-    let l = c .before .before in
-    let s = l .before in
-    let a = s .args in (
-      s .pre .0,
-      (
-        subst (Symbols sixteen) (sym (l .loop .inv .1)) (lower-symbols (a .a) (omega arith) (a .d + 1) (l .loop .s)),
-        (omega arith, subst (λ (x : ℕ). x < sixteen .symbols) (sym (l .loop .inv .2)) (lead-symbol (l .loop .s)), omega arith),
-      ),
-    )
-
-sub-order-rows : tie.Need-sub-order-rows Inv-loop μ-loop
-sub-order-rows c = omega arith
-
-div-order-rows : tie.Need-div-order-rows Inv-loop μ-loop
-div-order-rows c = omega arith
-
-add-order-rows : tie.Need-add-order-rows Inv-loop μ-loop
-add-order-rows c =
-    let l = c .before .before .before .before .before in
-    let a = l .before .args in
-    let room = joined-room (orders (a .v) (a .d) (a .count) (a .a) (a .b) (a .m)) (a .m) (l .loop .s) (omega arith) in
-    let size = length-orders (a .v) (a .d) (a .count) (a .a) (a .b) (a .m) (l .loop .s) in
-    let small = div-le-self (a .d) (a .v) in
-    omega arith
-
-order-rows-requires : tie.Need-order-rows-requires Inv-loop μ-loop
-order-rows-requires c κs =
-    let l = c .before .before .before .before .before in
-    let s = l .before in
-    let a = s .args in
-    let e = (next-order (a .a) (omega arith) (a .d + 1) (l .loop .s) (l .loop .first) (l .loop .hx) (c .before .before .derivatives .result) (omega arith) (l .loop .inv .2) (l .loop .inv .1) (c .before .before .derivatives .ensures)) in
-    let room = joined-room (orders (a .v) (a .d) (a .count) (a .a) (a .b) (a .m)) (a .m) (l .loop .s) (omega arith) in
-    let size = length-orders (a .v) (a .d) (a .count) (a .a) (a .b) (a .m) (l .loop .s) in
-    let small = div-le-self (a .d) (a .v) in
-    let fits : l .loop .next + (a .m - l .loop .s) ≤ greatestLimit = omega arith in (
-      s .pre .0,
-      (
-        subst (Symbols sixteen) (sym e) (derivatives-symbols (a .a) (omega arith) (a .d + 1) (l .loop .s)),
-        (omega arith, omega arith, omega arith, omega arith, fits),
-      ),
-    )
-
-sub-next : tie.Need-sub-next Inv-loop μ-loop
-sub-next c = omega arith
-
-add-next : tie.Need-add-next Inv-loop μ-loop
-add-next c =
-    let l = c .before .before .before .before .before .before in
-    let a = l .before .args in
-    let room = joined-room (orders (a .v) (a .d) (a .count) (a .a) (a .b) (a .m)) (a .m) (l .loop .s) (omega arith) in
-    let size = length-orders (a .v) (a .d) (a .count) (a .a) (a .b) (a .m) (l .loop .s) in
-    let small = div-le-self (a .d) (a .v) in
-    omega arith
-
-add-s : tie.Need-add-s Inv-loop μ-loop
-add-s c = omega arith
-
-loop-less : tie.Need-loop-less Inv-loop μ-loop
-loop-less c = omega arith
-
-loop-again : tie.Need-loop-again Inv-loop μ-loop
-loop-again c =
-    let l = c .before .before .before .before .before .before in
-    let s = l .before in
-    let a = s .args in
-    let e = (next-order (a .a) (omega arith) (a .d + 1) (l .loop .s) (l .loop .first) (l .loop .hx) (c .before .before .before .derivatives .result) (omega arith) (l .loop .inv .2) (l .loop .inv .1) (c .before .before .before .derivatives .ensures)) in
-    let size = length-orders (a .v) (a .d) (a .count) (a .a) (a .b) (a .m) (l .loop .s) in
-    let more = count-more (orders (a .v) (a .d) (a .count) (a .a) (a .b) (a .m)) (a .rows .now) (a .at) (l .loop .s) (l .loop .next) (l .loop .inv .3) in (
-      omega arith,
-      e ∙ ap (lower (a .d + 1) (a .a)) (sym (add-one (l .loop .s))),
-      ap lead (sym (add-one (l .loop .s))),
-      omega arith,
-      joined-more (orders (a .v) (a .d) (a .count) (a .a) (a .b) (a .m)) (a .rows .now) (a .at) (l .loop .rows) (c .order-rows .last .0) (l .loop .s) (l .loop .next) (l .loop .inv .4) (l .loop .inv .3)
-          (c .order-rows .ensures
-          ∙ ap (λ (h : List ℕ). sets (l .loop .rows) (l .loop .next) (orderRows (a .v) (a .d / a .v + 1) (a .count) h (a .b) (a .m - l .loop .s))) e),
-    )
-
-returns : tie.Need-returns Inv-loop μ-loop
+returns : tie.Need-returns
 returns c =
-    let l = c .before in
-    let e : l .loop .s ≡ l .before .args .m = omega arith in
-    (rw e at (l .loop .inv .3), rw e at (l .loop .inv .4))
+    let a = c .before .args in
+    let none = orders-none (valuesRow (a .count) (a .px .now) (powersRow (a .n) (baseAt (a .b))) (a .es .now)) (a .es .now) (a .b) (a .m) (c .if1 .taken) in
+    (omega (arith, ap length none), ap (sets (a .rows .now) (a .at)) (sym none))
+
+powers-requires : tie.Need-powers-requires
+powers-requires c κs =
+    let s = c .before .before in
+    let h = base-symbol (s .args .b) (omega arith) in
+    let e = c .base-at .ensures in
+    (s .pre .0, (omega arith, omega arith))
+
+-- the powers of y
+of-y : (c : tie.After-powers) → (let a = c .before .before .before .args in c .powers .result ≡ powersRow (a .n) (baseAt (a .b)))
+of-y c = c .powers .ensures ∙ ap (powersRow (c .before .before .before .args .n)) (c .before .base-at .ensures)
+
+values-requires : tie.Need-values-requires
+values-requires c κs =
+    let p = c .before in
+    let s = p .before .before .before in
+    let a = s .args in
+    (s .pre .0, ((s .pre .1 .0 .0, subst (Symbols sixteen) (sym (of-y p)) (powers-symbols (a .n) (baseAt (a .b)) (base-symbol (a .b) (omega arith)))), (s .pre .1 .0 .1, omega arith)))
+
+-- the values at the point
+at-point : (c : tie.After-values)
+    → (let a = c .before .before .before .before .before .args in c .values .result ≡ valuesRow (a .count) (a .px .now) (powersRow (a .n) (baseAt (a .b))) (a .es .now))
+at-point c =
+    let p = c .before .before in
+    let a = p .before .before .before .args in
+    c .values .ensures ∙ ap (λ (py : List ℕ). valuesRow (a .count) (a .px .now) py (a .es .now)) (of-y p)
+
+orders-rows-requires : tie.Need-orders-rows-requires
+orders-rows-requires c κs =
+    let v = c .before .before in
+    let s = v .before .before .before .before .before in
+    let a = s .args in
+    subst (λ (row : List ℕ). a .at + length (keptOrders row (a .es .now) (a .b) (a .m)) ≤ length (a .rows .now)) (sym (at-point v)) (s .pre .1 .1 .1)
+
+returns-2 : tie.Need-returns-2
+returns-2 c =
+    let o = c .before in
+    let v = o .before .before .before in
+    let a = v .before .before .before .before .before .args in (
+      o .orders-rows .ensures .0 ∙ ap (λ (row : List ℕ). a .at + length (keptOrders row (a .es .now) (a .b) (a .m))) (at-point v),
+      o .orders-rows .ensures .1 ∙ ap (λ (row : List ℕ). sets (a .rows .now) (a .at) (keptOrders row (a .es .now) (a .b) (a .m))) (at-point v),
+    )
 
 pub point-rows-spec : {M : Type 1} → statement M
 point-rows-spec =
     tie.close
     (tie.spec
-    Inv-loop
-    μ-loop
-    loop-holds
-    add-derivatives
-    derivatives-requires
-    sub-order-rows
-    div-order-rows
-    add-order-rows
-    order-rows-requires
-    sub-next
-    add-next
-    add-s
-    loop-less
-    loop-again
-    returns)
+    returns
+    (λ c κs. search needs)
+    powers-requires
+    values-requires
+    orders-rows-requires
+    (λ c. search needs)
+    returns-2)

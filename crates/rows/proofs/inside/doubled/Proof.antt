@@ -1,52 +1,44 @@
-use mathlib.Core.Path.{_≡_}
-use Prim.Native.Nat.{ℕ, _-_, _≤_}
-use lib.ListN.{getD}
-use Rattle.definitions.specs.Field.{sixteen}
-use Rattle.rows.proofs.Filled.{filled-none, filled-more}
-use Rattle.rows.specs.Row.{filled, width}
+-- Each pass doubles one entry more.
+use mathlib.Core.Path.{_≡_, refl, _∙_}
+use Prim.Native.Nat.{ℕ, _-_, _≤_, _<_}
 use native.Mathlib.Omega.{arith}
+use lib.ListN.{length, getD, replicate, length-set}
+use Rattle.definitions.specs.Field.{sixteen}
+use Rattle.rows.proofs.Blocks.{front-none, front-more}
+use Rattle.rows.specs.Row.{block, Front}
+use borrow.Author.Needs.{needs}
 use Rattle.rows.proofs.inside.doubled.Statement.{statement}
 use Rattle.rows.proofs.inside.doubled.Tie as tie
 
 abbrev Inv-loop : tie.InvT-loop
-Inv-loop row times₀ k₀ times k = (k ≤ width) × (times ≡ filled k (λ (e : ℕ). sixteen .times 2 (getD row e 0)))
+Inv-loop a times₀ i₀ times i = (i ≤ block) × (length times ≡ block) × Front i (λ (k : ℕ). sixteen .times 2 (getD a k 0)) times
 
 abbrev μ-loop : tie.MeasureT-loop
-μ-loop row times₀ k₀ times k = width - k
+μ-loop a times₀ i₀ times i = block - i
 
 loop-holds : tie.Need-loop-holds Inv-loop μ-loop
-loop-holds c =
-    let a = c .args in
-    (omega arith, filled-none (λ e. sixteen .times 2 (getD (a .row .now) e 0)))
-
-element-copy-out-twice : tie.Need-element-copy-out-twice Inv-loop μ-loop
-element-copy-out-twice c = omega arith
+loop-holds c = (omega arith, refl, front-none (λ k. sixteen .times 2 (getD (c .args .a .now) k 0)) (replicate block 0))
 
 twice-requires : tie.Need-twice-requires Inv-loop μ-loop
 twice-requires c κs =
-    let s = c .before .before .before in
-    s .pre (c .before .before .loop .k)
-
-array-write-times : tie.Need-array-write-times Inv-loop μ-loop
-array-write-times c = omega arith
-
-add-k : tie.Need-add-k Inv-loop μ-loop
-add-k c = omega arith
-
-loop-less : tie.Need-loop-less Inv-loop μ-loop
-loop-less c = omega arith
+    let l = c .before .before in
+    l .before .pre (l .loop .i) (omega arith)
 
 loop-again : tie.Need-loop-again Inv-loop μ-loop
 loop-again c =
     let l = c .before .before .before in
     let a = l .before .args in
-    (omega arith, filled-more (λ e. sixteen .times 2 (getD (a .row .now) e 0)) (l .loop .times) (l .loop .k) (c .twice .result) (omega arith) (l .loop .inv .1) (c .twice .ensures))
+    let h : l .loop .i < length (l .loop .times) = omega arith in (
+      omega arith,
+      length-set (l .loop .times) (l .loop .i) _ ∙ l .loop .inv .1,
+      front-more (l .loop .i) _ (λ k. sixteen .times 2 (getD (a .a .now) k 0)) (l .loop .times) h (l .loop .inv .2) (c .twice .ensures),
+    )
 
 returns : tie.Need-returns Inv-loop μ-loop
 returns c =
     let l = c .before in
-    let e : l .loop .k ≡ width = omega arith in
-    rw e at (l .loop .inv .1)
+    let e : l .loop .i ≡ block = omega arith in
+    rw e at (l .loop .inv .2)
 
 pub doubled-spec : {M : Type 1} → statement M
 doubled-spec =
@@ -55,10 +47,10 @@ doubled-spec =
     Inv-loop
     μ-loop
     loop-holds
-    element-copy-out-twice
+    (λ c. search needs)
     twice-requires
-    array-write-times
-    add-k
-    loop-less
+    (λ c. search needs)
+    (λ c. search needs)
+    (λ c. search needs)
     loop-again
     returns)

@@ -1,60 +1,82 @@
-use mathlib.Core.Path.{_≡_}
-use Prim.Native.Nat.{_-_, _≤_}
-use Rattle.rows.proofs.Filled.{multiples-first, multiples-more}
-use Rattle.rows.specs.Row.{multiplesTo}
+-- The multiples 2, 4 and 8 come by doubling, and with each power of two the multiples that are there become twice as many.
 use native.Mathlib.Omega.{arith}
-use Rattle.definitions.specs.Field.{sixteen}
+use Rattle.rows.proofs.Blocks.{scaled-symbols, scaled-once, scaled-twice, joins, multiples-first, multiples-filled}
+use Rattle.rows.specs.Row.{ScaledBlock, MultiplesBlock}
+use borrow.Author.Needs.{needs}
 use Rattle.rows.proofs.inside.multiples.Statement.{statement}
 use Rattle.rows.proofs.inside.multiples.Tie as tie
 
-abbrev Inv-loop : tie.InvT-loop
-Inv-loop row times₀ c₀ times c = (1 ≤ c) × (c ≤ sixteen .symbols) × (times ≡ multiplesTo c row)
+doubled-requires-2 : tie.Need-doubled-requires-2
+doubled-requires-2 c κs =
+    let d = c .before in
+    scaled-symbols 2 (d .before .args .a .now) (d .doubled .result) (omega arith) (d .before .pre) (d .doubled .ensures)
 
-abbrev μ-loop : tie.MeasureT-loop
-μ-loop row times₀ c₀ times c = sixteen .symbols - c
+-- the multiple 4
+four : (c : tie.After-doubled2) → ScaledBlock 4 (c .before .before .before .args .a .now) (c .doubled2 .result)
+four c =
+    let d = c .before .before in
+    let s = d .before in
+    scaled-twice 2 (s .args .a .now) (d .doubled .result) (c .doubled2 .result) (omega arith) (s .pre) (d .doubled .ensures) (c .doubled2 .ensures)
 
-loop-holds : tie.Need-loop-holds Inv-loop μ-loop
-loop-holds c = (omega arith, omega arith, multiples-first (c .args .row .now) (c .pre))
+doubled-requires-3 : tie.Need-doubled-requires-3
+doubled-requires-3 c κs =
+    let d = c .before in
+    let s = d .before .before .before in
+    scaled-symbols 4 (s .args .a .now) (d .doubled2 .result) (omega arith) (s .pre) (four d)
 
-next-multiple-requires : tie.Need-next-multiple-requires Inv-loop μ-loop
-next-multiple-requires c κs =
-    let l = c .before .before in
-    (l .before .pre, ((omega arith, omega arith), l .loop .inv .2))
+abbrev entry : tie.After-doubled3 → tie.Start
+entry c = c .before .before .before .before .before
 
-mul-times : tie.Need-mul-times Inv-loop μ-loop
-mul-times c = omega arith
+-- the multiple 8
+eight : (c : tie.After-doubled3) → ScaledBlock 8 (entry c .args .a .now) (c .doubled3 .result)
+eight c =
+    let d = c .before .before in
+    let s = entry c in
+    scaled-twice 4 (s .args .a .now) (d .doubled2 .result) (c .doubled3 .result) (omega arith) (s .pre) (four d) (c .doubled3 .ensures)
 
-array-set-from-times : tie.Need-array-set-from-times Inv-loop μ-loop
-array-set-from-times c = omega arith
+-- the multiples below 2
+below-two : (c : tie.After-fill) → MultiplesBlock 2 (entry (c .before .before) .args .a .now) (c .fill .last .0)
+below-two c =
+    let s = entry (c .before .before) in
+    let a = s .args .a .now in
+    multiples-filled 1 a a _ (c .fill .last .0) (joins 0 (omega arith)) (s .pre) (multiples-first a (s .pre)) (scaled-once a (s .pre)) (c .fill .ensures)
 
-add-c : tie.Need-add-c Inv-loop μ-loop
-add-c c = omega arith
+-- those below 4
+below-four : (c : tie.After-fill2) → MultiplesBlock 4 (entry (c .before .before .before .before .before) .args .a .now) (c .fill2 .last .0)
+below-four c =
+    let f = c .before .before .before in
+    let two = f .before .before .before .before .before .before in
+    let s = two .before in
+    multiples-filled 2 (s .args .a .now) (two .doubled .result) (f .fill .last .0) (c .fill2 .last .0) (joins 1 (omega arith)) (s .pre) (below-two f) (two .doubled .ensures)
+    (c .fill2 .ensures)
 
-loop-less : tie.Need-loop-less Inv-loop μ-loop
-loop-less c = omega arith
+abbrev made : tie.After-fill3 → tie.After-doubled3
+made c = c .before .before .before .before .before .before .before .before
 
-loop-again : tie.Need-loop-again Inv-loop μ-loop
-loop-again c =
-    let l = c .before .before .before in
-    (omega arith, omega arith, multiples-more (l .before .args .row .now) (l .before .pre) (l .loop .c) (l .loop .times) (c .next-multiple .result) (omega arith) (l .loop .inv .2) (c .next-multiple .ensures))
+-- those below 8
+below-eight : (c : tie.After-fill3) → MultiplesBlock 8 (entry (made c) .args .a .now) (c .fill3 .last .0)
+below-eight c =
+    let f = c .before .before .before in
+    let d = made c .before .before in
+    let s = entry (made c) in
+    multiples-filled 4 (s .args .a .now) (d .doubled2 .result) (f .fill2 .last .0) (c .fill3 .last .0) (joins 2 (omega arith)) (s .pre) (below-four f) (four d) (c .fill3 .ensures)
 
-returns : tie.Need-returns Inv-loop μ-loop
+returns : tie.Need-returns
 returns c =
-    let l = c .before in
-    let e : l .loop .c ≡ sixteen .symbols = omega arith in
-    rw e at (l .loop .inv .2)
+    let f = c .before .before .before in
+    let d = made f in
+    let s = entry d in
+    multiples-filled 8 (s .args .a .now) (d .doubled3 .result) (f .fill3 .last .0) (c .fill4 .last .0) (joins 3 (omega arith)) (s .pre) (below-eight f) (eight d) (c .fill4 .ensures)
 
 pub multiples-spec : {M : Type 1} → statement M
 multiples-spec =
     tie.close
     (tie.spec
-    Inv-loop
-    μ-loop
-    loop-holds
-    next-multiple-requires
-    mul-times
-    array-set-from-times
-    add-c
-    loop-less
-    loop-again
+    (λ c κs. search needs)
+    doubled-requires-2
+    doubled-requires-3
+    (λ c κs. search needs)
+    (λ c κs. search needs)
+    (λ c κs. search needs)
+    (λ c κs. search needs)
     returns)

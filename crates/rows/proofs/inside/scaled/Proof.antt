@@ -1,52 +1,46 @@
-use mathlib.Core.Path.{_≡_}
-use Prim.Native.Nat.{ℕ, _-_, _≤_}
-use lib.ListN.{getD}
-use Rattle.definitions.specs.Field.{sixteen}
-use Rattle.rows.proofs.Filled.{filled-none, filled-more}
-use Rattle.rows.specs.Row.{filled, width}
+-- Each pass looks up one product more.
+use mathlib.Core.Path.{_≡_, refl, _∙_}
+use Prim.Native.Nat.{ℕ, _-_, _≤_, _<_}
 use native.Mathlib.Omega.{arith}
+use lib.ListN.{length, getD, replicate, length-set}
+use Rattle.definitions.specs.Field.{sixteen}
+use Rattle.rows.proofs.Blocks.{front-none, front-more}
+use Rattle.rows.specs.Row.{block, Front}
+use borrow.Author.Needs.{needs}
 use Rattle.rows.proofs.inside.scaled.Statement.{statement}
 use Rattle.rows.proofs.inside.scaled.Tie as tie
 
 abbrev Inv-loop : tie.InvT-loop
-Inv-loop table row u times₀ k₀ times k = (k ≤ width) × (times ≡ filled k (λ (e : ℕ). sixteen .times u (getD row e 0)))
+Inv-loop table a u times₀ i₀ times i = (i ≤ block) × (length times ≡ block) × Front i (λ (k : ℕ). sixteen .times u (getD a k 0)) times
 
 abbrev μ-loop : tie.MeasureT-loop
-μ-loop table row u times₀ k₀ times k = width - k
+μ-loop table a u times₀ i₀ times i = block - i
 
 loop-holds : tie.Need-loop-holds Inv-loop μ-loop
 loop-holds c =
     let a = c .args in
-    (omega arith, filled-none (λ e. sixteen .times (a .u) (getD (a .row .now) e 0)))
-
-element-copy-out-look : tie.Need-element-copy-out-look Inv-loop μ-loop
-element-copy-out-look c = omega arith
+    (omega arith, refl, front-none (λ k. sixteen .times (a .u) (getD (a .a .now) k 0)) (replicate block 0))
 
 look-requires : tie.Need-look-requires Inv-loop μ-loop
 look-requires c κs =
     let s = c .before .before .before in
-    (s .pre .0, (s .pre .1 .1, s .pre .1 .0 (c .before .before .loop .k)))
-
-array-write-times : tie.Need-array-write-times Inv-loop μ-loop
-array-write-times c = omega arith
-
-add-k : tie.Need-add-k Inv-loop μ-loop
-add-k c = omega arith
-
-loop-less : tie.Need-loop-less Inv-loop μ-loop
-loop-less c = omega arith
+    (s .pre .0, (s .pre .1 .0, s .pre .1 .1 (c .before .before .loop .i) (omega arith)))
 
 loop-again : tie.Need-loop-again Inv-loop μ-loop
 loop-again c =
     let l = c .before .before .before in
     let a = l .before .args in
-    (omega arith, filled-more (λ e. sixteen .times (a .u) (getD (a .row .now) e 0)) (l .loop .times) (l .loop .k) (c .look .result) (omega arith) (l .loop .inv .1) (c .look .ensures))
+    let h : l .loop .i < length (l .loop .times) = omega arith in (
+      omega arith,
+      length-set (l .loop .times) (l .loop .i) _ ∙ l .loop .inv .1,
+      front-more (l .loop .i) _ (λ k. sixteen .times (a .u) (getD (a .a .now) k 0)) (l .loop .times) h (l .loop .inv .2) (c .look .ensures),
+    )
 
 returns : tie.Need-returns Inv-loop μ-loop
 returns c =
     let l = c .before in
-    let e : l .loop .k ≡ width = omega arith in
-    rw e at (l .loop .inv .1)
+    let e : l .loop .i ≡ block = omega arith in
+    rw e at (l .loop .inv .2)
 
 pub scaled-spec : {M : Type 1} → statement M
 scaled-spec =
@@ -55,10 +49,10 @@ scaled-spec =
     Inv-loop
     μ-loop
     loop-holds
-    element-copy-out-look
+    (λ c. search needs)
     look-requires
-    array-write-times
-    add-k
-    loop-less
+    (λ c. search needs)
+    (λ c. search needs)
+    (λ c. search needs)
     loop-again
     returns)

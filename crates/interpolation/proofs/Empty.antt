@@ -1,0 +1,28 @@
+-- A system of zeros.
+-- Assumes nothing.
+use mathlib.Core.List.{List, []}
+use mathlib.Core.Path.{_≡_, sym, _∙_, ap, subst}
+use Prim.Native.Nat.{ℕ, _<_}
+use native.Mathlib.Decide.{decLt}
+use native.Mathlib.Omega.{arith}
+use lib.ListN.{length, getD, replicate, getD-replicate, length-replicate, List·getD-eq-default}
+use Rattle.definitions.proofs.Symbols.{replicate-symbols}
+use Rattle.definitions.specs.Code.{Symbols}
+use Rattle.definitions.specs.Field.{sixteen}
+use Rattle.dependence.specs.Dependence.{System}
+use Rattle.rows.specs.Row.{width}
+
+-- rows of zeros are a system
+zero-rows : (n c : ℕ) → (r : ℕ) → Symbols sixteen (getD (replicate n (replicate c 0)) r [])
+zero-rows n c r k =
+    elim (decLt r n) [
+      | yes h ↦ subst (λ (l : List ℕ). getD l k 0 < sixteen .symbols) (sym (getD-replicate n r (replicate c 0) [] h)) (replicate-symbols sixteen c 0 (omega arith) k)
+      | no l ↦ subst (λ (l : List ℕ). getD l k 0 < sixteen .symbols) (sym (List·getD-eq-default (replicate n (replicate c 0)) [] {n = r} (rw (length-replicate n (replicate {A = ℕ} c 0)) (omega arith)))) (omega arith)
+    ]
+
+-- a system of zeros
+pub empty-system : (n : ℕ) → System (replicate n (replicate width 0))
+empty-system n = record {
+  wide = λ t h. ap length (getD-replicate n t (replicate width 0) [] (let e = length-replicate n (replicate {A = ℕ} width 0) in omega arith)) ∙ length-replicate {A = ℕ} width 0;
+  symbols = zero-rows n width;
+}

@@ -1,0 +1,112 @@
+-- The conditions are a system; its first column that depends on those before it, solved for, is the polynomial.
+use Prim.Native.Nat.{_+_, _/_, _≤_, _<_}
+use native.Mathlib.Omega.{arith}
+use lib.ListN.{length}
+use Rattle.dependence.specs.Dependence.{System, Within}
+use Rattle.interpolation.proofs.Coefficients.{degree-small, row-fits, rows-priced, more, start-system, start-within, polynomial-found}
+use Rattle.rows.specs.Row.{block, width}
+use borrow.Author.Needs.{needs}
+use Rattle.interpolation.proofs.inside.polynomial_in.Statement.{statement}
+use Rattle.interpolation.proofs.inside.polynomial_in.Tie as tie
+
+abbrev entry : tie.After-matrix-rows → tie.Start
+entry c = c .before .before .before .before .before
+
+matrix-rows-requires : tie.Need-matrix-rows-requires
+matrix-rows-requires c κs =
+    let p = c .before .before in
+    let s = p .before .before in
+    let a = s .args in
+    let g = s .pre .0 in
+    let e = rows-priced (a .matrix .now) (a .v) (a .d) (a .count) (a .cost) (a .out .now) g in (
+      p .products .ensures,
+      (
+        (
+          g .weighted,
+          degree-small (a .matrix .now) (a .v) (a .d) (a .count) (a .cost) (a .out .now) g,
+          row-fits (a .matrix .now) (a .v) (a .d) (a .count) (a .cost) (a .out .now) g,
+        ),
+        omega arith,
+      ),
+    )
+
+-- the conditions are a system
+start : (c : tie.After-matrix-rows) → System (c .matrix-rows .last .0)
+start c =
+    let s = entry c in
+    let a = s .args in
+    start-system (a .matrix .now) (a .v) (a .d) (a .count) (a .cost) (a .out .now) (s .pre .0) (a .system .now) (c .matrix-rows .last .0) (s .pre .1 .0) (s .pre .1 .1) (c .matrix-rows .ensures .1)
+
+-- with room for their blocks
+within : (c : tie.After-matrix-rows) → Within (c .matrix-rows .result) (entry c .args .cost / block + 1) (c .matrix-rows .last .0)
+within c =
+    let s = entry c in
+    let a = s .args in
+    start-within (a .matrix .now) (a .v) (a .d) (a .count) (a .cost) (a .out .now) (s .pre .0) (a .system .now) (c .matrix-rows .last .0) (s .pre .1 .0) (s .pre .1 .1) (c .matrix-rows .ensures .1)
+    (c .matrix-rows .result) (c .matrix-rows .ensures .0)
+
+abbrev written : tie.After-first-dependent → tie.After-matrix-rows
+written c = c .before .before .before .before
+
+first-dependent-requires : tie.Need-first-dependent-requires
+first-dependent-requires c κs =
+    let m = c .before .before .before in
+    (start m, (m .before .before .before .products .ensures, within m))
+
+-- the column found is the place of a coefficient
+place : (c : tie.After-first-dependent) → c .first-dependent .result < entry (written c) .args .count
+place c =
+    let m = written c in
+    let s = entry m in
+    let a = s .args in
+    let e = rows-priced (a .matrix .now) (a .v) (a .d) (a .count) (a .cost) (a .out .now) (s .pre .0) in
+    let l = more (a .matrix .now) (a .v) (a .d) (a .count) (a .cost) (a .out .now) (s .pre .0) in
+    let r = m .matrix-rows .ensures .0 in
+    let f = c .first-dependent .ensures .0 in
+    omega arith
+
+lead-requires : tie.Need-lead-requires
+lead-requires c κs =
+    let d = c .before .before in
+    (place d, entry (written d) .pre .0 .room)
+
+solve-requires : tie.Need-solve-requires
+solve-requires c κs =
+    let l = c .before .before .before .before .before in
+    let d = l .before .before .before in
+    let m = written d in
+    let s = entry m in
+    let a = s .args in
+    let e = d .first-dependent .ensures in
+    let p = place d in
+    let inside : d .first-dependent .result < width = let f = row-fits (a .matrix .now) (a .v) (a .d) (a .count) (a .cost) (a .out .now) (s .pre .0) in omega arith in
+    let there : d .first-dependent .result ≤ length (d .first-dependent .last .0) = let w = within m .there in let k = e .1 .0 .size in let low = e .0 in omega arith in
+    let room : d .first-dependent .result ≤ length (l .lead .last .1 .1 .0) = let k = l .lead .ensures .size in let r = s .pre .0 .room in omega arith in
+    (m .before .before .before .products .ensures, (e .1 .0 .system .symbols, (inside, there, room)))
+
+returns : tie.Need-returns
+returns c =
+    let v = c .before .before in
+    let l = v .before .before .before .before .before .before in
+    let d = l .before .before .before in
+    let m = written d in
+    let s = entry m in
+    let a = s .args in
+    let e = d .first-dependent .ensures in
+    polynomial-found (a .matrix .now) (a .v) (a .d) (a .count) (a .cost) (a .out .now) (s .pre .0) (a .system .now) (m .matrix-rows .last .0) (d .first-dependent .last .0) (s .pre .1 .0) (s .pre .1 .1)
+    (m .matrix-rows .ensures .1) (m .matrix-rows .result) (d .first-dependent .result) (m .matrix-rows .ensures .0) (e .0) (e .1 .0) (e .1 .1) (l .lead .last .1 .1 .0) (v .solve .last .1 .1 .1 .0)
+    (l .lead .ensures) (v .solve .ensures)
+
+pub polynomial-in-spec : {M : Type 1} → statement M
+polynomial-in-spec =
+    tie.close
+    (tie.spec
+    (λ c κs. search needs)
+    (λ c. search needs)
+    matrix-rows-requires
+    first-dependent-requires
+    lead-requires
+    solve-requires
+    (λ c. search needs)
+    (λ c. search needs)
+    returns)
