@@ -10,7 +10,6 @@ use Rattle.definitions.specs.Field.{Ops}
 use Rattle.definitions.specs.Polynomial.{Term, terms, derivative, hasse, Passes}
 use Rattle.definitions.specs.Roots.{plus}
 use Rattle.algebra.specs.Ring.{Ring, Hom}
-use Rattle.algebra.proofs.Carry.{carry-derivative}
 use Rattle.algebra.proofs.RingLaws.{ring, plus-assoc, plus-comm, plus-zero, times-zero}
 
 module _ (A : Ops) where
@@ -77,12 +76,6 @@ module _ (A R : Ops) (h : Hom A R) where
   unfolding dot
   carry-dot zero r q = φ-zero
   carry-dot (suc n) r q = φ-add (dot A n r q) (A .mul (r n) (q n)) ∙ ap₂ _⊕_ (carry-dot n r q) (φ-mul (r n) (q n))
-
-  -- and rows
-  pub carry-row : (l : List (ℕ × ℕ)) (s t : ℕ) (x y : A .K) (k : ℕ) → φ (row A l s t x y k) ≡ row R l s t (φ x) (φ y) k
-  carry-row l s t x y k =
-      φ-mul (derivative A (getD l k (0, 0) .0) s x) (derivative A (getD l k (0, 0) .1) t y)
-      ∙ ap₂ _⊗_ (carry-derivative A R h (getD l k (0, 0) .0) s x) (carry-derivative A R h (getD l k (0, 0) .1) t y)
 
 module _ (A : Ring) where
   open Ops (A .ops) using (K, o, i, add as _⊕_, mul as _⊗_)

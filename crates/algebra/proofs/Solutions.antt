@@ -4,14 +4,14 @@
 use mathlib.Core.List.{List, map}
 use mathlib.Core.Path.{_≡_, sym, _∙_, ap, ap₂, subst}
 use Prim.Native.Nat.{ℕ, _<_}
-use lib.ListN.{length, getD}
+use lib.ListN.{getD}
 use Rattle.definitions.specs.Code.{Symbols}
 use Rattle.definitions.specs.Field.{Ops, Code, numbers}
 use Rattle.definitions.specs.Polynomial.{terms, monomials, hasse, Through}
 use Rattle.definitions.specs.Roots.{plus}
 use Rattle.algebra.specs.FieldOf.{FieldOf}
 use Rattle.algebra.proofs.Carry.{carry-plus}
-use Rattle.algebra.proofs.Linear.{dot, row, dot-equal, carry-dot, carry-row, hasse-is-dot, passes-plus}
+use Rattle.algebra.proofs.Linear.{passes-plus}
 use Rattle.algebra.proofs.Numbers.{elements, numbers-elements, number-at, numbers-symbols, number-hasse}
 use Rattle.algebra.proofs.Passing.{pointElement, multiplicityOf, elements-pass, numbers-pass}
 
@@ -51,13 +51,6 @@ module _ (C : Code) (F : FieldOf C) where
   number-entry q sq k =
       sym (number-at C F (elements C F q) k) ∙ ap (λ (l : List ℕ). getD l k 0) (numbers-elements C F q sq)
 
-  -- a row for the row
-  number-row : (l : List (ℕ × ℕ)) (s t a b : ℕ) → a < C .symbols → b < C .symbols → (k : ℕ)
-      → φ (row G l s t (F .element a) (F .element b) k) ≡ row N l s t a b k
-  number-row l s t a b ha hb k =
-      carry-row G N (F .number) l s t (F .element a) (F .element b) k
-      ∙ ap₂ (λ (x y : ℕ). row N l s t x y k) (F .number-element a ha) (F .number-element b hb)
-
   -- a Hasse derivative for that of the elements
   pub number-hasse-at : (l : List (ℕ × ℕ)) (q : List ℕ) (s t a b : ℕ) → Symbols C q → a < C .symbols → b < C .symbols
       → F .number .φ (hasse (F .ring .ops) (terms (F .ring .ops) (elements C F q) l) s t (F .element a) (F .element b))
@@ -66,12 +59,3 @@ module _ (C : Code) (F : FieldOf C) where
       number-hasse C F (elements C F q) l s t (F .element a) (F .element b)
       ∙ ap (λ (p : List ℕ). hasse N (terms N p l) s t (φ (F .element a)) (φ (F .element b))) (numbers-elements C F q sq)
       ∙ ap₂ (λ (x y : ℕ). hasse N (terms N q l) s t x y) (F .number-element a ha) (F .number-element b hb)
-
-  -- a Hasse derivative of numbers is a row times the coefficients
-  pub hasse-is-dot-of-numbers : (l : List (ℕ × ℕ)) (q : List ℕ) (s t a b : ℕ) → Symbols C q → a < C .symbols → b < C .symbols
-      → hasse (numbers C) (terms (numbers C) q l) s t a b ≡ dot (numbers C) (length l) (row (numbers C) l s t a b) (λ k. getD q k 0)
-  hasse-is-dot-of-numbers l q s t a b sq ha hb =
-      sym (number-hasse-at l q s t a b sq ha hb)
-      ∙ ap φ (hasse-is-dot (F .ring) l (elements C F q) s t (F .element a) (F .element b))
-      ∙ carry-dot G N (F .number) (length l) (row G l s t (F .element a) (F .element b)) (λ k. getD (elements C F q) k (G .o))
-      ∙ dot-equal N (length l) _ (row N l s t a b) _ (λ k. getD q k 0) (λ k h. number-row l s t a b ha hb k) (λ k h. number-entry q sq k)

@@ -1,6 +1,6 @@
 -- What interpolation answers and leaves: where a check refuses, where the cost does, and where the polynomial is found.
 -- Assumes nothing.
-use mathlib.Core.List.{List, [], _∷_, _++_}
+use mathlib.Core.List.{List, [], _∷_}
 use mathlib.Core.Path.{_≡_, refl, sym, _∙_, ap, ap₂, subst}
 use Prim.Native.Nat.{ℕ, _*_, _-_, _≤_, _<_}
 use borrow.Author.Tests.{lt-ltb, le-ltb}

@@ -24,7 +24,7 @@ use Rattle.elimination.proofs.Narrow.{narrow-solves, narrow-least}
 use Rattle.elimination.proofs.Symbols.{back-symbols}
 use Rattle.elimination.specs.Rows.{Solves, Reduced, Solved, Led}
 use Rattle.field.proofs.Instance.{sixteen-field}
-use Rattle.interpolation.proofs.MaskedConditions.{length-conditions, conditions-symbols, conditions-wide, through-solves, solves-through}
+use Rattle.interpolation.proofs.Conditions.{length-conditions, conditions-symbols, conditions-wide, through-solves, solves-through}
 use Rattle.interpolation.proofs.Width.{width-fits}
 use Rattle.interpolation.specs.Found.{Given, Found}
 use Rattle.rows.specs.Row.{width, block}

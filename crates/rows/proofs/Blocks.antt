@@ -32,15 +32,15 @@ front-more n x f l h d e k g =
     ]
 
 -- nothing is put yet
-pub put-none : (at : ℕ) (part old : List ℕ) → PutAt at 0 part old old
-put-none at part old = record {
+pub block-none : (at : ℕ) (part old : List ℕ) → PutAt at 0 part old old
+block-none at part old = record {
   size = refl;
   patched = record { inside = λ k l h. let z : ⊥ = omega arith in absurd z; before = λ k h. refl; after = λ k h. refl };
 }
 
 -- one entry more
-pub put-more : (at n : ℕ) (part old new : List ℕ) → at + n < length old → PutAt at n part old new → PutAt at (n + 1) part old (set new (at + n) (getD part n 0))
-put-more at n part old new h d = record {
+pub block-more : (at n : ℕ) (part old new : List ℕ) → at + n < length old → PutAt at n part old new → PutAt at (n + 1) part old (set new (at + n) (getD part n 0))
+block-more at n part old new h d = record {
   size = length-set new (at + n) (getD part n 0) ∙ d .size;
   patched = record {
     inside = λ k l g. elim (ℕ-discrete k (at + n)) [

@@ -6,7 +6,7 @@ use Prim.Native.Nat.{ℕ, _+_, _-_, _≤_, _<_}
 use native.Mathlib.Decide.{decLt}
 use native.Mathlib.Omega.{arith}
 use lib.ListN.{length, drop, getD, set, replicate, length-append, length-drop, List·getD-append}
-use lib.Seq.{getD-append-add, getD-drop, ext-getD}
+use lib.Seq.{getD-append-add, getD-drop}
 use Rattle.definitions.proofs.Loops.{map-more}
 use Rattle.definitions.proofs.Tools.{below-zero, length-map-below, map-below-at}
 use Rattle.definitions.proofs.Zeros.{zero-at}
@@ -58,12 +58,3 @@ module _ (f : ℕ → ℕ) where
         | yes h ↦ rw (filled-at n k h) (s k h)
         | no l ↦ rw (filled-rest n k (omega arith)) (omega arith)
       ]
-
--- rows of equal entries are equal
-pub filled-equal : (n : ℕ) (f g : ℕ → ℕ) → n ≤ width → ((k : ℕ) → k < n → f k ≡ g k) → filled n f ≡ filled n g
-filled-equal n f g h e =
-    ext-getD 0 (filled n f) (filled n g) (length-filled f n h ∙ sym (length-filled g n h))
-    (λ k _. elim (decLt k n) [
-      | yes l ↦ filled-at f n k l ∙ e k l ∙ sym (filled-at g n k l)
-      | no l ↦ filled-rest f n k (omega arith) ∙ sym (filled-rest g n k (omega arith))
-    ])

@@ -3,7 +3,7 @@ use mathlib.Core.Path.{_≡_, subst}
 use Prim.Native.Nat.{ℕ, _+_, _-_, _≤_, _<_}
 use native.Mathlib.Omega.{arith}
 use lib.ListN.{length}
-use Rattle.rows.proofs.Blocks.{put-none, put-more}
+use Rattle.rows.proofs.Blocks.{block-none, block-more}
 use Rattle.rows.specs.Row.{block, PutAt}
 use borrow.Author.Needs.{needs}
 use Rattle.rows.proofs.inside.put.Statement.{statement}
@@ -18,14 +18,14 @@ abbrev μ-loop : tie.MeasureT-loop
 loop-holds : tie.Need-loop-holds Inv-loop μ-loop
 loop-holds c =
     let a = c .args in
-    (omega arith, put-none (a .at) (a .part .now) (a .row .now))
+    (omega arith, block-none (a .at) (a .part .now) (a .row .now))
 
 loop-again : tie.Need-loop-again Inv-loop μ-loop
 loop-again c =
     let l = c .before .before in
     let a = l .before .args in
     let h : a .at + l .loop .i < length (a .row .now) = omega arith in
-    (omega arith, put-more (a .at) (l .loop .i) (a .part .now) (a .row .now) (l .loop .row) h (l .loop .inv .1))
+    (omega arith, block-more (a .at) (l .loop .i) (a .part .now) (a .row .now) (l .loop .row) h (l .loop .inv .1))
 
 returns : tie.Need-returns Inv-loop μ-loop
 returns c =
