@@ -16,8 +16,8 @@ use Rattle.definitions.specs.Code.{Symbols}
 use Rattle.definitions.specs.Field.{numbers, sixteen, power}
 use Rattle.definitions.specs.Tools.{below}
 use Rattle.field.proofs.Instance.{sixteen-field}
-use Rattle.rows.proofs.Filled.{filled-at, filled-rest, filled-symbols}
-use Rattle.rows.specs.Row.{width, filled}
+use Rattle.blocks.proofs.Filled.{filled-at, filled-rest, filled-symbols}
+use Rattle.blocks.specs.Row.{width, filled}
 use Rattle.conditions.proofs.Walk.{walked-le}
 use Rattle.conditions.specs.Walk.{walked}
 use Rattle.conditions.specs.Masks.{exponentRows, Places, powersRow, keptRow, askedAt, baseAt, orderAt, keptOrders}

@@ -24,8 +24,8 @@ use Rattle.definitions.specs.Code.{Symbols}
 use Rattle.definitions.specs.Field.{numbers, sixteen, power}
 use Rattle.definitions.specs.Polynomial.{terms, monomials, hasse}
 use Rattle.field.proofs.Instance.{sixteen-field}
-use Rattle.rows.proofs.Filled.{length-filled, filled-at, filled-rest}
-use Rattle.rows.specs.Row.{width}
+use Rattle.blocks.proofs.Filled.{length-filled, filled-at, filled-rest}
+use Rattle.blocks.specs.Row.{width}
 use Rattle.conditions.proofs.Masks.{base-symbol}
 use Rattle.conditions.proofs.Walk.{walked-le, x-within, y-within, walked-monomial}
 use Rattle.conditions.specs.Walk.{walked}

@@ -11,7 +11,7 @@ use Rattle.definitions.specs.Code.{point}
 use Rattle.definitions.specs.Field.{numbers, sixteen, power}
 use Rattle.definitions.specs.Tools.{below}
 use Rattle.conditions.specs.Walk.{walked}
-use Rattle.rows.specs.Row.{width, filled}
+use Rattle.blocks.specs.Row.{width, filled}
 
 -- the powers of x that the monomials have, and those of y
 abbrev pub exponentRows : ℕ → ℕ → List (List ℕ)

@@ -9,7 +9,7 @@ use Rattle.definitions.specs.Code.{point}
 use Rattle.definitions.specs.Field.{numbers, sixteen}
 use Rattle.definitions.specs.Polynomial.{derivative}
 use Rattle.definitions.specs.Tools.{below}
-use Rattle.rows.specs.Row.{filled}
+use Rattle.blocks.specs.Row.{filled}
 
 -- a monomial on the walk: the powers of x and y, and the weighted degree
 abbrev pub Place : Type 0

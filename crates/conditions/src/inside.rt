@@ -7,12 +7,12 @@ ghost use Rattle.definitions.specs.Code.{Symbols};
 ghost use Rattle.definitions.specs.Field.{sixteen};
 ghost use Rattle.field.specs.Table.{Products};
 ghost use Rattle.conditions.specs.Masks.{exponentRows, Places, powersRow, valuesRow, maskByte, keptRow, askedAt, baseAt, keptOrder, keptOrders, maskedPoint, maskedColumn, maskedRows};
-ghost use Rattle.rows.specs.Row.{width};
+ghost use Rattle.blocks.specs.Row.{width};
 use field::inside::ALPHA;
 use refusals::limits::GREATEST_SYMBOL;
 use refusals::limits::POSITIONS;
 use refusals::limits::SYMBOLS;
-use rows::WIDTH;
+use blocks::WIDTH;
 
 // The powers of x that the monomials have, in their order, and those of y.
 fn exponents(v: usize, count: usize) -> [[u8; WIDTH]; 2]

@@ -1,9 +1,3 @@
-pub mod Combinations
-pub mod Triangle
-pub mod Symbols
-pub mod Narrow
-pub mod Columns
-pub mod Listed
-pub mod Back
-pub mod Leading
-pub mod Unique
+pub mod Blocks
+pub mod Steps
+pub mod Solving

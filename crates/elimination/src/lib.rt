@@ -1,1 +1,2 @@
-// The laws of elimination, over any field.
+// The search for the first monomial that depends on those before it, and what it is a sum of.
+pub mod inside;

@@ -17,17 +17,17 @@ use Rattle.definitions.specs.Code.{Symbols}
 use Rattle.definitions.specs.Field.{sixteen}
 use Rattle.definitions.specs.Limits.{greatestLimit}
 use Rattle.definitions.specs.Polynomial.{Interpolates, Through, isZero, leading}
-use Rattle.dependence.specs.Dependence.{System, Within, Eliminated}
-use Rattle.elimination.proofs.Back.{coefficients-size, coefficients-back, coefficients-one, coefficients-end, coefficients-written}
-use Rattle.elimination.proofs.Leading.{zero-after, leading-is}
-use Rattle.elimination.proofs.Narrow.{narrow-solves, narrow-least}
-use Rattle.elimination.proofs.Symbols.{back-symbols}
-use Rattle.elimination.specs.Rows.{Solves, Reduced, Solved, Led}
+use Rattle.elimination.specs.Dependence.{System, Within, Eliminated}
+use Rattle.linear.proofs.Back.{coefficients-size, coefficients-back, coefficients-one, coefficients-end, coefficients-written}
+use Rattle.linear.proofs.Leading.{zero-after, leading-is}
+use Rattle.linear.proofs.Narrow.{narrow-solves, narrow-least}
+use Rattle.linear.proofs.Symbols.{back-symbols}
+use Rattle.linear.specs.Rows.{Solves, Reduced, Solved, Led}
 use Rattle.field.proofs.Instance.{sixteen-field}
 use Rattle.interpolation.proofs.Conditions.{length-conditions, conditions-symbols, conditions-wide, through-solves, solves-through}
 use Rattle.interpolation.proofs.Width.{width-fits}
 use Rattle.interpolation.specs.Found.{Given, Found}
-use Rattle.rows.specs.Row.{width, block}
+use Rattle.blocks.specs.Row.{width, block}
 use Rattle.weights.specs.Matrix.{matrixOf, matrixCost}
 
 -- ---- the leading coefficient

@@ -24,11 +24,11 @@ use Rattle.definitions.specs.Field.{numbers, sixteen}
 use Rattle.definitions.specs.Polynomial.{Through, hasse, terms, monomials}
 use Rattle.definitions.specs.Tools.{below}
 use Rattle.definitions.specs.Weights.{entry, entryCost}
-use Rattle.elimination.specs.Rows.{Solves}
+use Rattle.linear.specs.Rows.{Solves}
 use Rattle.field.proofs.Instance.{sixteen-field}
 use Rattle.interpolation.proofs.Loaded.{entry-is, used}
 use Rattle.interpolation.proofs.Placing.{place-of, placed-at, placed-each}
-use Rattle.rows.specs.Row.{width}
+use Rattle.blocks.specs.Row.{width}
 use Rattle.weights.specs.Matrix.{matrixOf, columnCost, matrixCost}
 
 -- ---- how many

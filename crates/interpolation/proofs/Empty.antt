@@ -9,8 +9,8 @@ use lib.ListN.{length, getD, replicate, getD-replicate, length-replicate, List·
 use Rattle.definitions.proofs.Symbols.{replicate-symbols}
 use Rattle.definitions.specs.Code.{Symbols}
 use Rattle.definitions.specs.Field.{sixteen}
-use Rattle.dependence.specs.Dependence.{System}
-use Rattle.rows.specs.Row.{width}
+use Rattle.elimination.specs.Dependence.{System}
+use Rattle.blocks.specs.Row.{width}
 
 -- rows of zeros are a system
 zero-rows : (n c : ℕ) → (r : ℕ) → Symbols sixteen (getD (replicate n (replicate c 0)) r [])

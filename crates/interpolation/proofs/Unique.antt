@@ -17,8 +17,8 @@ use Rattle.definitions.specs.Polynomial.{Interpolates, leading}
 use Rattle.definitions.specs.Refusals.{Line, tried, interpolationTable}
 use Rattle.definitions.specs.Tools.{sum}
 use Rattle.definitions.specs.Weights.{entryCost, cost}
-use Rattle.elimination.proofs.Leading.{leading-is}
-use Rattle.elimination.proofs.Unique.{interpolates-unique}
+use Rattle.linear.proofs.Leading.{leading-is}
+use Rattle.linear.proofs.Unique.{interpolates-unique}
 use Rattle.field.proofs.Instance.{sixteen-field}
 use Rattle.refusals.proofs.Unique.{same-told, answerOf, refused-back}
 use Rattle.interpolation.specs.Interpolated.{toldInterpolated}

@@ -11,7 +11,7 @@ use Rattle.definitions.specs.Bound.{count, bound}
 use Rattle.definitions.specs.Field.{sixteen}
 use Rattle.definitions.specs.Limits.{greatestLimit}
 use Rattle.definitions.specs.Tools.{sum}
-use Rattle.rows.specs.Row.{width}
+use Rattle.blocks.specs.Row.{width}
 
 -- a degree whose count is within the greatest limit is followed by one whose count fits in a row
 follows : T (every (sixteen .positions) (λ v. every greatestLimit (λ D. ltb greatestLimit (count v D) || leb (count v (suc D)) width)))

@@ -12,7 +12,7 @@ use Rattle.definitions.specs.Field.{sixteen}
 use Rattle.definitions.specs.Limits.{greatestLimit, greatestRows}
 use Rattle.definitions.specs.Tools.{sum}
 use Rattle.interpolation.proofs.Width.{width-fits}
-use Rattle.rows.specs.Row.{width}
+use Rattle.blocks.specs.Row.{width}
 
 -- a degree of few monomials has few powers of y
 few-powers : T (every (sixteen .positions) (λ v. every width (λ D. ltb width (count v D) || leb (D / v) greatestRows)))

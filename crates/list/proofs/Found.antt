@@ -14,7 +14,7 @@ use Rattle.definitions.specs.Polynomial.{Interpolates}
 use Rattle.definitions.specs.Weights.{cost}
 use Rattle.interpolation.proofs.Width.{width-fits}
 use Rattle.interpolation.specs.Found.{Found}
-use Rattle.rows.specs.Row.{width}
+use Rattle.blocks.specs.Row.{width}
 use Rattle.weights.proofs.Cost.{matrix-cost}
 use Rattle.weights.specs.Matrix.{matrixOf, matrixCost}
 

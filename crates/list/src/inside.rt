@@ -12,7 +12,7 @@ use refusals::Refusal;
 use refusals::limits::GREATEST_ROWS;
 use refusals::limits::POSITIONS;
 use refusals::limits::SYMBOLS;
-use rows::WIDTH;
+use blocks::WIDTH;
 
 fn narrow(x: usize) -> u16
     requires { ⌜ x < 65536 ⌝ }

@@ -18,7 +18,7 @@ use Rattle.definitions.specs.Field.{numbers, sixteen, sumOf, double, shifted, p
 use Rattle.definitions.specs.Polynomial.{Interpolates, Through, binomial, modulo2, derivative, hasse, terms, monomials, isZero, leading}
 use Rattle.definitions.specs.Tools.{below, sum}
 use Rattle.definitions.specs.Weights.{entry}
-use Rattle.elimination.proofs.Leading.{zero-after}
+use Rattle.linear.proofs.Leading.{zero-after}
 use Rattle.starred.specs.Starred.{hardWord}
 
 abbrev word : List ℕ

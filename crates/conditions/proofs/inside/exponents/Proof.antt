@@ -7,8 +7,8 @@ use native.Mathlib.Omega.{arith}
 use borrow.Author.Needs.{needs}
 use Rattle.conditions.proofs.Walk.{walked-le, walk-begins, walk-stays, walk-turns}
 use Rattle.conditions.specs.Walk.{walked}
-use Rattle.rows.proofs.Filled.{filled-none, filled-more}
-use Rattle.rows.specs.Row.{filled}
+use Rattle.blocks.proofs.Filled.{filled-none, filled-more}
+use Rattle.blocks.specs.Row.{filled}
 use Rattle.conditions.proofs.inside.exponents.Statement.{statement}
 use Rattle.conditions.proofs.inside.exponents.Tie as tie
 

@@ -6,8 +6,8 @@ use borrow.Author.Needs.{needs}
 use lib.Bits.{bitAnd}
 use lib.ListN.{getD}
 use Rattle.conditions.specs.Masks.{maskByte}
-use Rattle.rows.proofs.Filled.{filled-none, filled-more}
-use Rattle.rows.specs.Row.{width, filled}
+use Rattle.blocks.proofs.Filled.{filled-none, filled-more}
+use Rattle.blocks.specs.Row.{width, filled}
 use Rattle.conditions.proofs.inside.kept.Statement.{statement}
 use Rattle.conditions.proofs.inside.kept.Tie as tie
 

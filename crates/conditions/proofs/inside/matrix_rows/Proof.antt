@@ -18,7 +18,7 @@ use Rattle.definitions.specs.Code.{Symbols, point}
 use Rattle.definitions.specs.Field.{numbers, sixteen}
 use Rattle.definitions.specs.Tools.{below}
 use Rattle.field.proofs.Instance.{sixteen-field}
-use Rattle.rows.specs.Row.{width}
+use Rattle.blocks.specs.Row.{width}
 use Rattle.conditions.proofs.inside.matrix_rows.Statement.{statement}
 use Rattle.conditions.proofs.inside.matrix_rows.Tie as tie
 

@@ -8,8 +8,8 @@ use Rattle.algebra.proofs.Numbers.{power-symbol}
 use Rattle.definitions.proofs.Codeword.{power-zero, power-suc}
 use Rattle.definitions.specs.Field.{numbers, sixteen, power}
 use Rattle.field.proofs.Instance.{sixteen-field}
-use Rattle.rows.proofs.Filled.{filled-none, filled-more}
-use Rattle.rows.specs.Row.{filled}
+use Rattle.blocks.proofs.Filled.{filled-none, filled-more}
+use Rattle.blocks.specs.Row.{filled}
 use Rattle.conditions.proofs.inside.powers.Statement.{statement}
 use Rattle.conditions.proofs.inside.powers.Tie as tie
 

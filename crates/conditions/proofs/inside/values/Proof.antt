@@ -6,8 +6,8 @@ use borrow.Author.Needs.{needs}
 use lib.ListN.{getD}
 use Rattle.algebra.specs.Grid.{entryOf}
 use Rattle.definitions.specs.Field.{sixteen}
-use Rattle.rows.proofs.Filled.{filled-none, filled-more}
-use Rattle.rows.specs.Row.{width, filled}
+use Rattle.blocks.proofs.Filled.{filled-none, filled-more}
+use Rattle.blocks.specs.Row.{width, filled}
 use Rattle.conditions.proofs.inside.values.Statement.{statement}
 use Rattle.conditions.proofs.inside.values.Tie as tie
 

@@ -3,7 +3,7 @@ use mathlib.Core.Path.{_≡_, subst}
 use Prim.Native.Nat.{ℕ, _-_, _≤_, _<_}
 use native.Mathlib.Omega.{arith}
 use lib.ListN.{length, set, length-set}
-use Rattle.elimination.specs.Rows.{Led}
+use Rattle.linear.specs.Rows.{Led}
 use Rattle.interpolation.proofs.Coefficients.{led-first, led-more, led-whole}
 use borrow.Author.Needs.{needs}
 use Rattle.interpolation.proofs.inside.lead.Statement.{statement}

@@ -2,9 +2,9 @@
 use Prim.Native.Nat.{_+_, _/_, _≤_, _<_}
 use native.Mathlib.Omega.{arith}
 use lib.ListN.{length}
-use Rattle.dependence.specs.Dependence.{System, Within}
+use Rattle.elimination.specs.Dependence.{System, Within}
 use Rattle.interpolation.proofs.Coefficients.{degree-small, row-fits, rows-priced, more, start-system, start-within, polynomial-found}
-use Rattle.rows.specs.Row.{block, width}
+use Rattle.blocks.specs.Row.{block, width}
 use borrow.Author.Needs.{needs}
 use Rattle.interpolation.proofs.inside.polynomial_in.Statement.{statement}
 use Rattle.interpolation.proofs.inside.polynomial_in.Tie as tie

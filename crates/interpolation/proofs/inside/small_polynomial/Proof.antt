@@ -1,6 +1,6 @@
 -- The cost is at most a block, and a system of zeros of so many rows has room for it.
 use Rattle.interpolation.proofs.Empty.{empty-system}
-use Rattle.rows.specs.Row.{block}
+use Rattle.blocks.specs.Row.{block}
 use borrow.Author.Needs.{needs}
 use Rattle.interpolation.proofs.inside.small_polynomial.Statement.{statement}
 use Rattle.interpolation.proofs.inside.small_polynomial.Tie as tie

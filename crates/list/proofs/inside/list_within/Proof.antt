@@ -12,7 +12,7 @@ use Rattle.list.proofs.Found.{degree-small, count-small, cost-cheap, bo
 use Rattle.list.proofs.Listing.{few-roots, found-symbols, lists, length-found, rows-fit}
 use Rattle.definitions.proofs.Symbols.{replicate-symbols}
 use Rattle.definitions.specs.Limits.{greatestRows}
-use Rattle.rows.specs.Row.{width}
+use Rattle.blocks.specs.Row.{width}
 use Rattle.weights.specs.Matrix.{matrixCost}
 use borrow.Author.Needs.{needs}
 use Rattle.list.proofs.inside.list_within.Statement.{statement}

@@ -1,0 +1,94 @@
+-- The loops of back substitution and of the list of rows.
+-- Assumes nothing.
+use mathlib.Core.Bool.{Bool, cond}
+use mathlib.Core.List.{List}
+use mathlib.Core.Logic.{_≢_}
+use mathlib.Core.Path.{_≡_, sym, _∙_, ap, ap₂, subst}
+use Prim.Native.Nat.{ℕ, suc, _+_, _-_, _≤_, _<_}
+use native.Mathlib.Decide.{ℕ-discrete}
+use native.Mathlib.Numerals.{add-one}
+use native.Mathlib.Omega.{arith}
+use borrow.Author.Tests.{eq-eqb, ne-eqb}
+use lib.ListN.{length, getD, set}
+use lib.Seq.{getD-set-same, getD-set-other}
+use Rattle.algebra.specs.Grid.{entryOf}
+use Rattle.definitions.specs.Field.{sixteen, numbers}
+use Rattle.linear.proofs.Back.{solved-none, solved-more}
+use Rattle.linear.proofs.Listed.{listed-none, listed-zero, listed-more}
+use Rattle.linear.proofs.Symbols.{behind-symbol}
+use Rattle.linear.proofs.Triangle.{behind-none, behind-more}
+use Rattle.linear.specs.Rows.{SymbolRows, behind, Solved}
+use Rattle.field.proofs.Instance.{sixteen-field}
+use Rattle.elimination.specs.Dependence.{SymbolsBetween, oneOf, ListedRows}
+
+-- nothing is added yet
+pub back-none : (y s : ℕ) (r q : ℕ → ℕ) → y ≡ behind (numbers sixteen) y s (s + 1) r q
+back-none y s r q = sym (behind-none (numbers sixteen) y s (s + 1) r q (omega arith))
+
+-- one entry more
+pub back-more : (y s i now x : ℕ) (r q : ℕ → ℕ) → s < i → now ≡ behind (numbers sixteen) y s i r q → x ≡ sixteen .times (r i) (q i)
+    → sixteen .plus now x ≡ behind (numbers sixteen) y s (i + 1) r q
+back-more y s i now x r q h e f =
+    ap₂ (sixteen .plus) e f ∙ sym (behind-more (numbers sixteen) y s i r q h) ∙ ap (λ (n : ℕ). behind (numbers sixteen) y s n r q) (sym (add-one i))
+
+-- one symbol more
+between-symbols : (m : List (List ℕ)) → SymbolRows sixteen m → (s j y : ℕ) (q : List ℕ) → s < length q → SymbolsBetween s j q
+    → y ≡ behind (numbers sixteen) (entryOf m s j) s j (entryOf m s) (λ i. getD q i 0) → (k : ℕ) → s ≤ k → k < j → getD (set q s y) k 0 < sixteen .symbols
+between-symbols m sm s j y q h sq e k l g =
+    elim (ℕ-discrete k s) [
+      | yes d ↦
+          subst (λ (x : ℕ). x < sixteen .symbols) (sym (ap (λ (i : ℕ). getD (set q s y) i 0) d ∙ getD-set-same q s y 0 h ∙ e))
+          (behind-symbol sixteen sixteen-field (entryOf m s j) s j (entryOf m s) (λ i. getD q i 0) (sm s j) (sm s) sq)
+      | no n ↦ subst (λ (x : ℕ). x < sixteen .symbols) (sym (getD-set-other q s k y 0 n)) (sq k (omega arith) g)
+    ]
+
+-- of zero it is 0
+pub one-of-zero : (x : ℕ) → x ≡ 0 → 0 ≡ oneOf x
+one-of-zero x e = sym (ap (λ (b : Bool). cond b 0 1) (eq-eqb x 0 e))
+
+-- else 1
+pub one-of-other : (x : ℕ) → x ≢ 0 → 1 ≡ oneOf x
+one-of-other x n = sym (ap (λ (b : Bool). cond b 0 1) (ne-eqb x 0 n))
+
+-- no row is listed yet
+pub rows-none : (j : ℕ) (m : List (List ℕ)) (places c : List ℕ) → ListedRows (j + 1) j 0 m places c
+rows-none j m places c = subst (λ (n : ℕ). ListedRows n j 0 m places c) (sym (add-one j)) (listed-none j _ _ _)
+
+-- row t is looked at
+pub rows-more : (t j n x p o : ℕ) (m : List (List ℕ)) (places c : List ℕ) → j < t → n < length places → n < length c → ListedRows t j n m places c
+    → x ≡ entryOf m t j → p ≡ t → o ≡ oneOf x → ListedRows (t + 1) j (n + o) m (set places n p) (set c n x)
+rows-more t j n x p o m places c low hp hc ok ex ep eo =
+    subst (λ (s : ℕ). ListedRows s j (n + o) m (set places n p) (set c n x)) (sym (add-one t))
+    (elim (ℕ-discrete x 0) [
+      | yes e ↦
+          subst (λ (l : ℕ). ListedRows (suc t) j l m (set places n p) (set c n x)) (let z = one-of-zero x e in let f : n ≡ n + o = omega arith in f)
+          (listed-zero t j n _ _ _ _ _ ok same equal (sym ex ∙ e))
+      | no e ↦
+          subst (λ (l : ℕ). ListedRows (suc t) j l m (set places n p) (set c n x)) (let z = one-of-other x e in let f : suc n ≡ n + o = omega arith in f)
+          (listed-more t j n _ _ _ _ _ ok same equal low (λ f. e (ex ∙ f)) (getD-set-same places n p 0 hp ∙ ep) (getD-set-same c n x 0 hc ∙ ex))
+    ])
+  where
+    same : (i : ℕ) → i < n → getD (set places n p) i 0 ≡ getD places i 0
+    same i h = getD-set-other places n i p 0 (λ e. omega arith)
+
+    equal : (i : ℕ) → i < n → getD (set c n x) i 0 ≡ getD c i 0
+    equal i h = getD-set-other c n i x 0 (λ e. omega arith)
+
+-- the entries from s on and before j are symbols
+abbrev pub SymbolsFrom : ℕ → ℕ → List ℕ → Type 0
+SymbolsFrom s j q = (k : ℕ) → s ≤ k → k < j → getD q k 0 < sixteen .symbols
+
+-- none is found yet
+pub solve-none : (j : ℕ) (m : List (List ℕ)) (out : List ℕ) → Solved sixteen j j m out out × SymbolsFrom j j out
+solve-none j m out = (solved-none sixteen j m out, λ k l h. let z : ⊥ = omega arith in absurd z)
+
+-- one more is found, behind which all are
+pub solve-more : (j s y : ℕ) (m : List (List ℕ)) (old now : List ℕ) → SymbolRows sixteen m → 0 < s → s ≤ j → j ≤ length old → Solved sixteen j s m old now → SymbolsFrom s j now
+    → y ≡ behind (numbers sixteen) (entryOf m (s - 1) j) (s - 1) j (entryOf m (s - 1)) (λ i. getD now i 0)
+    → Solved sixteen j (s - 1) m old (set now (s - 1) y) × SymbolsFrom (s - 1) j (set now (s - 1) y)
+solve-more j s y m old now sm pos low room d sq e =
+    let next : s ≡ suc (s - 1) = omega arith in
+    let size = d .size in (
+      solved-more sixteen j m (s - 1) y old now (omega arith) room (subst (λ (n : ℕ). Solved sixteen j n m old now) next d) e,
+      between-symbols m sm (s - 1) j y now (omega arith) (λ k l h. sq k (omega arith) h) e,
+    )

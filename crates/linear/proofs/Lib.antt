@@ -1,0 +1,9 @@
+pub mod Combinations
+pub mod Triangle
+pub mod Symbols
+pub mod Narrow
+pub mod Columns
+pub mod Listed
+pub mod Back
+pub mod Leading
+pub mod Unique
