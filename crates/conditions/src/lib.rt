@@ -1,2 +1,255 @@
-// The Hasse conditions of a matrix as rows over the monomials in order.
-pub mod inside;
+// The rows of the Hasse conditions, for inner use: what they are made of is within limits already.
+ghost use mathlib.Core.Path.{_≡_};
+ghost use Prim.Native.Nat.{_+_, _≤_, _<_};
+ghost use lib.ListN.{length};
+ghost use lib.Seq.{sets};
+ghost use Rattle.definitions.specs.Code.{Symbols};
+ghost use Rattle.definitions.specs.Field.{sixteen};
+ghost use Rattle.field.specs.Table.{Products};
+ghost use Rattle.conditions.specs.Masks.{exponentRows, Places, powersRow, valuesRow, maskByte, keptRow, askedAt, baseAt, keptOrder, keptOrders, maskedPoint, maskedColumn, maskedRows};
+ghost use Rattle.blocks.specs.Row.{width};
+use blocks::WIDTH;
+use field::inside::ALPHA;
+use refusals::limits::GREATEST_SYMBOL;
+use refusals::limits::POSITIONS;
+use refusals::limits::SYMBOLS;
+
+// The powers of x that the monomials have, in their order, and those of y.
+fn exponents(v: usize, count: usize) -> [[u8; WIDTH]; 2]
+    requires { ⌜ (0 < v) × (count ≤ width) ⌝ }
+    ensures { λ r. ⌜ r ≡ exponentRows v count ⌝ }
+{
+    let mut xs = [0u8; WIDTH];
+    let mut ys = [0u8; WIDTH];
+    let mut x = 0;
+    let mut y = 0usize;
+    let mut degree = 0;
+    let mut step = 0;
+    while step < count {
+        xs[step] = x as u8;
+        ys[step] = y as u8;
+        if v <= x {
+            x -= v;
+            y += 1;
+        } else {
+            degree += 1;
+            x = degree;
+            y = 0;
+        }
+        step += 1;
+    }
+    [xs, ys]
+}
+
+// The first n powers of x.
+fn powers(table: &[u8; 256], x: u8, n: usize) -> [u8; WIDTH]
+    requires { ⌜ Products (now table) ⌝ }
+    requires { ⌜ (x < sixteen .symbols) × (n ≤ width) ⌝ }
+    ensures { λ r. ⌜ r ≡ powersRow n x ⌝ }
+{
+    let mut row = [0u8; WIDTH];
+    let mut next = 1u8;
+    let mut e = 0;
+    while e < n {
+        row[e] = next;
+        next = field::inside::look(table, x, next);
+        e += 1;
+    }
+    row
+}
+
+// The monomials' values at a point, in their order, of the powers of its coordinates.
+fn values(
+    table: &[u8; 256],
+    px: &[u8; WIDTH],
+    py: &[u8; WIDTH],
+    es: &[[u8; WIDTH]; 2],
+    count: usize,
+) -> [u8; WIDTH]
+    requires { ⌜ Products (now table) ⌝ }
+    requires { ⌜ Symbols sixteen (now px) × Symbols sixteen (now py) ⌝ }
+    requires { ⌜ Places (now es) × (count ≤ width) ⌝ }
+    ensures { λ r. ⌜ r ≡ valuesRow count (now (px .entry)) (now (py .entry)) (now (es .entry)) ⌝ }
+{
+    let mut row = [0u8; WIDTH];
+    let mut place = 0;
+    while place < count {
+        let x = field::inside::wide(es[0][place]);
+        let y = field::inside::wide(es[1][place]);
+        row[place] = field::inside::look(table, px[x], py[y]);
+        place += 1;
+    }
+    row
+}
+
+// 255 where a power has, of the bits asked for, just those of the order, else 0.
+fn mask(e: u8, asked: u8, order: u8) -> u8
+    ensures { λ r. ⌜ r ≡ maskByte e asked order ⌝ }
+{
+    if e & asked == order {
+        return 255;
+    }
+    0
+}
+
+// A row, where the masks of the powers let it.
+fn kept(row: &[u8; WIDTH], es: &[u8; WIDTH], asked: u8, order: u8) -> [u8; WIDTH]
+    ensures { λ r. ⌜ r ≡ keptRow (now (row .entry)) (now (es .entry)) asked order ⌝ }
+{
+    let mut part = [0u8; WIDTH];
+    let mut k = 0;
+    while k < WIDTH {
+        part[k] = row[k] & mask(es[k], asked, order);
+        k += 1;
+    }
+    part
+}
+
+// At y = 0 the power of y has to be the order itself.
+fn asked_at(b: u8, t: u8) -> u8
+    ensures { λ r. ⌜ r ≡ askedAt b t ⌝ }
+{
+    if b == 0 {
+        return 255;
+    }
+    t
+}
+
+fn base_at(b: u8) -> u8
+    ensures { λ r. ⌜ r ≡ baseAt b ⌝ }
+{
+    if b == 0 {
+        return 1;
+    }
+    b
+}
+
+// The conditions of one order by x: the orders by y below m. Answers the place after them.
+fn order_rows(
+    rows: &mut [[u8; WIDTH]],
+    at: usize,
+    row: &[u8; WIDTH],
+    ys: &[u8; WIDTH],
+    b: u8,
+    m: u8,
+) -> usize
+    requires { ⌜ at + m ≤ length (now rows) ⌝ }
+    ensures { λ r. ⌜ r ≡ at + m ⌝ }
+    ensures { λ _. ⌜ now (rows .exit) ≡ sets (now (rows .entry)) at (keptOrder (now (row .entry)) (now (ys .entry)) b m) ⌝ }
+{
+    let mut next = at;
+    let mut t = 0u8;
+    while t < m {
+        let condition = kept(row, ys, asked_at(b, t), t);
+        rows[next] = condition;
+        next += 1;
+        t += 1;
+    }
+    next
+}
+
+// The conditions of all orders below m, of the monomials' values. Answers the place after them.
+fn orders_rows(
+    rows: &mut [[u8; WIDTH]],
+    at: usize,
+    row: &[u8; WIDTH],
+    es: &[[u8; WIDTH]; 2],
+    b: u8,
+    m: u8,
+) -> usize
+    requires { ⌜ at + length (keptOrders (now row) (now es) b m) ≤ length (now rows) ⌝ }
+    ensures { λ r. ⌜ r ≡ at + length (keptOrders (now (row .entry)) (now (es .entry)) b m) ⌝ }
+    ensures { λ _. ⌜ now (rows .exit) ≡ sets (now (rows .entry)) at (keptOrders (now (row .entry)) (now (es .entry)) b m) ⌝ }
+{
+    let mut next = at;
+    let mut s = 0u8;
+    while s < m {
+        let part = kept(row, &es[0], s, s);
+        next = order_rows(rows, next, &part, &es[1], b, m - s);
+        s += 1;
+    }
+    next
+}
+
+// The conditions of one point, of the powers of its x.
+fn point_rows(
+    rows: &mut [[u8; WIDTH]],
+    at: usize,
+    table: &[u8; 256],
+    px: &[u8; WIDTH],
+    es: &[[u8; WIDTH]; 2],
+    b: u8,
+    m: u8,
+    n: usize,
+    count: usize,
+) -> usize
+    requires { ⌜ Products (now table) ⌝ }
+    requires { ⌜ Symbols sixteen (now px) × Places (now es) ⌝ }
+    requires { ⌜ (b < sixteen .symbols) × (n ≤ width) × (count ≤ width) ⌝ }
+    requires { ⌜ at + length (maskedPoint (now px) n count (now es) b m) ≤ length (now rows) ⌝ }
+    ensures { λ r. ⌜ r ≡ at + length (maskedPoint (now (px .entry)) n count (now (es .entry)) b m) ⌝ }
+    ensures { λ _. ⌜ now (rows .exit) ≡ sets (now (rows .entry)) at (maskedPoint (now (px .entry)) n count (now (es .entry)) b m) ⌝ }
+{
+    if m == 0 {
+        return at;
+    }
+    let py = powers(table, base_at(b), n);
+    let row = values(table, px, &py, es, count);
+    orders_rows(rows, at, &row, es, b, m)
+}
+
+// The conditions of one position.
+fn column_rows(
+    rows: &mut [[u8; WIDTH]],
+    at: usize,
+    table: &[u8; 256],
+    px: &[u8; WIDTH],
+    es: &[[u8; WIDTH]; 2],
+    column: &[u8; SYMBOLS],
+    n: usize,
+    count: usize,
+) -> usize
+    requires { ⌜ Products (now table) ⌝ }
+    requires { ⌜ Symbols sixteen (now px) × Places (now es) ⌝ }
+    requires { ⌜ (n ≤ width) × (count ≤ width) ⌝ }
+    requires { ⌜ at + length (maskedColumn (now px) n count (now es) (now column)) ≤ length (now rows) ⌝ }
+    ensures { λ r. ⌜ r ≡ at + length (maskedColumn (now (px .entry)) n count (now (es .entry)) (now (column .entry))) ⌝ }
+    ensures { λ _. ⌜ now (rows .exit) ≡ sets (now (rows .entry)) at (maskedColumn (now (px .entry)) n count (now (es .entry)) (now (column .entry))) ⌝ }
+{
+    let mut next = at;
+    let mut b = 0u8;
+    while b <= GREATEST_SYMBOL {
+        let m = column[field::inside::wide(b)];
+        next = point_rows(rows, next, table, px, es, b, m, n, count);
+        b += 1;
+    }
+    next
+}
+
+// The conditions of a whole matrix, from the first row on. Answers how many there are.
+pub fn matrix_rows(
+    rows: &mut [[u8; WIDTH]],
+    table: &[u8; 256],
+    matrix: &[[u8; SYMBOLS]; POSITIONS],
+    v: usize,
+    d: usize,
+    count: usize,
+) -> usize
+    requires { ⌜ Products (now table) ⌝ }
+    requires { ⌜ (0 < v) × (d < width) × (count ≤ width) ⌝ }
+    requires { ⌜ length (maskedRows v d count (now matrix)) ≤ length (now rows) ⌝ }
+    ensures { λ r. ⌜ r ≡ length (maskedRows v d count (now (matrix .entry))) ⌝ }
+    ensures { λ _. ⌜ now (rows .exit) ≡ sets (now (rows .entry)) 0 (maskedRows v d count (now (matrix .entry))) ⌝ }
+{
+    let es = exponents(v, count);
+    let mut next = 0;
+    let mut a = 1u8;
+    let mut i = 0;
+    while i < POSITIONS {
+        let px = powers(table, a, d + 1);
+        next = column_rows(rows, next, table, &px, &es, &matrix[i], d / v + 1, count);
+        a = field::inside::look(table, ALPHA, a);
+        i += 1;
+    }
+    next
+}

@@ -11,7 +11,7 @@ use lib.Seq.{getD-set-same, getD-set-other}
 use Rattle.algebra.specs.Grid.{entryOf}
 use Rattle.definitions.specs.Code.{Symbols}
 use Rattle.definitions.specs.Field.{sixteen, numbers}
-use Rattle.elimination.specs.Dependence.{System, ExchangedIn, columnOf, ListedRows, TargetRows, Factors, DoneIn, LoweredIn, Eliminated}
+use Rattle.elimination.specs.System.{System, ExchangedIn, columnOf, ListedRows, TargetRows, Factors, DoneIn, LoweredIn, Eliminated}
 use Rattle.linear.proofs.Columns.{exchanged-block, between-none, between-more, patched-symbols, blocks-solutions, blocks-triangle}
 use Rattle.linear.proofs.Listed.{done-none, done-row, done-lowered, listed-targets}
 use Rattle.linear.specs.Columns.{Between, Exchanged, Lowered, Listed}

@@ -19,7 +19,7 @@ use Rattle.linear.proofs.Symbols.{behind-symbol}
 use Rattle.linear.proofs.Triangle.{behind-none, behind-more}
 use Rattle.linear.specs.Rows.{SymbolRows, behind, Solved}
 use Rattle.field.proofs.Instance.{sixteen-field}
-use Rattle.elimination.specs.Dependence.{SymbolsBetween, oneOf, ListedRows}
+use Rattle.elimination.specs.System.{SymbolsBetween, oneOf, ListedRows}
 
 -- nothing is added yet
 pub back-none : (y s : ℕ) (r q : ℕ → ℕ) → y ≡ behind (numbers sixteen) y s (s + 1) r q

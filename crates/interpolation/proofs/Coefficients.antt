@@ -17,7 +17,7 @@ use Rattle.definitions.specs.Code.{Symbols}
 use Rattle.definitions.specs.Field.{sixteen}
 use Rattle.definitions.specs.Limits.{greatestLimit}
 use Rattle.definitions.specs.Polynomial.{Interpolates, Through, isZero, leading}
-use Rattle.elimination.specs.Dependence.{System, Within, Eliminated}
+use Rattle.elimination.specs.System.{System, Within, Eliminated}
 use Rattle.linear.proofs.Back.{coefficients-size, coefficients-back, coefficients-one, coefficients-end, coefficients-written}
 use Rattle.linear.proofs.Leading.{zero-after, leading-is}
 use Rattle.linear.proofs.Narrow.{narrow-solves, narrow-least}

@@ -9,7 +9,7 @@ use lib.ListN.{length, getD, replicate, getD-replicate, length-replicate, List·
 use Rattle.definitions.proofs.Symbols.{replicate-symbols}
 use Rattle.definitions.specs.Code.{Symbols}
 use Rattle.definitions.specs.Field.{sixteen}
-use Rattle.elimination.specs.Dependence.{System}
+use Rattle.elimination.specs.System.{System}
 use Rattle.blocks.specs.Row.{width}
 
 -- rows of zeros are a system

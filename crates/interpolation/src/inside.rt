@@ -5,16 +5,16 @@ ghost use lib.ListN.{length};
 ghost use Rattle.definitions.specs.Bound.{bound};
 ghost use Rattle.definitions.specs.Field.{sixteen};
 ghost use Rattle.definitions.specs.Limits.{greatestLimit};
-ghost use Rattle.elimination.specs.Dependence.{System};
+ghost use Rattle.elimination.specs.System.{System};
 ghost use Rattle.linear.specs.Rows.{Led};
 ghost use Rattle.interpolation.specs.Found.{Given, Found};
 ghost use Rattle.blocks.specs.Row.{block};
 ghost use Rattle.weights.specs.Matrix.{matrixCost};
+use blocks::BLOCK;
+use blocks::WIDTH;
 use refusals::limits::GREATEST_LIMIT;
 use refusals::limits::POSITIONS;
 use refusals::limits::SYMBOLS;
-use blocks::BLOCK;
-use blocks::WIDTH;
 
 // 1 at place j, and zeros behind it.
 fn lead(j: usize, count: usize, out: &mut [u8])
@@ -45,10 +45,10 @@ fn polynomial_in(
 {
     let table = field::inside::products();
     let blocks = cost / BLOCK + 1;
-    let rows = conditions::inside::matrix_rows(system, &table, matrix, v, d, count);
-    let leading = elimination::inside::first_dependent(system, &table, rows, blocks);
+    let rows = conditions::matrix_rows(system, &table, matrix, v, d, count);
+    let leading = elimination::first_dependent(system, &table, rows, blocks);
     lead(leading, count, out);
-    elimination::inside::solve(system, &table, leading, out);
+    elimination::solve(system, &table, leading, out);
     leading
 }
 

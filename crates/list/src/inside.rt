@@ -7,12 +7,12 @@ ghost use Rattle.definitions.specs.Limits.{greatestLimit, greatestRows};
 ghost use Rattle.list.specs.Within.{Loaded, ListsOf, PricedOf};
 ghost use Rattle.refusals.specs.Counted.{toldCounted};
 ghost use Rattle.weights.specs.Matrix.{matrixCost};
+use blocks::WIDTH;
 use refusals::Counted;
 use refusals::Refusal;
 use refusals::limits::GREATEST_ROWS;
 use refusals::limits::POSITIONS;
 use refusals::limits::SYMBOLS;
-use blocks::WIDTH;
 
 fn narrow(x: usize) -> u16
     requires { ⌜ x < 65536 ⌝ }

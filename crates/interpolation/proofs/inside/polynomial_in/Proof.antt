@@ -2,7 +2,7 @@
 use Prim.Native.Nat.{_+_, _/_, _≤_, _<_}
 use native.Mathlib.Omega.{arith}
 use lib.ListN.{length}
-use Rattle.elimination.specs.Dependence.{System, Within}
+use Rattle.elimination.specs.System.{System, Within}
 use Rattle.interpolation.proofs.Coefficients.{degree-small, row-fits, rows-priced, more, start-system, start-within, polynomial-found}
 use Rattle.blocks.specs.Row.{block, width}
 use borrow.Author.Needs.{needs}

@@ -1,0 +1,14 @@
+-- Each return is one side of the choice.
+use lib.Bits.{bitAnd}
+use Rattle.conditions.proofs.Masks.{chosen-equal, chosen-unequal}
+use Rattle.conditions.proofs.mask.Statement.{statement}
+use Rattle.conditions.proofs.mask.Tie as tie
+
+returns : tie.Need-returns
+returns c = let a = c .before .args in chosen-equal (bitAnd (a .e) (a .asked)) (a .order) 255 0 (c .if1 .taken)
+
+returns-2 : tie.Need-returns-2
+returns-2 c = let a = c .before .args in chosen-unequal (bitAnd (a .e) (a .asked)) (a .order) 255 0 (c .if1 .left)
+
+pub mask-spec : {M : Type 1} → statement M
+mask-spec = tie.close (tie.spec returns returns-2)

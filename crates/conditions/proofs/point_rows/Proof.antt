@@ -1,0 +1,74 @@
+-- The values at the point, and the rows of its orders; a point without multiplicity has none.
+use mathlib.Core.List.{List}
+use mathlib.Core.Path.{_≡_, sym, _∙_, ap, subst}
+use Prim.Native.Nat.{ℕ, _+_, _≤_}
+use native.Mathlib.Omega.{arith}
+use borrow.Author.Needs.{needs}
+use lib.ListN.{length}
+use lib.Seq.{sets}
+use Rattle.conditions.proofs.Masks.{orders-none, powers-symbols, base-symbol}
+use Rattle.conditions.specs.Masks.{baseAt, powersRow, valuesRow, keptOrders}
+use Rattle.definitions.specs.Code.{Symbols}
+use Rattle.definitions.specs.Field.{sixteen}
+use Rattle.conditions.proofs.point_rows.Statement.{statement}
+use Rattle.conditions.proofs.point_rows.Tie as tie
+
+returns : tie.Need-returns
+returns c =
+    let a = c .before .args in
+    let none = orders-none (valuesRow (a .count) (a .px .now) (powersRow (a .n) (baseAt (a .b))) (a .es .now)) (a .es .now) (a .b) (a .m) (c .if1 .taken) in
+    (omega (arith, ap length none), ap (sets (a .rows .now) (a .at)) (sym none))
+
+powers-requires : tie.Need-powers-requires
+powers-requires c κs =
+    let s = c .before .before in
+    let h = base-symbol (s .args .b) (omega arith) in
+    let e = c .base-at .ensures in
+    (s .pre .0, (omega arith, omega arith))
+
+-- the powers of y
+of-y : (c : tie.After-powers) → (let a = c .before .before .before .args in c .powers .result ≡ powersRow (a .n) (baseAt (a .b)))
+of-y c = c .powers .ensures ∙ ap (powersRow (c .before .before .before .args .n)) (c .before .base-at .ensures)
+
+values-requires : tie.Need-values-requires
+values-requires c κs =
+    let p = c .before in
+    let s = p .before .before .before in
+    let a = s .args in
+    (s .pre .0, ((s .pre .1 .0 .0, subst (Symbols sixteen) (sym (of-y p)) (powers-symbols (a .n) (baseAt (a .b)) (base-symbol (a .b) (omega arith)))), (s .pre .1 .0 .1, omega arith)))
+
+-- the values at the point
+at-point : (c : tie.After-values)
+    → (let a = c .before .before .before .before .before .args in c .values .result ≡ valuesRow (a .count) (a .px .now) (powersRow (a .n) (baseAt (a .b))) (a .es .now))
+at-point c =
+    let p = c .before .before in
+    let a = p .before .before .before .args in
+    c .values .ensures ∙ ap (λ (py : List ℕ). valuesRow (a .count) (a .px .now) py (a .es .now)) (of-y p)
+
+orders-rows-requires : tie.Need-orders-rows-requires
+orders-rows-requires c κs =
+    let v = c .before .before in
+    let s = v .before .before .before .before .before in
+    let a = s .args in
+    subst (λ (row : List ℕ). a .at + length (keptOrders row (a .es .now) (a .b) (a .m)) ≤ length (a .rows .now)) (sym (at-point v)) (s .pre .1 .1 .1)
+
+returns-2 : tie.Need-returns-2
+returns-2 c =
+    let o = c .before in
+    let v = o .before .before .before in
+    let a = v .before .before .before .before .before .args in (
+      o .orders-rows .ensures .0 ∙ ap (λ (row : List ℕ). a .at + length (keptOrders row (a .es .now) (a .b) (a .m))) (at-point v),
+      o .orders-rows .ensures .1 ∙ ap (λ (row : List ℕ). sets (a .rows .now) (a .at) (keptOrders row (a .es .now) (a .b) (a .m))) (at-point v),
+    )
+
+pub point-rows-spec : {M : Type 1} → statement M
+point-rows-spec =
+    tie.close
+    (tie.spec
+    returns
+    (λ c κs. search needs)
+    powers-requires
+    values-requires
+    orders-rows-requires
+    (λ c. search needs)
+    returns-2)

@@ -1,0 +1,130 @@
+-- Each pass takes from one row more of those listed.
+use mathlib.Core.List.{[]}
+use mathlib.Core.Path.{_≡_, subst}
+use Prim.Native.Nat.{ℕ, _+_, _-_, _≤_, _<_}
+use native.Mathlib.Omega.{arith}
+use lib.ListN.{length, getD}
+use Rattle.definitions.specs.Field.{sixteen}
+use Rattle.elimination.proofs.Blocks.{rows-undone, rows-done}
+use Rattle.elimination.specs.System.{DoneIn}
+use Rattle.blocks.proofs.Blocks.{block-symbols}
+use Rattle.blocks.specs.Row.{block}
+use borrow.Author.Needs.{needs}
+use Rattle.elimination.proofs.clear_block.Statement.{statement}
+use Rattle.elimination.proofs.clear_block.Tie as tie
+
+abbrev Inv-loop : tie.InvT-loop
+Inv-loop system₀ at j places c n times i₀ system i = (i ≤ n) × DoneIn at (at + block) j i places c system₀ system
+
+abbrev μ-loop : tie.MeasureT-loop
+μ-loop system₀ at j places c n times i₀ system i = n - i
+
+multiples-requires : tie.Need-multiples-requires Inv-loop μ-loop
+multiples-requires c κs =
+    let k = c .before in
+    let s = k .before .before in
+    block-symbols (s .args .at) (getD (s .args .system .now) (s .args .j) []) (k .block .result) (s .pre .0 .symbols (s .args .j)) (k .block .ensures)
+
+loop-holds : tie.Need-loop-holds Inv-loop μ-loop
+loop-holds c =
+    let s = c .before .before .before .before in
+    let a = s .args in
+    (omega arith, rows-undone (a .at) (a .j) (a .places .now) (a .c .now) (a .system .now) (s .pre .0))
+
+abbrev entry : tie.In-loop Inv-loop μ-loop → tie.Start Inv-loop μ-loop
+entry c = c .before .before .before .before .before .before
+
+-- the row is there
+target : (c : tie.After-wide Inv-loop μ-loop) → c .wide .result < length (c .before .before .before .loop .system)
+target c =
+    let n = c .before .before in
+    let l = n .before .loop in
+    let h = entry n .pre .1 .1 .0 .within (l .i) (n .loop-test .taken) in
+    let e = l .inv .1 .size in
+    let f = c .wide .ensures .0 in
+    omega arith
+
+-- the factor is a symbol
+factor : (c : tie.After-wide2 Inv-loop μ-loop) → c .wide2 .result < sixteen .symbols
+factor c =
+    let n = c .before .before .before .before in
+    let h = entry n .pre .1 .1 .1 (n .before .loop .i) (n .loop-test .taken) in
+    let f = c .wide2 .ensures .0 in
+    omega arith
+
+index-1-block-2 : tie.Need-index-1-block-2 Inv-loop μ-loop
+index-1-block-2 c = let h = target (c .before .before) in omega arith
+
+index-1-summed : tie.Need-index-1-summed Inv-loop μ-loop
+index-1-summed c = let h = factor (c .before .before .before) in omega arith
+
+abbrev read : tie.After-summed Inv-loop μ-loop → tie.After-wide2 Inv-loop μ-loop
+read c = c .before .before .before .before .before
+
+index-1-put : tie.Need-index-1-put Inv-loop μ-loop
+index-1-put c = let h = target (read c .before .before) in omega arith
+
+put-requires : tie.Need-put-requires Inv-loop μ-loop
+put-requires c κs =
+    let w = read (c .before .before) .before .before in
+    let n = w .before .before in
+    (entry n .pre .1 .0 .0, n .before .loop .inv .1 .system .wide (w .wide .result) (target w))
+
+loop-again : tie.Need-loop-again Inv-loop μ-loop
+loop-again c =
+    let m = c .before .before .before in
+    let k = m .before .before .before in
+    let x = read m in
+    let w = x .before .before in
+    let n = w .before .before in
+    let l = n .before in
+    let t = l .before in
+    let f = t .before .before in
+    let s = entry n in
+    let a = s .args in
+    let low = n .loop-test .taken in (
+      omega arith,
+      rows-done (a .at) (a .j) (a .places .now) (a .c .now) (l .loop .i) (a .n) (a .system .now) (l .loop .system) (w .wide .result) (x .wide2 .result) (f .block .result) (k .block2 .result)
+          (m .summed .result) (c .put .last .0) (t .multiples .result) low (s .pre .0) (s .pre .1 .1 .0) (l .loop .inv .1) (w .wide .ensures .0) (x .wide2 .ensures .0) (factor x)
+          (f .block .ensures) (t .multiples .ensures) (k .block2 .ensures) (m .summed .ensures) (c .put .ensures),
+    )
+
+same-length : tie.Need-same-length Inv-loop μ-loop
+same-length c = c .before .loop .inv .1 .size
+
+returns : tie.Need-returns Inv-loop μ-loop
+returns c =
+    let l = c .before in
+    let a = l .before .before .before .before .before .args in
+    let e : l .loop .i ≡ a .n = omega arith in
+    subst (λ (n : ℕ). DoneIn (a .at) (a .at + block) (a .j) n (a .places .now) (a .c .now) (a .system .now) (l .loop .system)) e (l .loop .inv .1)
+
+pub clear-block-spec : {M : Type 1} → statement M
+clear-block-spec =
+    tie.close
+    (tie.spec
+    Inv-loop
+    μ-loop
+    (λ c. search needs)
+    (λ c. search needs)
+    (λ c κs. search needs)
+    multiples-requires
+    loop-holds
+    (λ c. search needs)
+    (λ c κs. search needs)
+    (λ c. search needs)
+    (λ c κs. search needs)
+    (λ c. search needs)
+    index-1-block-2
+    (λ c κs. search needs)
+    (λ c. search needs)
+    index-1-summed
+    (λ c κs. search needs)
+    (λ c. search needs)
+    index-1-put
+    put-requires
+    (λ c. search needs)
+    (λ c. search needs)
+    loop-again
+    same-length
+    returns)

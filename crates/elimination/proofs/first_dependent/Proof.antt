@@ -1,0 +1,96 @@
+-- The inner loop looks for a row that is not zero in column j, the outer one makes it the pivot; where there is none, column j depends.
+use mathlib.Core.Path.{_≡_}
+use Prim.Native.Nat.{_+_, _*_, _-_, _≤_, _<_}
+use native.Mathlib.Omega.{arith}
+use Rattle.elimination.proofs.Steps.{ZeroFrom, none-zero, zero-more, eliminated-none, eliminated-more}
+use Rattle.elimination.specs.System.{Eliminated, Within}
+use Rattle.blocks.specs.Row.{block}
+use borrow.Author.Needs.{needs}
+use Rattle.elimination.proofs.first_dependent.Statement.{statement}
+use Rattle.elimination.proofs.first_dependent.Tie as tie
+
+abbrev Inv-down : tie.InvT-down
+Inv-down system table rows blocks j r₀ r = (j ≤ r) × (r ≤ rows) × ZeroFrom j r system
+
+abbrev μ-down : tie.MeasureT-down
+μ-down system table rows blocks j r₀ r = rows - r
+
+abbrev Inv-search : tie.InvT-search
+Inv-search system₀ table rows blocks j₀ system j = (j ≤ rows) × Eliminated rows (blocks * block) j system₀ system
+
+abbrev μ-search : tie.MeasureT-search
+μ-search system₀ table rows blocks j₀ system j = rows - j
+
+search-holds : tie.Need-search-holds Inv-down μ-down Inv-search μ-search
+search-holds c =
+    let a = c .args in
+    (omega arith, eliminated-none (a .rows) (a .blocks * block) (a .system .now) (c .pre .0))
+
+down-holds : tie.Need-down-holds Inv-down μ-down Inv-search μ-search
+down-holds c =
+    let l = c .search in
+    (omega arith, omega arith, none-zero (l .j) (l .system))
+
+-- the rows and blocks that are worked on are there still
+within : (c : tie.At-search Inv-down μ-down Inv-search μ-search) → (let a = c .before .args in Within (a .rows) (a .blocks) (c .search .system))
+within c =
+    let w = c .before .pre .1 .1 in
+    let e = c .search .inv .1 .size in
+    record { there = let t = w .there in omega arith; few = w .few; fewer = w .fewer; inside = w .inside }
+
+down-again : tie.Need-down-again Inv-down μ-down Inv-search μ-search
+down-again c =
+    let d = c .before .before .before in
+    let l = d .before .search in
+    (omega arith, omega arith, zero-more (l .j) (d .down .r) (l .system) (d .down .inv .2) (c .if2 .left))
+
+pivot-requires : tie.Need-pivot-requires Inv-down μ-down Inv-search μ-search
+pivot-requires c κs =
+    let d = c .before .before .before .before in
+    let l = d .before in
+    let r : d .down .r < l .before .args .rows = omega arith in
+    let e = l .search .inv .1 in
+    (e .system, (l .before .pre .1 .0, (within l, ((d .down .inv .0, r), (e .triangle, c .before .if2 .taken)))))
+
+search-again : tie.Need-search-again Inv-down μ-down Inv-search μ-search
+search-again c =
+    let p = c .before in
+    let d = p .before .before .before .before .before in
+    let l = d .before .search in
+    let a = d .before .before .args in
+    let h : l .j + 1 ≤ a .rows = omega arith in
+    (h, eliminated-more (a .rows) (a .blocks * block) (l .j) (l .j + 1) (a .system .now) (l .system) (p .pivot .last .0) (l .inv .1) (p .pivot .ensures))
+
+same-length : tie.Need-same-length Inv-down μ-down Inv-search μ-search
+same-length c = c .before .before .search .inv .1 .size
+
+returns : tie.Need-returns Inv-down μ-down Inv-search μ-search
+returns c =
+    let d = c .before .down in
+    let l = c .before .before in
+    let e : d .r ≡ l .before .args .rows = c .if1 .taken in
+    let i = l .search .inv in
+    (i .0, (i .1, (i .1 .triangle, λ t h k. d .inv .2 t h (omega arith))))
+
+pub first-dependent-spec : {M : Type 1} → statement M
+first-dependent-spec =
+    tie.close
+    (tie.spec
+    Inv-down
+    μ-down
+    Inv-search
+    μ-search
+    search-holds
+    down-holds
+    (λ c. search needs)
+    (λ c. search needs)
+    (λ c. search needs)
+    (λ c. search needs)
+    (λ c. search needs)
+    down-again
+    pivot-requires
+    (λ c. search needs)
+    (λ c. search needs)
+    search-again
+    same-length
+    returns)

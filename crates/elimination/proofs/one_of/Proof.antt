@@ -1,0 +1,18 @@
+-- Zero gives 0, and all else 1.
+use native.Mathlib.Omega.{arith}
+use Rattle.elimination.proofs.Solving.{one-of-zero, one-of-other}
+use Rattle.elimination.proofs.one_of.Statement.{statement}
+use Rattle.elimination.proofs.one_of.Tie as tie
+
+returns : tie.Need-returns
+returns c = (one-of-zero (c .before .args .x) (c .if1 .taken), omega arith)
+
+returns-2 : tie.Need-returns-2
+returns-2 c = (one-of-other (c .before .args .x) (c .if1 .left), omega arith)
+
+pub one-of-spec : {M : Type 1} → statement M
+one-of-spec =
+    tie.close
+    (tie.spec
+    returns
+    returns-2)
