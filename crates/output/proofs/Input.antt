@@ -18,7 +18,8 @@ use Rattle.definitions.specs.Tools.{below}
 use Rattle.definitions.specs.Weights.{matrix}
 use Rattle.output.specs.Program.{listText, symbolsOfRows, answerTo, headerBytes, output}
 use Rattle.output.specs.Rooms.{greatestNumbers, longest}
-use Rattle.text.specs.Text.{numberAt, numbersOf, refusedLine}
+use Rattle.numbers.specs.Numbers.{numberAt, numbersOf}
+use Rattle.text.specs.Text.{refusedLine}
 
 -- fewer bytes than the header has, and others
 pub no-header : (input : List ℕ) → length input < headerBytes → refusedLine 3 0 ≡ output input

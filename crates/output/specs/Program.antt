@@ -12,7 +12,8 @@ use Rattle.definitions.specs.Limits.{greatestRows}
 use Rattle.definitions.specs.Listing.{listOf}
 use Rattle.definitions.specs.Refusals.{tried, readTable}
 use Rattle.definitions.specs.Weights.{matrix, score}
-use Rattle.text.specs.Text.{numbersOf, listedLine, rowLine, rowLines, refusedLine}
+use Rattle.numbers.specs.Numbers.{numbersOf}
+use Rattle.text.specs.Text.{listedLine, rowLine, rowLines, refusedLine}
 
 -- "It writes `listed N`, then for each row `score S message H`"
 abbrev pub listText : ℕ → ℕ → List ℕ → List ℕ

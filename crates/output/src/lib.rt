@@ -85,7 +85,7 @@ fn answer_to(input: &[u8], out: &mut [u8]) -> usize
     let level = field::inside::wide(input[2]);
     let limit = field::inside::wide(input[3]);
     let mut numbers = [0u16; NUMBERS];
-    let count = text::numbers(&input[HEADER..], &mut numbers);
+    let count = numbers::read(&input[HEADER..], &mut numbers);
     answer(n, k, level, limit, &numbers[..count], out)
 }
 

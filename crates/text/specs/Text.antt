@@ -1,21 +1,12 @@
--- What the program reads and writes: bytes to numbers, numbers to text. A text is the list of its ASCII codes.
+-- What the program writes: numbers and rows as text. A text is the list of its ASCII codes.
 -- Assumes nothing.
 use mathlib.Core.Bool.{cond}
 use mathlib.Core.List.{List, [], _∷_, _++_, map}
 use mathlib.Core.Path.{_≡_}
 use Prim.Native.Nat.{ℕ, zero, suc, _+_, _*_, _/_, _%_}
-use lib.Dec.{eqb, ltb}
+use lib.Dec.{ltb}
 use lib.ListN.{length, take, drop, getD}
-use Rattle.definitions.specs.Tools.{below}
 use Rattle.memory.specs.Laid.{laid}
-
--- "numbers, low byte first": number i is at bytes 2i and 2i + 1
-abbrev pub numberAt : List ℕ → ℕ → ℕ
-numberAt bytes i = getD bytes (2 * i) 0 + 256 * getD bytes (2 * i + 1) 0
-
--- the numbers of the bytes; none where a byte is left over, which is a wrong length for any n
-abbrev pub numbersOf : List ℕ → List ℕ
-numbersOf bytes = cond (eqb (length bytes % 2) 0) (map (numberAt bytes) (below (length bytes / 2))) []
 
 -- the last hexadecimal digit of a number, "lower case": a symbol has no other
 abbrev pub hexDigit : ℕ → ℕ

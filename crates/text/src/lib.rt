@@ -1,12 +1,12 @@
-// Numbers from bytes, and numbers and rows as text: text is put in memory at a place, and the place where it ends is answered.
-ghost use mathlib.Core.List.{_++_, map};
+// Numbers and rows as text: text is put in memory at a place, and the place where it ends is answered.
+ghost use mathlib.Core.List.{map};
 ghost use mathlib.Core.Path.{_≡_};
 ghost use Prim.Native.Nat.{_+_, _*_, _≤_, _<_};
-ghost use lib.ListN.{length, drop};
+ghost use lib.ListN.{length};
 ghost use Rattle.definitions.specs.Field.{sixteen};
 ghost use Rattle.definitions.specs.Limits.{greatestRows};
 ghost use Rattle.text.specs.Rooms.{greatestDigits, listedRoom, refusedRoom, rowRoom, longestRowRoom, rowsRoom};
-ghost use Rattle.text.specs.Text.{numbersOf, hexDigit, decimal, listedLine, rowLine, refusedLine, lineOf, rowLines, Puts};
+ghost use Rattle.text.specs.Text.{hexDigit, decimal, listedLine, rowLine, refusedLine, lineOf, rowLines, Puts};
 
 pub mod rooms;
 
@@ -23,30 +23,6 @@ const BASE: u8 = 16;
 const DIGITS: u8 = b'0';
 
 const LETTERS: u8 = b'a' - 10;
-
-fn number(low: u8, high: u8) -> u16
-    ensures { λ r. ⌜ r ≡ low + 256 * high ⌝ }
-{
-    low as u16 + 256 * high as u16
-}
-
-// The numbers of the bytes, to the front of out; answers how many.
-pub fn numbers(bytes: &[u8], out: &mut [u16]) -> usize
-    requires { ⌜ length (now bytes) ≤ 2 * length (now out) ⌝ }
-    ensures count { λ r. ⌜ r ≡ length (numbersOf (now (bytes .entry))) ⌝ }
-    ensures memory { λ _. ⌜ now (out .exit) ≡ numbersOf (now (bytes .entry)) ++ drop (length (numbersOf (now (bytes .entry)))) (now (out .entry)) ⌝ }
-{
-    if bytes.len() % 2 != 0 {
-        return 0;
-    }
-    let count = bytes.len() / 2;
-    let mut i = 0;
-    while i < count {
-        out[i] = number(bytes[2 * i], bytes[2 * i + 1]);
-        i += 1;
-    }
-    count
-}
 
 fn put(out: &mut [u8], at: usize, words: &[u8]) -> usize
     requires { ⌜ at + length (now words) ≤ length (now out) ⌝ }

@@ -6,7 +6,8 @@ use lib.ListN.{length, take, drop, replicate}
 use Rattle.output.proofs.Input.{no-header, header, in-front, front-within, bytes-are}
 use Rattle.output.specs.Program.{headerBytes}
 use Rattle.output.specs.Rooms.{numbersRead}
-use Rattle.text.specs.Text.{numbersOf, Puts}
+use Rattle.numbers.specs.Numbers.{numbersOf}
+use Rattle.text.specs.Text.{Puts}
 use borrow.Author.Needs.{needs}
 use Rattle.output.proofs.answer_to.Statement.{statement}
 use Rattle.output.proofs.answer_to.Tie as tie
@@ -47,25 +48,25 @@ shared-slice-read-wide-4 c = search needs
 wide-requires-4 : tie.Need-wide-requires-4
 wide-requires-4 c κs = search needs
 
-sub-numbers : tie.Need-sub-numbers
-sub-numbers c = search needs
+sub-read : tie.Need-sub-read
+sub-read c = search needs
 
-part-numbers-start : tie.Need-part-numbers-start
-part-numbers-start c = search needs
+part-read-start : tie.Need-part-read-start
+part-read-start c = search needs
 
-part-numbers-end : tie.Need-part-numbers-end
-part-numbers-end c = search needs
+part-read-end : tie.Need-part-read-end
+part-read-end c = search needs
 
-slice-aggregate-numbers : tie.Need-slice-aggregate-numbers
-slice-aggregate-numbers c = search needs
+slice-aggregate-read : tie.Need-slice-aggregate-read
+slice-aggregate-read c = search needs
 
-numbers-requires : tie.Need-numbers-requires
-numbers-requires c κs = search needs
+read-requires : tie.Need-read-requires
+read-requires c κs = search needs
 
 array-share-prefix-numbers : tie.Need-array-share-prefix-numbers
 array-share-prefix-numbers c =
     let input = c .before .before .before .before .before .before .before .before .before .before .before .before .before .before .before .args .input .now in
-    let d = c .before .numbers2 in
+    let d = c .before .read in
     let words = numbersOf (take (length input - headerBytes) (drop headerBytes input)) in
     let rest : List ℕ = drop (length words) (replicate numbersRead 0) in
     front-within words rest (d .last .1 .0) (d .result) (d .ensures .0) (d .ensures .1)
@@ -73,7 +74,7 @@ array-share-prefix-numbers c =
 slice-aggregate-answer : tie.Need-slice-aggregate-answer
 slice-aggregate-answer c =
     let input = c .before .before .before .before .before .before .before .before .before .before .before .before .before .before .before .before .args .input .now in
-    let d = c .before .before .numbers2 in
+    let d = c .before .before .read in
     let words = numbersOf (take (length input - headerBytes) (drop headerBytes input)) in
     let rest : List ℕ = drop (length words) (replicate numbersRead 0) in
     d .ensures .0 ∙ sym (ap length (in-front words rest (d .last .1 .0) (d .result) (d .ensures .0) (d .ensures .1)))
@@ -87,7 +88,7 @@ same-length-2 c = search needs
 returns-2 : tie.Need-returns-2
 returns-2 c =
     let input = c .before .before .before .before .before .before .before .before .before .before .before .before .before .before .before .before .before .before .before .before .args .input .now in
-    let d = c .before .before .before .before .before .before .numbers2 in
+    let d = c .before .before .before .before .before .before .read in
     let words = numbersOf (take (length input - headerBytes) (drop headerBytes input)) in
     let rest : List ℕ = drop (length words) (replicate numbersRead 0) in
     let s = c .before .before .before .before .before .before .before .before .before .before .before .before .before .before .before .before .before .before .before .before in
@@ -112,11 +113,11 @@ answer-to-spec =
     wide-requires-3
     shared-slice-read-wide-4
     wide-requires-4
-    sub-numbers
-    part-numbers-start
-    part-numbers-end
-    slice-aggregate-numbers
-    numbers-requires
+    sub-read
+    part-read-start
+    part-read-end
+    slice-aggregate-read
+    read-requires
     array-share-prefix-numbers
     slice-aggregate-answer
     answer-requires

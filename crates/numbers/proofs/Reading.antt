@@ -9,7 +9,7 @@ use lib.ListN.{length, drop, set}
 use Rattle.definitions.proofs.Loops.{map-more}
 use Rattle.definitions.proofs.Tools.{below-zero, length-map-below}
 use Rattle.definitions.specs.Tools.{below}
-use Rattle.text.specs.Text.{numberAt, numbersOf}
+use Rattle.numbers.specs.Numbers.{numberAt, numbersOf}
 
 -- a loop that reads one number after the other: bytes that give none, a turn, and its end
 module _ (bytes out : List ℕ) where

@@ -1,7 +1,7 @@
 -- The low byte, and 256 times the high one.
 use borrow.Author.Needs.{needs}
-use Rattle.text.proofs.number.Statement.{statement}
-use Rattle.text.proofs.number.Tie as tie
+use Rattle.numbers.proofs.number.Statement.{statement}
+use Rattle.numbers.proofs.number.Tie as tie
 
 returns : tie.Need-returns
 returns c = search needs

@@ -5,10 +5,10 @@ use mathlib.Core.List.{_++_, map}
 use lib.ListN.{length, drop, length-set}
 use native.Mathlib.Omega.{arith}
 use Rattle.definitions.specs.Tools.{below}
-use Rattle.text.proofs.Reading.{none-read, read-begun, read-turned, all-read}
-use Rattle.text.specs.Text.{numberAt}
-use Rattle.text.proofs.numbers.Statement.{statement}
-use Rattle.text.proofs.numbers.Tie as tie
+use Rattle.numbers.proofs.Reading.{none-read, read-begun, read-turned, all-read}
+use Rattle.numbers.specs.Numbers.{numberAt}
+use Rattle.numbers.proofs.read.Statement.{statement}
+use Rattle.numbers.proofs.read.Tie as tie
 
 abbrev Inv-loop : tie.InvT-loop
 Inv-loop bytes out₀ count i₀ out i = (i ≤ length bytes / 2) × (length out ≡ length out₀) × (out ≡ map (numberAt bytes) (below i) ++ drop i out₀)
@@ -71,8 +71,8 @@ returns-2 c =
     let e : l .loop .i ≡ length (s .args .bytes .now) / 2 = omega arith in
     all-read (s .args .bytes .now) (s .args .out .now) (l .loop .out) (l .loop .i) (l .before .if1 .left) e (l .loop .inv .2)
 
-pub numbers-spec : {M : Type 1} → statement M
-numbers-spec =
+pub read-spec : {M : Type 1} → statement M
+read-spec =
     tie.close
     (tie.spec
     Inv-loop
