@@ -10,6 +10,7 @@ use Rattle.definitions.proofs.Table.{Accepts, stop, next, end, gives, accepts, 
 use Rattle.definitions.specs.Answers.{Answer, refused, counted}
 use Rattle.definitions.specs.Field.{sixteen}
 use Rattle.definitions.specs.Limits.{greatestLevel, greatestLimit, greatestRows}
+use Rattle.definitions.specs.Listing.{listOf}
 use Rattle.definitions.specs.Refusals.{Line, sizes, level, limit, entries, room, entriesOf, costWithin}
 use Rattle.definitions.specs.Weights.{cost}
 use Rattle.list.specs.Within.{Lists, Answered}
@@ -42,7 +43,7 @@ module _ (n k : ℕ) (m rows scores : List ℕ) where
         let g = stop {l = costWithin G m} {table = []} (lt-ltb G (cost m) h) in
         (gives refused _ g, (gives (λ _ _. rows) _ g, (gives (λ _ _. scores) _ g, omega arith)))
 
-    pub listed : cost m ≤ G → (count : ℕ) (rowsAfter scoresAfter : List ℕ) → Lists n k m rows scores count rowsAfter scoresAfter
+    pub listed : cost m ≤ G → (count : ℕ) (rowsAfter scoresAfter : List ℕ) → Lists n k m (listOf sixteen n k m) rows scores count rowsAfter scoresAfter
         → Answered (costWithin G m ∷ []) n k m rows scores (counted count) rowsAfter scoresAfter
     listed h count rowsAfter scoresAfter w =
         let a = next {l = costWithin G m} {table = []} (le-ltb G (cost m) h) end in

@@ -33,9 +33,6 @@ module _ (n k price : ℕ) (hk : 2 ≤ k) (hn : k ≤ n) (small : n ≤ sixteen 
     price-is-cost : price ≡ cost m
     price-is-cost = paid ∙ ap matrixCost loaded ∙ matrix-cost m n small size
 
-    pub cost-cheap : cost m ≤ greatestLimit
-    cost-cheap = let e = price-is-cost in omega arith
-
     pub bound-of-cost : D ≡ bound (k - 1) (cost m)
     bound-of-cost = is-bound ∙ ap (bound (k - 1)) price-is-cost
 

@@ -1,30 +1,57 @@
 -- What the inner list leaves, of a matrix held by value.
 -- Assumes nothing.
+use mathlib.Core.Bool.{false}
 use mathlib.Core.List.{List, [], _∷_}
 use mathlib.Core.Path.{_≡_}
-use Prim.Native.Nat.{ℕ, _*_, _≤_}
+use Prim.Native.Nat.{ℕ, _*_, _-_, _/_, _≤_, _<_}
+use lib.Dec.{ltb}
 use lib.ListN.{length}
 use Rattle.definitions.specs.Answers.{Answer, refused, counted, rowsOnto, scoresOnto}
+use Rattle.definitions.specs.Bound.{count}
+use Rattle.definitions.specs.Code.{Symbols}
 use Rattle.definitions.specs.Field.{sixteen}
-use Rattle.definitions.specs.Limits.{greatestRows}
-use Rattle.definitions.specs.Listing.{listOf}
+use Rattle.definitions.specs.Limits.{greatestCount, greatestRows}
+use Rattle.definitions.specs.Listing.{fallingOnto, listOf}
+use Rattle.definitions.specs.Polynomial.{isZero}
 use Rattle.definitions.specs.Refusals.{Line, tried, costWithin}
+use Rattle.definitions.specs.Roots.{rootsOf}
+use Rattle.definitions.specs.Tools.{select}
+use Rattle.definitions.specs.Weights.{score}
 use Rattle.weights.specs.Matrix.{matrixOf}
 
 -- the matrix was loaded from the bytes of n positions
 abbrev pub Loaded : List (List ℕ) → ℕ → Type 0
 Loaded a n = (m : List ℕ) × (length m ≡ sixteen .symbols * n) × (a ≡ matrixOf m n)
 
--- the list of those bytes: how many rows, never more than the lent memory takes, and the memory after
-pub record Lists (n k : ℕ) (m rows scores : List ℕ) (count : ℕ) (rowsAfter scoresAfter : List ℕ) : Type 0 where
-  pub counted : count ≡ length (listOf sixteen n k m)
+-- rows that are listed: how many, never more than the lent memory takes, and the memory after
+pub record Lists (n k : ℕ) (m : List ℕ) (listed : List (List ℕ)) (rows scores : List ℕ) (count : ℕ) (rowsAfter scoresAfter : List ℕ) : Type 0 where
+  pub counted : count ≡ length listed
   pub few : count ≤ greatestRows
-  pub rows-are : rowsAfter ≡ rowsOnto sixteen k (listOf sixteen n k m) rows
-  pub scores-are : scoresAfter ≡ scoresOnto sixteen n m (listOf sixteen n k m) scores
+  pub rows-are : rowsAfter ≡ rowsOnto sixteen k listed rows
+  pub scores-are : scoresAfter ≡ scoresOnto sixteen n m listed scores
 
+-- the y-roots whose score is greater than t, by falling score
+abbrev pub rootsAbove : ℕ → ℕ → List ℕ → ℕ → List ℕ → ℕ → List (List ℕ)
+rootsAbove n k m D q t = fallingOnto (score sixteen n m) [] (select (λ (f : List ℕ). ltb t (score sixteen n m f)) (rootsOf sixteen D k q))
+
+-- what lists them, of any polynomial
+pub record Rooted (n k D t : ℕ) (q : List ℕ) : Type 0 where
+  pub sized : (2 ≤ k) × (k ≤ n) × (n ≤ sixteen .positions)
+  pub few : count (k - 1) D ≤ greatestCount
+  pub low : D / (k - 1) ≤ greatestRows
+  pub threshold : t < 65536
+  pub full : length q ≡ count (k - 1) D
+  pub symbols : Symbols sixteen q
+  pub nonzero : isZero q ≡ false
+
+abbrev pub RootsOf : List (List ℕ) → ℕ → ℕ → ℕ → List ℕ → ℕ → List ℕ → List ℕ → ℕ → List ℕ → List ℕ → Type 0
+RootsOf a n k D q t rows scores count rowsAfter scoresAfter =
+    (m : List ℕ) → length m ≡ sixteen .symbols * n → a ≡ matrixOf m n → Lists n k m (rootsAbove n k m D q t) rows scores count rowsAfter scoresAfter
+
+-- the list of the bytes that the matrix was loaded from
 abbrev pub ListsOf : List (List ℕ) → ℕ → ℕ → List ℕ → List ℕ → ℕ → List ℕ → List ℕ → Type 0
 ListsOf a n k rows scores count rowsAfter scoresAfter =
-    (m : List ℕ) → length m ≡ sixteen .symbols * n → a ≡ matrixOf m n → Lists n k m rows scores count rowsAfter scoresAfter
+    (m : List ℕ) → length m ≡ sixteen .symbols * n → a ≡ matrixOf m n → Lists n k m (listOf sixteen n k m) rows scores count rowsAfter scoresAfter
 
 -- what a table makes of the list: the answer and both memories, refused or listed
 module _ (table : List Line) (n k : ℕ) (m rows scores : List ℕ) where

@@ -4,7 +4,7 @@ ghost use Prim.Native.Nat.{_*_, _≤_, _<_};
 ghost use lib.ListN.{length};
 ghost use Rattle.definitions.specs.Field.{sixteen};
 ghost use Rattle.definitions.specs.Limits.{greatestLimit, greatestRows};
-ghost use Rattle.list.specs.Within.{Loaded, ListsOf, PricedOf};
+ghost use Rattle.list.specs.Within.{Loaded, Rooted, RootsOf, ListsOf, PricedOf};
 ghost use Rattle.refusals.specs.Counted.{toldCounted};
 ghost use Rattle.weights.specs.Matrix.{matrixCost};
 use blocks::WIDTH;
@@ -19,6 +19,27 @@ fn narrow(x: usize) -> u16
     ensures { λ r. ⌜ r ≡ x ⌝ }
 {
     x as u16
+}
+
+// The roots of a polynomial whose score is above the threshold, by falling score. The polynomial may be anybody's.
+pub fn listed(
+    matrix: &[[u8; SYMBOLS]; POSITIONS],
+    n: usize,
+    k: usize,
+    degree: usize,
+    threshold: usize,
+    coefficients: &[u8],
+    rows: &mut [u8],
+    scores: &mut [u16],
+) -> usize
+    requires { ⌜ Rooted n k degree threshold (now coefficients) ⌝ }
+    requires { ⌜ (greatestRows * k ≤ length (now rows)) × (greatestRows ≤ length (now scores)) ⌝ }
+    requires { ⌜ Loaded (now matrix) n ⌝ }
+    ensures { λ r. ⌜ RootsOf (now (matrix .entry)) n k degree (now (coefficients .entry)) threshold (now (rows .entry)) (now (scores .entry)) r (now (rows .exit)) (now (scores .exit)) ⌝ }
+{
+    let mut found = [0u8; GREATEST_ROWS * POSITIONS];
+    let many = roots::inside::roots_into(degree, k, coefficients, &mut found);
+    ranking::ranked(matrix, n, k, narrow(threshold), &found, many, rows, scores)
 }
 
 pub fn list_within(
@@ -39,9 +60,16 @@ pub fn list_within(
     let count = bound::count(v, bound);
     let mut polynomial = [0u8; WIDTH];
     interpolation::inside::polynomial(matrix, v, bound, count, &mut polynomial);
-    let mut found = [0u8; GREATEST_ROWS * POSITIONS];
-    let many = roots::inside::roots_into(bound, k, &polynomial[..count], &mut found);
-    ranking::ranked(matrix, n, k, narrow(bound), &found, many, rows, scores)
+    listed(
+        matrix,
+        n,
+        k,
+        bound,
+        bound,
+        &polynomial[..count],
+        rows,
+        scores,
+    )
 }
 
 // The list, where the matrix costs no more than the limit.
