@@ -1,8 +1,8 @@
 //! The entries with the memory that the caller lends, and their answers as bare numbers.
 //!
 //! For a caller that has no allocator, or wants to see what a call leaves in lent memory: a refused
-//! call changes none of it, and one that is accepted changes only what it says it writes. The
-//! answer is worth nothing unless [`Answer::number`] is 0 or [`Answer::refusal`] is looked at.
+//! call changes none of it, and one that is accepted changes only what it says it writes. Whether a
+//! call is refused says [`Answer::refusal`].
 //!
 //! ```
 //! let mut codeword = [255; 4];
