@@ -1,0 +1,25 @@
+//! Times the proved library against the same algorithm in plain Rust and against the same method in
+//! Rust packed by hand, on the same matrices, in turns. With `--check` nothing is timed, and both
+//! are compared with the second program.
+
+mod baseline;
+mod check;
+mod insertion;
+mod matrices;
+mod packed;
+mod parts;
+mod programs;
+mod timing;
+mod turns;
+mod workloads;
+
+fn main() {
+    match std::env::args().nth(1).as_deref() {
+        None => timing::time(),
+        Some("--check") => check::check(),
+        Some(_) => {
+            eprintln!("usage: bench [--check]");
+            std::process::exit(2);
+        }
+    }
+}

@@ -1,0 +1,72 @@
+//! A call of any entry: what comes in, what is lent, and what comes out.
+
+use crate::lent::Lent;
+use kv::lent::Answer;
+
+/// An entry looks at no more of it than it takes.
+#[derive(Clone, Debug)]
+pub struct Call {
+    pub n: usize,
+    pub k: usize,
+    pub level: usize,
+    pub limit: usize,
+    pub degree: usize,
+    /// Operands, a message, a matrix or coefficients.
+    pub symbols: Vec<u8>,
+    pub reliabilities: Vec<u16>,
+    /// Lent for what is written.
+    pub room: usize,
+    pub room_for_scores: usize,
+}
+
+impl Call {
+    /// With nothing else, and a limit that no cost is above.
+    pub fn of_sizes(n: usize, k: usize) -> Self {
+        Call {
+            n,
+            k,
+            level: 0,
+            limit: usize::MAX,
+            degree: 0,
+            symbols: Vec::new(),
+            reliabilities: Vec::new(),
+            room: 0,
+            room_for_scores: 0,
+        }
+    }
+}
+
+#[derive(Clone, Debug, PartialEq)]
+pub struct Memory {
+    pub symbols: Lent<u8>,
+    pub reliabilities: Lent<u16>,
+    pub out: Lent<u8>,
+    pub scores: Lent<u16>,
+}
+
+impl Memory {
+    pub fn lent_to(call: &Call) -> Self {
+        Memory {
+            symbols: Lent::bytes(&call.symbols),
+            reliabilities: Lent::numbers(&call.reliabilities),
+            out: Lent::room(call.room),
+            scores: Lent::room_for_scores(call.room_for_scores),
+        }
+    }
+}
+
+/// What a call answers and what it leaves in lent memory.
+#[derive(Debug, PartialEq)]
+pub struct Outcome {
+    pub answer: Answer,
+    pub memory: Memory,
+}
+
+impl Outcome {
+    /// Some numbers of the answer, and then what was written.
+    pub fn numbers(&self, answer: &[u16], written: usize) -> Vec<u16> {
+        let written = self.memory.out.part().iter().take(written);
+        let numbers = answer.iter().copied();
+        numbers.chain(written.copied().map(u16::from)).collect()
+    }
+}

@@ -1,0 +1,148 @@
+//! The calls of one entry, by both programs.
+
+use crate::call::{Call, Memory, Outcome};
+use crate::entry::{Entry, Program};
+use crate::faults::{Choice, Made, Reach};
+use crate::lists::Seen;
+use crate::sizes::Sizes;
+use crate::tally::Tally;
+use kv::lent::Answer;
+use kv::Refusal;
+use std::process::exit;
+use tags::Random;
+
+const MOST_SPARE_ROOM: usize = 20;
+
+pub struct Comparison {
+    entry: &'static Entry,
+    pub random: Random,
+    pub tally: Tally,
+    pub seen: Seen,
+}
+
+type Contents = fn(&Made, &mut Random) -> Vec<Made>;
+
+impl Comparison {
+    pub fn new(entry: &'static Entry, seed: u64) -> Self {
+        Comparison {
+            entry,
+            random: Random::new(seed),
+            tally: Tally::new(entry.name),
+            seen: Seen::default(),
+        }
+    }
+
+    fn differ(&self, call: &Call, first: (&str, &Outcome), second: (&str, &Outcome)) -> ! {
+        eprintln!("{} differs on {call:?}", self.entry.name);
+        for (name, outcome) in [first, second] {
+            eprintln!("{name}: {outcome:?}");
+        }
+        exit(1);
+    }
+
+    /// Ends the run unless both programs answer the same and leave the same in lent memory, and
+    /// unless a refused call answers no more than number and place and changes no lent memory.
+    fn compare(&mut self, call: &Call) -> Answer {
+        let lent = Memory::lent_to(call);
+        let proved = self.entry.outcome_in(Program::Proved, call, lent.clone());
+        let second = self.entry.outcome_in(Program::Second, call, lent.clone());
+        if proved != second {
+            let (proved, second) = (("proved library", &proved), ("second program", &second));
+            self.differ(call, proved, second);
+        }
+        let Outcome { answer, memory } = &proved;
+        if answer.number != 0 {
+            let bare = Outcome {
+                answer: Answer {
+                    number: answer.number,
+                    place: answer.place,
+                    ..Answer::default()
+                },
+                memory: lent,
+            };
+            if proved != bare {
+                self.differ(call, ("answered", &proved), ("refused", &bare));
+            }
+        }
+        self.tally.call(*answer);
+        self.seen.list(*answer, memory.scores.part());
+        *answer
+    }
+
+    /// Ends the run, moreover, unless the refusal is that of the faults which were put in.
+    pub fn compare_made(&mut self, made: &Made) {
+        let answer = self.compare(&made.call);
+        if answer.refusal() != made.refusal() {
+            eprintln!("{} answers {answer:?} to {:?}", self.entry.name, made.call);
+            eprintln!("the faults in it: {:?}", made.faults);
+            exit(1);
+        }
+        self.tally.faults(&made.faults);
+    }
+
+    /// A call that has no fault, with some more room than it asks for.
+    pub fn compare_good(&mut self, mut call: Call) {
+        call.room += self.random.between(0, MOST_SPARE_ROOM);
+        call.room_for_scores += self.random.between(0, MOST_SPARE_ROOM);
+        self.compare_made(&Made::new(call));
+    }
+
+    fn choose(&mut self, made: &Made, choices: &[(&Choice, Reach)], contents: Contents) {
+        let Some(((choice, reach), others)) = choices.split_first() else {
+            for made in contents(made, &mut self.random) {
+                self.compare_made(&made);
+            }
+            return;
+        };
+        for made in choice.made(*reach, made) {
+            self.choose(&made, others, contents);
+        }
+    }
+
+    /// Calls of these sizes, with every choice within its reach, together with every other.
+    fn together(
+        &mut self,
+        n: usize,
+        k: usize,
+        reach: impl Fn(&Choice) -> Reach,
+        contents: Contents,
+    ) {
+        let sizes = (!self.entry.sizes.allow((n, k))).then_some(Refusal::Sizes);
+        let made = Made::new(Call::of_sizes(n, k)).with(sizes, |_| ());
+        let choices: Vec<(&Choice, Reach)> =
+            self.entry.choices.iter().map(|c| (c, reach(c))).collect();
+        self.choose(&made, &choices, contents);
+    }
+
+    /// Every fault that a call can have: alone, with others, and on both sides of where it begins.
+    pub fn faults(&mut self) {
+        let (sizes, choices) = (self.entry.sizes, self.entry.choices);
+        let contents = self.entry.input.contents;
+        for (n, k) in sizes.small() {
+            self.together(n, k, |_| Reach::Around, contents);
+        }
+        let is_much = matches!(sizes, Sizes::Both) && choices.len() > 2;
+        for (n, k) in sizes.huge() {
+            let reach = |choice: &Choice| match choice.fault {
+                Refusal::Room if is_much => Reach::Right,
+                _ => Reach::Around,
+            };
+            self.together(n, k, reach, contents);
+        }
+        for (n, k) in sizes.allowed() {
+            for far in choices {
+                let reach = |choice: &Choice| match std::ptr::eq(choice, far) {
+                    true => Reach::Far,
+                    false => Reach::Right,
+                };
+                self.together(n, k, reach, contents);
+            }
+            self.together(n, k, |_| Reach::Right, self.entry.input.each_place);
+        }
+    }
+
+    /// Says what was compared. A run fails that compared too little or missed a fault.
+    pub fn finish(&self, least_calls: usize) {
+        self.tally.finish(least_calls, self.entry.refusals);
+    }
+}

@@ -1,0 +1,140 @@
+//! What document 01 says of single numbers, asked of the proved library and of the second program:
+//! a misreading that both share would not show in a comparison.
+
+use crate::call::Call;
+use crate::entry::{Entry, Program};
+use crate::{cost_and_bound, encode, field, multiplicities};
+use second::field::{ALPHA, SYMBOLS};
+use second::weights::WHOLE;
+use std::process::exit;
+use tags::hard_word;
+
+const LEAST_LINES: usize = 29;
+
+const POWERS_OF_ALPHA: [u16; 16] = [1, 2, 4, 8, 3, 6, 12, 11, 5, 10, 7, 14, 15, 13, 9, 1];
+const PRODUCTS: [(u8, u8, u16); 2] = [(3, 5, 15), (7, 7, 6)];
+const INVERSES: [(u8, u16); 2] = [(2, 9), (3, 14)];
+const MULTIPLICITIES_AT_LEVEL_4: [(u16, u16); 4] = [(1023, 0), (1024, 1), (4095, 3), (4096, 4)];
+/// A word, its multiplicity at each of its symbols, k, the cost and the bound.
+const COSTS_AND_BOUNDS: [(&[u8], u8, usize, u16, u16); 5] = [
+    (&[1, 1, 1], 1, 2, 3, 2),
+    (&[1, 1, 1, 2], 1, 2, 4, 2),
+    (&[1, 1, 1], 0, 2, 0, 0),
+    (&[1; 15], 1, 7, 15, 10),
+    (&[1; 15], 4, 7, 150, 39),
+];
+
+/// What document 01 has written, and what a program answered.
+pub struct Line {
+    pub text: String,
+    pub written: Vec<u16>,
+    pub answered: Vec<u16>,
+}
+
+fn field_lines(program: Program) -> Vec<Line> {
+    let value = |entry: &Entry, operands: &[u8]| {
+        let outcome = entry.outcome(program, &field::call(operands));
+        vec![outcome.answer.value]
+    };
+    let product = |(a, b, written)| Line {
+        text: format!("{a} times {b}"),
+        written: vec![written],
+        answered: value(&field::PRODUCT, &[a, b]),
+    };
+    let inverse = |(a, written)| Line {
+        text: format!("the inverse of {a}"),
+        written: vec![written],
+        answered: value(&field::INVERSE, &[a]),
+    };
+    let powers = POWERS_OF_ALPHA.windows(2);
+    powers
+        .map(|pair| product((pair[0] as u8, ALPHA, pair[1])))
+        .chain(PRODUCTS.map(product))
+        .chain(INVERSES.map(inverse))
+        .collect()
+}
+
+fn codeword_line(program: Program) -> Line {
+    let call = Call {
+        symbols: vec![0, 1],
+        room: 3,
+        ..Call::of_sizes(3, 2)
+    };
+    Line {
+        text: "the codeword of message 0,1".to_string(),
+        written: vec![1, 2, 4],
+        answered: encode::ENTRY.outcome(program, &call).numbers(&[], 3),
+    }
+}
+
+fn multiplicity_line(program: Program, (reliability, written): (u16, u16)) -> Line {
+    let (level, whole) = (4, WHOLE as u16);
+    let mut weights = vec![0; 2 * SYMBOLS];
+    weights[0] = reliability;
+    weights[1] = whole - reliability;
+    weights[SYMBOLS] = whole;
+    let call = Call {
+        level,
+        room: weights.len(),
+        reliabilities: weights,
+        ..Call::of_sizes(2, 0)
+    };
+    Line {
+        text: format!("the multiplicity of {reliability} at level {level}"),
+        written: vec![written],
+        answered: multiplicities::ENTRY
+            .outcome(program, &call)
+            .numbers(&[], 1),
+    }
+}
+
+fn cost_and_bound_line(
+    program: Program,
+    (word, m, k, cost, bound): (&[u8], u8, usize, u16, u16),
+) -> Line {
+    let call = Call {
+        symbols: hard_word(word, m),
+        ..Call::of_sizes(word.len(), k)
+    };
+    let answer = cost_and_bound::ENTRY.outcome(program, &call).answer;
+    Line {
+        text: format!("cost and bound of word {word:?}, each {m} times, k {k}"),
+        written: vec![cost, bound],
+        answered: vec![answer.cost, answer.bound],
+    }
+}
+
+fn lines(program: Program) -> Vec<Line> {
+    let mut lines = field_lines(program);
+    lines.push(codeword_line(program));
+    lines.extend(MULTIPLICITIES_AT_LEVEL_4.map(|line| multiplicity_line(program, line)));
+    lines.extend(COSTS_AND_BOUNDS.map(|line| cost_and_bound_line(program, line)));
+    lines
+}
+
+fn hold_for(entries: &str, program: &str, lines: &[Line]) {
+    if let Some(line) = lines.iter().find(|line| line.answered != line.written) {
+        eprintln!("{program}: {}", line.text);
+        eprintln!("document 01: {:?}", line.written);
+        eprintln!("answered: {:?}", line.answered);
+        exit(1);
+    }
+    println!(
+        "compared {entries}, {program}: {} lines of document 01 hold",
+        lines.len()
+    );
+}
+
+/// Ends the run unless all lines about some entries hold.
+pub fn hold(entries: &str, lines: impl Fn(Program) -> Vec<Line>) {
+    hold_for(entries, "proved library", &lines(Program::Proved));
+    hold_for(entries, "second program", &lines(Program::Second));
+}
+
+pub fn compare() {
+    if lines(Program::Second).len() < LEAST_LINES {
+        eprintln!("fewer than {LEAST_LINES} lines of document 01 were asked");
+        exit(1);
+    }
+    hold("first layer", lines);
+}

@@ -1,0 +1,84 @@
+use crate::call::Call;
+use crate::comparison::Comparison;
+use crate::contents::{columns, GOOD_SUM, RELIABILITIES};
+use crate::entry::Entry;
+use crate::faults::{length, room, Choice, LEVEL};
+use crate::sizes::{huge_sizes, looks_like, Sizes};
+use second::code::{LEAST_SIZE, MOST_POSITIONS};
+use second::field::SYMBOLS;
+use second::weights::{GREATEST_LEVEL, LEAST_LEVEL};
+
+const LEAST_CALLS: usize = 205_000;
+const SEED: u64 = 2;
+const RANDOM_WEIGHTS: usize = 100;
+
+pub static ENTRY: Entry = Entry {
+    name: "multiplicities",
+    proved: |call, lent| {
+        let (reliabilities, out) = (lent.reliabilities.part(), lent.out.part_mut());
+        kv::lent::multiplicities(call.n, call.level, reliabilities, out)
+    },
+    second: |call, lent| {
+        let (reliabilities, out) = (lent.reliabilities.part(), lent.out.part_mut());
+        second::weights::multiplicities(call.n, call.level, reliabilities, out)
+    },
+    refusals: &[1, 2, 3, 4, 6],
+    sizes: Sizes::N,
+    choices: &[
+        Choice {
+            around: |greatest| [(0..=greatest + 2).collect(), huge_sizes()].concat(),
+            ..LEVEL
+        },
+        room(|call| SYMBOLS * looks_like(call.n)),
+        length(|call| SYMBOLS * looks_like(call.n)),
+    ],
+    input: RELIABILITIES,
+};
+
+impl Comparison {
+    fn weighed(&mut self, level: usize, reliabilities: Vec<u16>) {
+        let n = reliabilities.len() / SYMBOLS;
+        self.compare_good(Call {
+            level,
+            room: reliabilities.len(),
+            reliabilities,
+            ..Call::of_sizes(n, 0)
+        });
+    }
+
+    fn good_columns(&mut self, n: usize) -> Vec<u16> {
+        columns(&mut self.random, &vec![GOOD_SUM; n])
+    }
+
+    fn every_reliability(&mut self, level: usize) {
+        for reliability in 0..=GOOD_SUM {
+            let mut weights = self.good_columns(LEAST_SIZE);
+            let position = self.random.between(0, LEAST_SIZE - 1);
+            let symbol = self.random.between(0, SYMBOLS - 1);
+            let column = &mut weights[SYMBOLS * position..][..SYMBOLS];
+            column.fill(0);
+            column[symbol] = reliability as u16;
+            column[SYMBOLS - 1 - symbol] = (GOOD_SUM - reliability) as u16;
+            self.weighed(level, weights);
+        }
+    }
+
+    fn random_weights(&mut self, n: usize, level: usize) {
+        for _ in 0..RANDOM_WEIGHTS {
+            let weights = self.good_columns(n);
+            self.weighed(level, weights);
+        }
+    }
+}
+
+pub fn compare() {
+    let mut comparison = Comparison::new(&ENTRY, SEED);
+    comparison.faults();
+    for level in LEAST_LEVEL..=GREATEST_LEVEL {
+        comparison.every_reliability(level);
+        for n in LEAST_SIZE..=MOST_POSITIONS {
+            comparison.random_weights(n, level);
+        }
+    }
+    comparison.finish(LEAST_CALLS);
+}

@@ -1,0 +1,76 @@
+//! A Reed-Solomon soft list decoder over sixteen symbols, by the Koetter-Vardy method: it lists
+//! **every** message whose codeword the reliabilities support more strongly than the bound, **and
+//! no other**. The library below these calls is proved to do so for every input.
+//!
+//! ```
+//! use kv::{list_of_reliabilities, Settings, Sizes};
+//!
+//! // Four marks 1, 1, 1, 2, each of them clear, and the last one wrong.
+//! let mut reliabilities = [0; 4 * kv::SYMBOLS];
+//! for (position, mark) in [1, 1, 1, 2].into_iter().enumerate() {
+//!     reliabilities[kv::SYMBOLS * position + mark] = kv::WHOLE;
+//! }
+//! let sizes = Sizes { n: 4, k: 2 };
+//! let settings = Settings { level: 1, limit: kv::GREATEST_LIMIT };
+//! let listed = list_of_reliabilities(sizes, settings, &reliabilities)?;
+//! assert_eq!(listed.rows.len(), 1);
+//! assert_eq!(listed.rows[0].score, 3);
+//! assert_eq!(listed.rows[0].message, [1, 0]);
+//! # Ok::<(), kv::Refusal>(())
+//! ```
+//!
+//! Symbols are 0 to 15, polynomials over bits modulo x⁴ + x + 1; alpha is 2. A matrix or a list of
+//! reliabilities has the entry of position i, symbol b at 16i + b. Whatever numbers and slices come
+//! in, no call panics and every call returns: it answers, or says its [`Refusal`].
+
+#![deny(missing_docs)]
+
+#[allow(unsafe_code)]
+mod archive;
+pub mod lent;
+mod list;
+mod matrix;
+mod polynomial;
+mod refusal;
+mod symbols;
+
+pub use list::{list_of_multiplicities, list_of_reliabilities, Listed, Row};
+pub use matrix::{cost_and_bound, multiplicities, CostAndBound};
+pub use polynomial::{interpolate, roots, Polynomial};
+pub use refusal::Refusal;
+pub use symbols::{encode, inverse, product, sum};
+
+/// How many symbols there are.
+pub const SYMBOLS: usize = 16;
+/// The most positions that a codeword has.
+pub const POSITIONS: usize = 15;
+/// What the reliabilities of each position sum to.
+pub const WHOLE: u16 = 4096;
+/// The greatest level, and the greatest entry of a matrix.
+pub const GREATEST_LEVEL: usize = 4;
+/// The greatest limit on the cost of a matrix.
+pub const GREATEST_LIMIT: usize = 150;
+/// The most coefficients that an interpolated polynomial has.
+pub const COEFFICIENTS: usize = 167;
+/// The most coefficients that a polynomial has whose roots are asked for.
+pub const GREATEST_COUNT: usize = 256;
+/// The most rows that a list has.
+pub const ROWS: usize = 16;
+
+/// The sizes of the code: 2 <= k <= n <= 15, or refusal 1.
+#[derive(Clone, Copy, Debug, PartialEq, Eq)]
+pub struct Sizes {
+    /// The number of positions.
+    pub n: usize,
+    /// The number of message symbols.
+    pub k: usize,
+}
+
+/// How a tag is read: 1 <= level <= 4 and limit <= 150, or refusal 2.
+#[derive(Clone, Copy, Debug, PartialEq, Eq)]
+pub struct Settings {
+    /// The level, which multiplies the reliabilities.
+    pub level: usize,
+    /// The greatest cost that a matrix may have.
+    pub limit: usize,
+}

@@ -1,0 +1,95 @@
+//! The lists.
+
+use crate::lent::{self, Answer};
+use crate::{Refusal, Settings, Sizes, POSITIONS, ROWS};
+
+/// A message and how strongly its codeword is supported.
+#[derive(Clone, Debug, PartialEq, Eq)]
+pub struct Row {
+    /// The sum, over positions, of the matrix's entry at the codeword's symbol.
+    pub score: usize,
+    /// k symbols.
+    pub message: Vec<u8>,
+}
+
+/// Every message whose score is above the bound, and no other.
+#[derive(Clone, Debug, PartialEq, Eq)]
+pub struct Listed {
+    /// Highest score first, equal scores by the messages, smaller symbols first; at most
+    /// [`ROWS`].
+    pub rows: Vec<Row>,
+}
+
+/// The list of a call that is lent room for it.
+fn listed(k: usize, list: impl FnOnce(&mut [u8], &mut [u16]) -> Answer) -> Result<Listed, Refusal> {
+    let (mut messages, mut scores) = ([0; ROWS * POSITIONS], [0; ROWS]);
+    let answer = list(&mut messages, &mut scores).accepted()?;
+    let written = messages.chunks(k).zip(scores).take(answer.count.into());
+    let row = |(message, score): (&[u8], u16)| Row {
+        score: score.into(),
+        message: message.to_vec(),
+    };
+    Ok(Listed {
+        rows: written.map(row).collect(),
+    })
+}
+
+/// The list of a multiplicity matrix.
+///
+/// Refused with [`Refusal::Sizes`], [`Refusal::Setting`] where the limit is above 150,
+/// [`Refusal::Length`] where the matrix has not 16n entries, [`Refusal::Symbol`] where one of them
+/// is above 4, [`Refusal::Cost`] where it costs more than the limit.
+///
+/// ```
+/// let mut matrix = [0; 48];
+/// for position in 0..3 {
+///     matrix[16 * position + 1] = 1;
+/// }
+/// let sizes = kv::Sizes { n: 3, k: 2 };
+/// let listed = kv::list_of_multiplicities(sizes, 150, &matrix)?;
+/// assert_eq!(listed.rows, [kv::Row { score: 3, message: vec![1, 0] }]);
+/// assert_eq!(
+///     kv::list_of_multiplicities(sizes, 2, &matrix),
+///     Err(kv::Refusal::Cost)
+/// );
+/// # Ok::<(), kv::Refusal>(())
+/// ```
+pub fn list_of_multiplicities(
+    Sizes { n, k }: Sizes,
+    limit: usize,
+    matrix: &[u8],
+) -> Result<Listed, Refusal> {
+    listed(k, |rows, scores| {
+        lent::list_of_multiplicities(n, k, limit, matrix, rows, scores)
+    })
+}
+
+/// The list of the matrix that [`multiplicities`](crate::multiplicities) gives for these
+/// reliabilities.
+///
+/// Refused with [`Refusal::Sizes`], [`Refusal::Setting`], [`Refusal::Length`] where there are not
+/// 16n reliabilities, [`Refusal::Column`] where those of a position do not sum to 4096,
+/// [`Refusal::Cost`] where the matrix costs more than the limit.
+///
+/// ```
+/// let sizes = kv::Sizes { n: 2, k: 2 };
+/// let settings = kv::Settings { level: 4, limit: 150 };
+/// let mut reliabilities = [256; 32];
+/// let listed = kv::list_of_reliabilities(sizes, settings, &reliabilities)?;
+/// assert!(listed.rows.is_empty());
+/// reliabilities[20] = 0;
+/// assert_eq!(
+///     kv::list_of_reliabilities(sizes, settings, &reliabilities),
+///     Err(kv::Refusal::Column(1))
+/// );
+/// # Ok::<(), kv::Refusal>(())
+/// ```
+pub fn list_of_reliabilities(
+    Sizes { n, k }: Sizes,
+    Settings { level, limit }: Settings,
+    reliabilities: &[u16],
+) -> Result<Listed, Refusal> {
+    listed(k, |rows, scores| {
+        lent::list_of_reliabilities(n, k, level, limit, reliabilities, rows, scores)
+    })
+}

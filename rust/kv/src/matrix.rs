@@ -1,0 +1,56 @@
+//! Multiplicity matrices.
+
+use crate::{lent, Refusal, Sizes, POSITIONS, SYMBOLS};
+
+/// The matrix of the reliabilities: each entry is the whole part of level times reliability / 4096.
+///
+/// Refused with [`Refusal::Sizes`] unless 2 <= n <= 15, [`Refusal::Setting`] unless
+/// 1 <= level <= 4, [`Refusal::Length`] where there are not 16n reliabilities, [`Refusal::Column`]
+/// where those of a position do not sum to 4096.
+///
+/// ```
+/// let mut reliabilities = [0; 32];
+/// reliabilities[3] = 4095;
+/// reliabilities[4] = 1;
+/// reliabilities[16] = 4096;
+/// let matrix = kv::multiplicities(2, 4, &reliabilities)?;
+/// assert_eq!((matrix[3], matrix[4], matrix[16]), (3, 0, 4));
+/// # Ok::<(), kv::Refusal>(())
+/// ```
+pub fn multiplicities(n: usize, level: usize, reliabilities: &[u16]) -> Result<Vec<u8>, Refusal> {
+    let mut matrix = [0; SYMBOLS * POSITIONS];
+    let answer = lent::multiplicities(n, level, reliabilities, &mut matrix).accepted()?;
+    Ok(matrix.into_iter().take(answer.count.into()).collect())
+}
+
+/// The cost of a matrix, and the bound that it puts on the score.
+#[derive(Clone, Copy, Debug, PartialEq, Eq)]
+pub struct CostAndBound {
+    /// The sum of m(m+1)/2 over the entries m.
+    pub cost: usize,
+    /// The smallest D such that more than `cost` pairs (a, b) of numbers from 0 on have
+    /// a + (k-1)b <= D.
+    pub bound: usize,
+}
+
+/// The cost of a matrix, and the bound.
+///
+/// Refused with [`Refusal::Sizes`], [`Refusal::Length`] where the matrix has not 16n entries,
+/// [`Refusal::Symbol`] where one of them is above 4.
+///
+/// ```
+/// let mut matrix = [0; 48];
+/// for position in 0..3 {
+///     matrix[16 * position + 1] = 1;
+/// }
+/// let found = kv::cost_and_bound(kv::Sizes { n: 3, k: 2 }, &matrix)?;
+/// assert_eq!(found, kv::CostAndBound { cost: 3, bound: 2 });
+/// # Ok::<(), kv::Refusal>(())
+/// ```
+pub fn cost_and_bound(Sizes { n, k }: Sizes, matrix: &[u8]) -> Result<CostAndBound, Refusal> {
+    let answer = lent::cost_and_bound(n, k, matrix).accepted()?;
+    Ok(CostAndBound {
+        cost: answer.cost.into(),
+        bound: answer.bound.into(),
+    })
+}

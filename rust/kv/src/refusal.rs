@@ -1,0 +1,65 @@
+use std::error::Error;
+use std::fmt::{Display, Formatter, Result};
+
+/// Why a call is refused: the lines of document 01's table, in the order in which they are tried.
+/// The first that holds is given.
+///
+/// ```
+/// let refusal = kv::sum(3, 16).unwrap_err();
+/// assert_eq!(refusal, kv::Refusal::Symbol(1));
+/// assert_eq!((refusal.number(), refusal.place()), (5, 1));
+/// assert_eq!(refusal.to_string(), "refused 5 at 1");
+/// ```
+#[derive(Clone, Copy, Debug, PartialEq, Eq, Hash)]
+pub enum Refusal {
+    /// 1: n or k is not among the sizes that the entry takes.
+    Sizes,
+    /// 2: the level, the limit or the degree is not among those that the entry takes.
+    Setting,
+    /// 3: the input has not the length that the sizes ask for.
+    Length,
+    /// 4: lent memory is too short. Only the calls of [`lent`](crate::lent) are refused so: the
+    /// others bring enough.
+    Room,
+    /// 5: the entry at this index is above the greatest one allowed, and none before it is.
+    Symbol(usize),
+    /// 6: the reliabilities of this position do not sum to 4096, and those before it do.
+    Column(usize),
+    /// 7: the matrix costs more than the limit.
+    Cost,
+    /// 8: 0 has no inverse, and the polynomial 0 has every root.
+    Zero,
+}
+
+impl Refusal {
+    /// The number that document 01 has for it.
+    pub fn number(self) -> u16 {
+        match self {
+            Refusal::Sizes => 1,
+            Refusal::Setting => 2,
+            Refusal::Length => 3,
+            Refusal::Room => 4,
+            Refusal::Symbol(_) => 5,
+            Refusal::Column(_) => 6,
+            Refusal::Cost => 7,
+            Refusal::Zero => 8,
+        }
+    }
+
+    /// The index or the position where it is, 0 for the others.
+    pub fn place(self) -> usize {
+        match self {
+            Refusal::Symbol(place) | Refusal::Column(place) => place,
+            _ => 0,
+        }
+    }
+}
+
+/// As the reader program writes it.
+impl Display for Refusal {
+    fn fmt(&self, formatter: &mut Formatter<'_>) -> Result {
+        write!(formatter, "refused {} at {}", self.number(), self.place())
+    }
+}
+
+impl Error for Refusal {}

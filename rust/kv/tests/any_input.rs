@@ -1,0 +1,130 @@
+//! Whatever comes in, each call answers what the same call with lent memory does.
+
+use kv::lent::{self, Answer};
+use kv::{CostAndBound, Listed, Polynomial, Refusal, Row, Settings, Sizes};
+
+const NUMBERS: [usize; 10] = [0, 1, 2, 3, 4, 15, 16, 150, 1 << 32, usize::MAX];
+const LENGTHS: [usize; 9] = [0, 1, 2, 3, 6, 31, 32, 240, 257];
+const ENTRIES: [u8; 4] = [0, 1, 15, 255];
+const RELIABILITIES: [u16; 3] = [0, 256, u16::MAX];
+/// More than any call asks for.
+const ROOM: usize = 1000;
+
+fn inputs<T: Clone>(entries: &[T]) -> Vec<Vec<T>> {
+    let of_length = |&length: &usize| entries.iter().map(move |e| vec![e.clone(); length]);
+    LENGTHS.iter().flat_map(of_length).collect()
+}
+
+fn pairs() -> impl Iterator<Item = (usize, usize)> {
+    let with_each = |a: usize| NUMBERS.into_iter().map(move |b| (a, b));
+    NUMBERS.into_iter().flat_map(with_each)
+}
+
+/// What the answer and the memory come to, by a call that is lent room for bytes and for scores.
+fn lent<T>(
+    call: impl FnOnce(&mut [u8], &mut [u16]) -> Answer,
+    accepted: impl FnOnce(Answer, &[u8], &[u16]) -> T,
+) -> Result<T, Refusal> {
+    let (mut bytes, mut scores) = ([99; ROOM], [99; ROOM]);
+    let answer = call(&mut bytes, &mut scores);
+    match answer.refusal() {
+        None => Ok(accepted(answer, &bytes, &scores)),
+        Some(refusal) => {
+            assert_eq!((bytes, scores), ([99; ROOM], [99; ROOM]));
+            Err(refusal)
+        }
+    }
+}
+
+fn first(answer: Answer, bytes: &[u8], _: &[u16]) -> Vec<u8> {
+    bytes[..answer.count.into()].to_vec()
+}
+
+fn listed(k: usize, answer: Answer, bytes: &[u8], scores: &[u16]) -> Listed {
+    let row = |index: usize| Row {
+        score: scores[index].into(),
+        message: bytes[k * index..][..k].to_vec(),
+    };
+    Listed {
+        rows: (0..answer.count.into()).map(row).collect(),
+    }
+}
+
+#[test]
+fn symbols() {
+    for a in 0..=u8::MAX {
+        let value = |answer: Answer, _: &[u8], _: &[u16]| answer.value as u8;
+        assert_eq!(kv::inverse(a), lent(|_, _| lent::inverse(a), value));
+        for b in 0..=u8::MAX {
+            assert_eq!(kv::sum(a, b), lent(|_, _| lent::sum(a, b), value));
+            assert_eq!(kv::product(a, b), lent(|_, _| lent::product(a, b), value));
+        }
+    }
+}
+
+#[test]
+fn inputs_of_bytes() {
+    for (n, k) in pairs() {
+        let sizes = Sizes { n, k };
+        for input in inputs(&ENTRIES) {
+            let encoded = lent(|out, _| lent::encode(n, k, &input, out), first);
+            assert_eq!(kv::encode(sizes, &input), encoded);
+            let cost_and_bound = |answer: Answer, _: &[u8], _: &[u16]| CostAndBound {
+                cost: answer.cost.into(),
+                bound: answer.bound.into(),
+            };
+            let found = lent(|_, _| lent::cost_and_bound(n, k, &input), cost_and_bound);
+            assert_eq!(kv::cost_and_bound(sizes, &input), found);
+            let roots = |answer: Answer, bytes: &[u8], _: &[u16]| {
+                let messages = bytes.chunks(k).take(answer.count.into());
+                messages.map(<[u8]>::to_vec).collect()
+            };
+            let found: Result<Vec<_>, _> = lent(|out, _| lent::roots(n, k, &input, out), roots);
+            assert_eq!(kv::roots(n, k, &input), found);
+        }
+    }
+}
+
+#[test]
+fn matrices_with_limits() {
+    for ((n, k), limit) in pairs().flat_map(|pair| NUMBERS.map(|limit| (pair, limit))) {
+        let sizes = Sizes { n, k };
+        for matrix in inputs(&ENTRIES) {
+            let polynomial = |answer: Answer, bytes: &[u8], scores: &[u16]| Polynomial {
+                bound: answer.bound.into(),
+                coefficients: first(answer, bytes, scores),
+            };
+            let found = lent(
+                |out, _| lent::interpolate(n, k, limit, &matrix, out),
+                polynomial,
+            );
+            assert_eq!(kv::interpolate(sizes, limit, &matrix), found);
+            let found = lent(
+                |rows, scores| lent::list_of_multiplicities(n, k, limit, &matrix, rows, scores),
+                |answer, bytes, scores| listed(k, answer, bytes, scores),
+            );
+            assert_eq!(kv::list_of_multiplicities(sizes, limit, &matrix), found);
+        }
+    }
+}
+
+#[test]
+fn reliabilities() {
+    for ((n, k), (level, limit)) in pairs().flat_map(|a| pairs().map(move |b| (a, b))) {
+        for input in inputs(&RELIABILITIES) {
+            let found = lent(|out, _| lent::multiplicities(n, level, &input, out), first);
+            assert_eq!(kv::multiplicities(n, level, &input), found);
+            let found = lent(
+                |rows, scores| {
+                    lent::list_of_reliabilities(n, k, level, limit, &input, rows, scores)
+                },
+                |answer, bytes, scores| listed(k, answer, bytes, scores),
+            );
+            let settings = Settings { level, limit };
+            assert_eq!(
+                kv::list_of_reliabilities(Sizes { n, k }, settings, &input),
+                found
+            );
+        }
+    }
+}

@@ -1,0 +1,18 @@
+//! The second program: the public entries written anew from document 01 alone, by the most literal
+//! reading, by brute force, and by other methods than the proved library's where that would take
+//! too long. It shares no code and no table with that library, and is slow.
+
+mod answer;
+pub mod bound;
+pub mod code;
+pub mod field;
+pub mod interpolation;
+pub mod list;
+mod polynomial;
+pub mod program;
+mod refusal;
+pub mod roots;
+mod search;
+pub mod weights;
+
+pub use answer::Answer;

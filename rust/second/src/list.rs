@@ -1,0 +1,116 @@
+//! The list: the messages whose score is above the bound.
+
+use crate::bound::{bound, cost, GREATEST_LIMIT, GREATEST_MULTIPLICITY};
+use crate::code::{every_message, sizes_allowed, value_at, x_of, MOST_POSITIONS};
+use crate::field::SYMBOLS;
+use crate::refusal::{symbol_above, unless_refused, Refusal};
+use crate::roots::FEW_SYMBOLS;
+use crate::search::messages_above;
+use crate::weights::{column_off, entries, multiplicity, GREATEST_LEVEL, LEAST_LEVEL};
+use crate::Answer;
+use std::cmp::Reverse;
+use std::sync::OnceLock;
+
+pub const MOST_ROWS: usize = 16;
+
+type Coded = (Vec<u8>, [u8; MOST_POSITIONS]);
+
+fn coded(message: Vec<u8>) -> Coded {
+    let codeword = std::array::from_fn(|i| value_at(&message, x_of(i)));
+    (message, codeword)
+}
+
+/// Every message of few symbols with its codeword, in order.
+fn every_coded(k: usize) -> &'static [Coded] {
+    static BY_SYMBOLS: [OnceLock<Vec<Coded>>; FEW_SYMBOLS + 1] =
+        [const { OnceLock::new() }; FEW_SYMBOLS + 1];
+    BY_SYMBOLS[k].get_or_init(|| every_message(k).map(coded).collect())
+}
+
+/// The sum, over positions, of the entry at the codeword's symbol.
+fn score(matrix: &[u8], codeword: &[u8]) -> usize {
+    let columns = matrix.chunks(SYMBOLS).zip(codeword);
+    columns
+        .map(|(column, &symbol)| usize::from(column[usize::from(symbol)]))
+        .sum()
+}
+
+/// Each message whose score is above the bound, with that score, by falling score and in order.
+fn rows_above(bound: usize, k: usize, matrix: &[u8]) -> Vec<(usize, Vec<u8>)> {
+    let searched: Vec<Coded>;
+    let candidates = if k <= FEW_SYMBOLS {
+        every_coded(k)
+    } else {
+        let messages = messages_above(bound, k, matrix);
+        searched = messages.into_iter().map(coded).collect();
+        &searched
+    };
+    let mut rows: Vec<(usize, Vec<u8>)> = candidates
+        .iter()
+        .map(|(message, codeword)| (score(matrix, codeword), message))
+        .filter(|&(score, _)| score > bound)
+        .map(|(score, message)| (score, message.clone()))
+        .collect();
+    rows.sort_by_key(|&(score, _)| Reverse(score));
+    rows
+}
+
+fn write_list(k: usize, matrix: &[u8], rows: &mut [u8], scores: &mut [u16]) -> Answer {
+    let listed = rows_above(bound(k - 1, cost(matrix)), k, matrix);
+    for (index, (score, message)) in listed.iter().enumerate() {
+        rows[k * index..][..k].copy_from_slice(message);
+        scores[index] = *score as u16;
+    }
+    Answer {
+        count: listed.len() as u16,
+        ..Answer::default()
+    }
+}
+
+fn too_little_room(k: usize, rows: &[u8], scores: &[u16]) -> bool {
+    (rows.len() as u128) < MOST_ROWS as u128 * k as u128 || scores.len() < MOST_ROWS
+}
+
+pub fn list_of_multiplicities(
+    n: usize,
+    k: usize,
+    limit: usize,
+    matrix: &[u8],
+    rows: &mut [u8],
+    scores: &mut [u16],
+) -> Answer {
+    let tests = [
+        (!sizes_allowed(n, k)).then_some(Refusal::Sizes),
+        (limit > GREATEST_LIMIT).then_some(Refusal::Setting),
+        (matrix.len() as u128 != entries(n)).then_some(Refusal::Length),
+        too_little_room(k, rows, scores).then_some(Refusal::Room),
+        symbol_above(GREATEST_MULTIPLICITY, matrix),
+        (cost(matrix) > limit).then_some(Refusal::Cost),
+    ];
+    unless_refused(&tests, || write_list(k, matrix, rows, scores))
+}
+
+pub fn list_of_reliabilities(
+    n: usize,
+    k: usize,
+    level: usize,
+    limit: usize,
+    reliabilities: &[u16],
+    rows: &mut [u8],
+    scores: &mut [u16],
+) -> Answer {
+    let level_allowed = (LEAST_LEVEL..=GREATEST_LEVEL).contains(&level);
+    let tests = [
+        (!sizes_allowed(n, k)).then_some(Refusal::Sizes),
+        (!level_allowed || limit > GREATEST_LIMIT).then_some(Refusal::Setting),
+        (reliabilities.len() as u128 != entries(n)).then_some(Refusal::Length),
+        too_little_room(k, rows, scores).then_some(Refusal::Room),
+        column_off(reliabilities),
+    ];
+    unless_refused(&tests, || {
+        let entry = |&reliability| multiplicity(level, reliability);
+        let matrix: Vec<u8> = reliabilities.iter().map(entry).collect();
+        let costs_too_much = (cost(&matrix) > limit).then_some(Refusal::Cost);
+        unless_refused(&[costs_too_much], || write_list(k, &matrix, rows, scores))
+    })
+}

@@ -1,0 +1,63 @@
+//! The table of refusals.
+
+use crate::Answer;
+
+#[derive(Clone, Copy)]
+pub enum Refusal {
+    Sizes,
+    Setting,
+    Length,
+    Room,
+    Symbol(usize),
+    Column(usize),
+    Cost,
+    Zero,
+}
+
+impl Refusal {
+    fn number(self) -> u16 {
+        match self {
+            Refusal::Sizes => 1,
+            Refusal::Setting => 2,
+            Refusal::Length => 3,
+            Refusal::Room => 4,
+            Refusal::Symbol(_) => 5,
+            Refusal::Column(_) => 6,
+            Refusal::Cost => 7,
+            Refusal::Zero => 8,
+        }
+    }
+
+    fn place(self) -> usize {
+        match self {
+            Refusal::Symbol(index) => index,
+            Refusal::Column(position) => position,
+            _ => 0,
+        }
+    }
+
+    pub fn answer(self) -> Answer {
+        Answer {
+            number: self.number(),
+            place: u16::try_from(self.place())
+                .expect("a place lies inside an input of right length"),
+            ..Answer::default()
+        }
+    }
+}
+
+/// The first refusal among tests that stand in the table's order, or else what the work answers.
+pub fn unless_refused(tests: &[Option<Refusal>], work: impl FnOnce() -> Answer) -> Answer {
+    match tests.iter().copied().flatten().next() {
+        Some(refusal) => refusal.answer(),
+        None => work(),
+    }
+}
+
+/// The refusal of the first number above the greatest one allowed.
+pub fn symbol_above(greatest: u8, numbers: &[u8]) -> Option<Refusal> {
+    numbers
+        .iter()
+        .position(|&number| number > greatest)
+        .map(Refusal::Symbol)
+}
