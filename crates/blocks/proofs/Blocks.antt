@@ -16,7 +16,7 @@ use Rattle.algebra.proofs.Tests.{every, every-at}
 use Rattle.definitions.proofs.Zeros.{zero-at}
 use Rattle.definitions.specs.Code.{Symbols}
 use Rattle.definitions.specs.Field.{sixteen, sumOf, double, shifted}
-use Rattle.field.proofs.Instance.{sixteen-field}
+use Rattle.instances.proofs.Codes.{sixteen-field}
 use Rattle.blocks.specs.Row.{block, Front, SymbolBlock, BlockOf, PutAt, ScaledBlock, SummedBlock, FilledTo, MultiplesBlock}
 
 -- no entry yet

@@ -14,7 +14,7 @@ use Rattle.definitions.proofs.Symbols.{drop-symbols}
 use Rattle.definitions.proofs.Tools.{below-zero}
 use Rattle.definitions.specs.Code.{Symbols, point, codeword}
 use Rattle.definitions.specs.Field.{numbers, value, sixteen, sumOf}
-use Rattle.field.proofs.Instance.{sixteen-field}
+use Rattle.instances.proofs.Codes.{sixteen-field}
 
 -- before Horner's first step
 pub empty-value : (x : ℕ) (f : List ℕ) → 0 ≡ value (numbers sixteen) x (drop (length f) f)

@@ -15,7 +15,7 @@ use Rattle.definitions.proofs.Tools.{below-zero, length-map-below}
 use Rattle.definitions.specs.Code.{Symbols}
 use Rattle.definitions.specs.Field.{numbers, sixteen, power}
 use Rattle.definitions.specs.Tools.{below}
-use Rattle.field.proofs.Instance.{sixteen-field}
+use Rattle.instances.proofs.Codes.{sixteen-field}
 use Rattle.blocks.proofs.Filled.{filled-at, filled-rest, filled-symbols}
 use Rattle.blocks.specs.Row.{width, filled}
 use Rattle.conditions.proofs.Walk.{walked-le}

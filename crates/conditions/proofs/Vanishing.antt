@@ -23,7 +23,7 @@ use Rattle.definitions.specs.Bound.{count}
 use Rattle.definitions.specs.Code.{Symbols}
 use Rattle.definitions.specs.Field.{numbers, sixteen, power}
 use Rattle.definitions.specs.Polynomial.{terms, monomials, hasse}
-use Rattle.field.proofs.Instance.{sixteen-field}
+use Rattle.instances.proofs.Codes.{sixteen-field}
 use Rattle.blocks.proofs.Filled.{length-filled, filled-at, filled-rest}
 use Rattle.blocks.specs.Row.{width}
 use Rattle.conditions.proofs.Masks.{base-symbol}

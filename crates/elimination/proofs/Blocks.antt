@@ -16,7 +16,7 @@ use Rattle.linear.proofs.Columns.{exchanged-block, between-none, between-more, 
 use Rattle.linear.proofs.Listed.{done-none, done-row, done-lowered, listed-targets}
 use Rattle.linear.specs.Columns.{Between, Exchanged, Lowered, Listed}
 use Rattle.linear.specs.Rows.{Triangle}
-use Rattle.field.proofs.Instance.{sixteen-field}
+use Rattle.instances.proofs.Codes.{sixteen-field}
 use Rattle.blocks.proofs.Blocks.{block-symbols, summed-symbols, scaled-symbols}
 use Rattle.blocks.specs.Row.{width, block, SymbolBlock, BlockOf, PutBlock, SummedBlock, ScaledBlock, MultiplesBlock}
 

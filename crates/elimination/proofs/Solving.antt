@@ -18,7 +18,7 @@ use Rattle.linear.proofs.Listed.{listed-none, listed-zero, listed-more}
 use Rattle.linear.proofs.Symbols.{behind-symbol}
 use Rattle.linear.proofs.Triangle.{behind-none, behind-more}
 use Rattle.linear.specs.Rows.{SymbolRows, behind, Solved}
-use Rattle.field.proofs.Instance.{sixteen-field}
+use Rattle.instances.proofs.Codes.{sixteen-field}
 use Rattle.elimination.specs.System.{SymbolsBetween, oneOf, ListedRows}
 
 -- nothing is added yet

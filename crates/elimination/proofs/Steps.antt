@@ -12,7 +12,7 @@ use Rattle.definitions.proofs.Table.{accepts}
 use Rattle.definitions.specs.Answers.{Answer, refused, valued, inverseAnswer}
 use Rattle.definitions.specs.Field.{sixteen, inverseOf}
 use Rattle.elimination.specs.System.{System, Eliminated}
-use Rattle.field.proofs.Instance.{sixteen-field}
+use Rattle.instances.proofs.Codes.{sixteen-field}
 use Rattle.field.proofs.Operands.{inverse-accepts}
 use Rattle.refusals.proofs.Unique.{refusal-number}
 use Rattle.refusals.specs.Refusal.{toldRefusal}

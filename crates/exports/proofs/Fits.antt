@@ -23,7 +23,7 @@ use Rattle.definitions.specs.Roots.{rootsOf}
 use Rattle.definitions.specs.Tools.{smallest}
 use Rattle.definitions.specs.Weights.{matrix, cost}
 use Rattle.exports.specs.Crossing.{Narrow}
-use Rattle.field.proofs.Instance.{sixteen-field}
+use Rattle.instances.proofs.Codes.{sixteen-field}
 use Rattle.interpolation.proofs.Width.{width-fits}
 use Rattle.root_tree.proofs.Roots.{roots-at-most}
 use Rattle.weights.proofs.Cost.{cost-small}

@@ -1,4 +1,3 @@
-pub mod Instance
 pub mod Operands
 pub mod Tables
 pub mod Unique

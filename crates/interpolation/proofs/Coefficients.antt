@@ -23,7 +23,7 @@ use Rattle.linear.proofs.Leading.{zero-after, leading-is}
 use Rattle.linear.proofs.Narrow.{narrow-solves, narrow-least}
 use Rattle.linear.proofs.Symbols.{back-symbols}
 use Rattle.linear.specs.Rows.{Solves, Reduced, Solved, Led}
-use Rattle.field.proofs.Instance.{sixteen-field}
+use Rattle.instances.proofs.Codes.{sixteen-field}
 use Rattle.interpolation.proofs.Conditions.{length-conditions, conditions-symbols, conditions-wide, through-solves, solves-through}
 use Rattle.interpolation.proofs.Width.{width-fits}
 use Rattle.interpolation.specs.Found.{Given, Found}

@@ -25,7 +25,7 @@ use Rattle.definitions.specs.Polynomial.{Through, hasse, terms, monomials}
 use Rattle.definitions.specs.Tools.{below}
 use Rattle.definitions.specs.Weights.{entry, entryCost}
 use Rattle.linear.specs.Rows.{Solves}
-use Rattle.field.proofs.Instance.{sixteen-field}
+use Rattle.instances.proofs.Codes.{sixteen-field}
 use Rattle.interpolation.proofs.Loaded.{entry-is, used}
 use Rattle.interpolation.proofs.Placing.{place-of, placed-at, placed-each}
 use Rattle.blocks.specs.Row.{width}

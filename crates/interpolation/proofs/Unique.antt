@@ -19,7 +19,7 @@ use Rattle.definitions.specs.Tools.{sum}
 use Rattle.definitions.specs.Weights.{entryCost, cost}
 use Rattle.linear.proofs.Leading.{leading-is}
 use Rattle.linear.proofs.Unique.{interpolates-unique}
-use Rattle.field.proofs.Instance.{sixteen-field}
+use Rattle.instances.proofs.Codes.{sixteen-field}
 use Rattle.refusals.proofs.Unique.{same-told, answerOf, refused-back}
 use Rattle.interpolation.specs.Interpolated.{toldInterpolated}
 use Rattle.interpolation.specs.declared.Interpolated as Declared

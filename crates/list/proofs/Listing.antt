@@ -24,7 +24,7 @@ use Rattle.definitions.specs.Polynomial.{Through}
 use Rattle.definitions.specs.Roots.{isRoot, rootsOf}
 use Rattle.definitions.specs.Tools.{select}
 use Rattle.definitions.specs.Weights.{score}
-use Rattle.field.proofs.Instance.{sixteen-field}
+use Rattle.instances.proofs.Codes.{sixteen-field}
 use Rattle.list.specs.Within.{Lists, Rooted, rootsAbove}
 use Rattle.ranking.proofs.Levels.{all-ranked}
 use Rattle.ranking.proofs.Memory.{rows-read}

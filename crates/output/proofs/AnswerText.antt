@@ -25,7 +25,7 @@ use Rattle.definitions.specs.Listing.{listOf}
 use Rattle.definitions.specs.Refusals.{Line, tried, line, readTable}
 use Rattle.definitions.specs.Tools.{below, select}
 use Rattle.definitions.specs.Weights.{matrix, cost, score}
-use Rattle.field.proofs.Instance.{sixteen-field}
+use Rattle.instances.proofs.Codes.{sixteen-field}
 use Rattle.refusals.specs.Refusal.{toldRefusal}
 use Rattle.refusals.specs.declared.Refusal.{Refusal}
 use Rattle.refusals.specs.declared.Refusal.the-variants.{Sizes, Setting, Length, Room, Symbol, Column, Cost, Zero}

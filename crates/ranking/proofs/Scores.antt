@@ -12,7 +12,7 @@ use Rattle.definitions.specs.Code.{Symbols, point, codeword}
 use Rattle.definitions.specs.Field.{numbers, value, sixteen}
 use Rattle.definitions.specs.Weights.{entry, score}
 use Rattle.algebra.specs.Grid.{entryOf}
-use Rattle.field.proofs.Instance.{sixteen-field}
+use Rattle.instances.proofs.Codes.{sixteen-field}
 use Rattle.ranking.specs.Rows.{matrixScore}
 use Rattle.weights.proofs.Cost.{matrix-entry}
 use Rattle.weights.specs.Matrix.{matrixOf}

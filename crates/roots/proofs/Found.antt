@@ -17,7 +17,7 @@ use Rattle.definitions.specs.Field.{numbers, sixteen}
 use Rattle.definitions.specs.Limits.{greatestCount}
 use Rattle.definitions.specs.Polynomial.{monomials, isZero}
 use Rattle.definitions.specs.Roots.{rootsOf}
-use Rattle.field.proofs.Instance.{sixteen-field}
+use Rattle.instances.proofs.Codes.{sixteen-field}
 use Rattle.root_tree.proofs.Arrays.{place-column, length-loaded}
 use Rattle.root_tree.proofs.Levels.{search-same, under-strip}
 use Rattle.root_tree.proofs.Once.{roots-in-order}

@@ -16,7 +16,7 @@ use Rattle.definitions.proofs.Tools.{below-zero}
 use Rattle.definitions.specs.Code.{Symbols}
 use Rattle.definitions.specs.Field.{numbers, value, sixteen}
 use Rattle.definitions.specs.Tools.{below}
-use Rattle.field.proofs.Instance.{sixteen-field}
+use Rattle.instances.proofs.Codes.{sixteen-field}
 use Rattle.root_tree.proofs.Levels.{search-handed, under-handed}
 use Rattle.root_tree.proofs.Search.{branch, search-zero, search-suc}
 use Rattle.root_tree.specs.Columns.{first, columns}

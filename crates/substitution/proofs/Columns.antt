@@ -19,7 +19,7 @@ use Rattle.definitions.proofs.Symbols.{take-symbols}
 use Rattle.definitions.specs.Code.{Symbols}
 use Rattle.definitions.specs.Field.{numbers, value, sixteen, sumOf}
 use Rattle.definitions.specs.Roots.{plus, scaled}
-use Rattle.field.proofs.Instance.{sixteen-field}
+use Rattle.instances.proofs.Codes.{sixteen-field}
 use Rattle.root_tree.specs.Columns.{shift, columns}
 use Rattle.root_tree.specs.Tree.{constantsZero}
 use Rattle.substitution.specs.Array.{passed}

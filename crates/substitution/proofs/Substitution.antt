@@ -21,7 +21,7 @@ use Rattle.definitions.specs.Code.{Symbols}
 use Rattle.definitions.specs.Field.{numbers, sixteen}
 use Rattle.definitions.specs.Polynomial.{isZero}
 use Rattle.definitions.specs.Tools.{smallest}
-use Rattle.field.proofs.Instance.{sixteen-field}
+use Rattle.instances.proofs.Codes.{sixteen-field}
 use Rattle.root_tree.proofs.Arrays.{place-once, place-within, columns-within, columns-beyond, columns-above, columns-at}
 use Rattle.root_tree.proofs.Columns.{substitute-above}
 use Rattle.root_tree.proofs.Levels.{strip-at, substitute-cell}

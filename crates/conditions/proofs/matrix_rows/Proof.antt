@@ -17,7 +17,7 @@ use Rattle.definitions.proofs.Joined.{joined-room}
 use Rattle.definitions.specs.Code.{Symbols, point}
 use Rattle.definitions.specs.Field.{numbers, sixteen}
 use Rattle.definitions.specs.Tools.{below}
-use Rattle.field.proofs.Instance.{sixteen-field}
+use Rattle.instances.proofs.Codes.{sixteen-field}
 use Rattle.blocks.specs.Row.{width}
 use Rattle.conditions.proofs.matrix_rows.Statement.{statement}
 use Rattle.conditions.proofs.matrix_rows.Tie as tie

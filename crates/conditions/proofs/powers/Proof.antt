@@ -7,7 +7,7 @@ use borrow.Author.Needs.{needs}
 use Rattle.algebra.proofs.Numbers.{power-symbol}
 use Rattle.definitions.proofs.Codeword.{power-zero, power-suc}
 use Rattle.definitions.specs.Field.{numbers, sixteen, power}
-use Rattle.field.proofs.Instance.{sixteen-field}
+use Rattle.instances.proofs.Codes.{sixteen-field}
 use Rattle.blocks.proofs.Filled.{filled-none, filled-more}
 use Rattle.blocks.specs.Row.{filled}
 use Rattle.conditions.proofs.powers.Statement.{statement}

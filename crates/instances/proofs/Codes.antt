@@ -1,4 +1,4 @@
--- Sixteen symbols are a field, and the theorem at sixteen symbols.
+-- Sixteen symbols are a field, and so are thirty-two; the theorem at sixteen symbols.
 -- Assumes nothing.
 use mathlib.Core.Bool.{true}
 use mathlib.Core.List.{List}

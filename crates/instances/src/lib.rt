@@ -1,0 +1,1 @@
+// The codes that carry a field.
