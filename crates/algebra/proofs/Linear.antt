@@ -9,6 +9,7 @@ use lib.ListN.{length, getD}
 use Rattle.definitions.specs.Field.{Ops}
 use Rattle.definitions.specs.Polynomial.{Term, terms, derivative, hasse, Passes}
 use Rattle.definitions.specs.Roots.{plus}
+use Rattle.algebra.specs.Dot.{dot}
 use Rattle.algebra.specs.Ring.{Ring, Hom}
 use Rattle.algebra.proofs.RingLaws.{ring, plus-assoc, plus-comm, plus-zero, times-zero}
 
@@ -17,29 +18,24 @@ module _ (A : Ops) where
 
   infixl 60 _⊕_
   infixl 70 _⊗_
-  -- the sum of r k q k over k below n
-  unfoldable pub dot : ℕ → (ℕ → K) → (ℕ → K) → K
-  dot zero r q = o
-  dot (suc n) r q = dot n r q ⊕ r n ⊗ q n
-
   -- a sum of nothing
-  pub dot-none : (r q : ℕ → K) → dot zero r q ≡ o
+  pub dot-none : (r q : ℕ → K) → dot A zero r q ≡ o
   unfolding dot
   dot-none r q = refl
 
   -- one entry more
-  pub dot-suc : (n : ℕ) (r q : ℕ → K) → dot (suc n) r q ≡ dot n r q ⊕ r n ⊗ q n
+  pub dot-suc : (n : ℕ) (r q : ℕ → K) → dot A (suc n) r q ≡ dot A n r q ⊕ r n ⊗ q n
   unfolding dot
   dot-suc n r q = refl
 
   -- products that are zero from j on add nothing
-  pub dot-ended : ((x : K) → x ⊕ o ≡ x) → (n j : ℕ) (r q : ℕ → K) → j ≤ n → ((k : ℕ) → j ≤ k → k < n → r k ⊗ q k ≡ o) → dot n r q ≡ dot j r q
-  dot-ended neutral zero j r q h e = let z : j ≡ zero = omega arith in ap (λ (x : ℕ). dot x r q) (sym z)
+  pub dot-ended : ((x : K) → x ⊕ o ≡ x) → (n j : ℕ) (r q : ℕ → K) → j ≤ n → ((k : ℕ) → j ≤ k → k < n → r k ⊗ q k ≡ o) → dot A n r q ≡ dot A j r q
+  dot-ended neutral zero j r q h e = let z : j ≡ zero = omega arith in ap (λ (x : ℕ). dot A x r q) (sym z)
   dot-ended neutral (suc n) j r q h e =
       elim (ℕ-discrete j (suc n)) [
-        | yes d ↦ ap (λ (x : ℕ). dot x r q) (sym d)
+        | yes d ↦ ap (λ (x : ℕ). dot A x r q) (sym d)
         | no d ↦
-            dot-suc n r q ∙ ap (λ (x : K). dot n r q ⊕ x) (e n (omega arith) (omega arith)) ∙ neutral (dot n r q)
+            dot-suc n r q ∙ ap (λ (x : K). dot A n r q ⊕ x) (e n (omega arith) (omega arith)) ∙ neutral (dot A n r q)
             ∙ dot-ended neutral n j r q (omega arith) (λ k l f. e k l (omega arith))
       ]
 
@@ -59,7 +55,7 @@ module _ (A : Ops) where
   hasse-cons m q s t x y = refl
 
   -- equal rows and vectors have equal products
-  pub dot-equal : (n : ℕ) (r s p q : ℕ → K) → ((k : ℕ) → k < n → r k ≡ s k) → ((k : ℕ) → k < n → p k ≡ q k) → dot n r p ≡ dot n s q
+  pub dot-equal : (n : ℕ) (r s p q : ℕ → K) → ((k : ℕ) → k < n → r k ≡ s k) → ((k : ℕ) → k < n → p k ≡ q k) → dot A n r p ≡ dot A n s q
   unfolding dot
   dot-equal zero r s p q e f = refl
   dot-equal (suc n) r s p q e f =

@@ -15,12 +15,13 @@ use Rattle.definitions.proofs.Codeword.{power-zero, power-suc}
 use Rattle.definitions.specs.Code.{Symbols, point}
 use Rattle.definitions.specs.Field.{Ops, Code, numbers, power}
 use Rattle.definitions.specs.Polynomial.{terms, binomial, modulo2, derivative, hasse}
+use Rattle.algebra.specs.Dot.{dot}
 use Rattle.algebra.specs.FieldOf.{FieldOf}
 use Rattle.algebra.specs.Ring.{Ring, IsField, Hom}
 use Rattle.algebra.proofs.Binomials.{binomial-over, modulo2-zero, modulo2-one, derivative-at}
 use Rattle.algebra.proofs.Carry.{carry-power}
 use Rattle.algebra.proofs.Elements.{number-injective, zero-symbol, zero-element, element-zero, element-one, one-symbol}
-use Rattle.algebra.proofs.Linear.{dot, row, dot-equal, dot-multiple, carry-dot, hasse-is-dot}
+use Rattle.algebra.proofs.Linear.{row, dot-equal, dot-multiple, carry-dot, hasse-is-dot}
 use Rattle.algebra.proofs.Numbers.{elements, number-power}
 use Rattle.algebra.proofs.Parity.{within, odd-binomial}
 use Rattle.algebra.proofs.RingLaws.{ring, one-times, times-zero, zero-times, times-assoc, times-left, cancel}

@@ -1,3 +1,4 @@
 pub mod Ring
 pub mod FieldOf
 pub mod Grid
+pub mod Dot

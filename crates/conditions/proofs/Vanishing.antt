@@ -12,7 +12,8 @@ use lib.Bits.{bitAnd, and-mask, and-zero-r}
 use lib.Dec.{eqb, eqb·suc-zero}
 use lib.ListN.{length, getD}
 use Rattle.algebra.proofs.Elements.{times-symbol, none-times}
-use Rattle.algebra.proofs.Linear.{dot, dot-equal, dot-ended}
+use Rattle.algebra.proofs.Linear.{dot-equal, dot-ended}
+use Rattle.algebra.specs.Dot.{dot}
 use Rattle.algebra.proofs.Masks.{masked, maskedRow, masked-symbol, masked-solves, masked-solves-at-zero}
 use Rattle.algebra.proofs.Numbers.{power-symbol}
 use Rattle.algebra.proofs.Parity.{within}

@@ -7,7 +7,7 @@ use Prim.Native.Nat.{ℕ, _+_, _-_, _*_, _/_, _≤_, _<_}
 use native.Mathlib.Omega.{arith}
 use lib.ListN.{length, getD}
 use lib.Seq.{sets}
-use Rattle.algebra.proofs.Linear.{dot}
+use Rattle.algebra.specs.Dot.{dot}
 use Rattle.algebra.proofs.Masks.{point-nonzero}
 use Rattle.algebra.proofs.Numbers.{point-symbol}
 use Rattle.algebra.specs.Grid.{entryOf}

@@ -3,7 +3,8 @@
 use mathlib.Core.Path.{_≡_, refl, sym, _∙_, ap}
 use Prim.Native.Nat.{ℕ, zero, suc, _≤_, _<_}
 use native.Mathlib.Omega.{arith}
-use Rattle.algebra.proofs.Linear.{dot, dot-none, dot-equal, dot-ended}
+use Rattle.algebra.proofs.Linear.{dot-none, dot-equal, dot-ended}
+use Rattle.algebra.specs.Dot.{dot}
 use Rattle.algebra.proofs.RingLaws.{ring, plus-zero, zero-plus, times-zero, zero-times}
 use Rattle.algebra.specs.Ring.{Ring}
 use Rattle.definitions.specs.Field.{Ops}

@@ -9,7 +9,8 @@ use native.Mathlib.Decide.{ℕ-discrete, decLt}
 use native.Mathlib.Omega.{arith}
 use lib.ListN.{getD}
 use Rattle.algebra.proofs.Elements.{number-injective, symbol-injective, zero-element, zero-symbol, one-symbol, plus-symbol, times-symbol, element-zero, element-one, element-plus, element-times, none-times}
-use Rattle.algebra.proofs.Linear.{dot, dot-equal, carry-dot}
+use Rattle.algebra.proofs.Linear.{dot-equal, carry-dot}
+use Rattle.algebra.specs.Dot.{dot}
 use Rattle.algebra.proofs.RingLaws.{plus-self, plus-zero, zero-times, equal-of-sum}
 use Rattle.algebra.specs.FieldOf.{FieldOf}
 use Rattle.algebra.specs.Grid.{entryOf}

@@ -9,7 +9,8 @@ use Prim.Native.Nat.{ℕ, zero, suc, _≤_, _<_}
 use native.Mathlib.Decide.{ℕ-discrete, decLt}
 use native.Mathlib.Omega.{arith}
 use borrow.Author.Tests.{lt-ltb, le-ltb}
-use Rattle.algebra.proofs.Linear.{dot, dot-suc, dot-multiple}
+use Rattle.algebra.proofs.Linear.{dot-suc, dot-multiple}
+use Rattle.algebra.specs.Dot.{dot}
 use Rattle.algebra.proofs.RingLaws.{plus-comm, plus-zero, zero-plus, plus-self, one-times, times-one, times-zero, zero-times, cancel}
 use Rattle.algebra.specs.Ring.{Ring, IsField, Hom}
 use Rattle.definitions.specs.Field.{Ops}
