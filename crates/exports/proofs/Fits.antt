@@ -106,7 +106,7 @@ cost-narrow n k m =
     let full = entries-mean (sixteen .symbols * n) m l in
     or (at-first greatestLevel m (omega arith)) (λ e.
     let none = above-means greatestLevel m e in
-    let small = cost-small m n (fits .2) full none in
+    let small = cost-small sixteen m n (fits .2) full none in
     let degree = bound-le (k - 1) (omega arith) (cost m) in
     last (costed-narrow (cost m) (bound (k - 1) (cost m)) (omega arith) (omega arith))))))
 

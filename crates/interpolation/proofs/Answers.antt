@@ -58,7 +58,7 @@ module _ (n k G : ℕ) (m out : List ℕ) where
           ∙ goes-on came (costWithin G m ∷ []) (refusing (refused 7 0) out) (Interpolated sixteen n k m out (refused 7 0) out) passed)
           (refl, refl)
 
-      pub found-is-answered : n ≤ sixteen .positions → length m ≡ sixteen .symbols * n → (columns : List (List ℕ)) → columns ≡ matrixOf m n
+      pub found-is-answered : n ≤ sixteen .positions → length m ≡ sixteen .symbols * n → (columns : List (List ℕ)) → columns ≡ matrixOf sixteen m n
           → (price D c place : ℕ) (after : List ℕ) → price ≡ cost m → price ≤ G → D ≡ bound (k - 1) price → c ≡ count (k - 1) D
           → Found columns (k - 1) D out place after → InterpolationAnswers sixteen n k G m out (interpolated D c) after
       found-is-answered small full columns ec price D c place after ep cheap ed en f =

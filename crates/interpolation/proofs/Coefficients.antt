@@ -64,16 +64,16 @@ led-whole j n out now low l = record {
 
 -- ---- what is given is within the limits of the functions
 
-module _ (v D w : ℕ) (a : List (List ℕ)) (pos : 0 < v) (hv : v < sixteen .positions) (cheap : matrixCost a ≤ greatestLimit) (is-bound : D ≡ bound v (matrixCost a))
+module _ (v D w : ℕ) (a : List (List ℕ)) (pos : 0 < v) (hv : v < sixteen .positions) (cheap : matrixCost sixteen a ≤ greatestLimit) (is-bound : D ≡ bound v (matrixCost sixteen a))
     (is-count : w ≡ count v D) where
   -- the coefficients fit into a row
   pub count-small : w ≤ width
-  count-small = let f = subst (λ (d : ℕ). count v d ≤ width) (sym is-bound) (width-fits v (matrixCost a) pos hv cheap) in omega arith
+  count-small = let f = subst (λ (d : ℕ). count v d ≤ width) (sym is-bound) (width-fits v (matrixCost sixteen a) pos hv cheap) in omega arith
 
 module _ (a : List (List ℕ)) (v D w cost : ℕ) (out : List ℕ) (g : Given a v D w cost out) where
   -- so do the powers of x
   pub degree-small : D < width
-  degree-small = let b = bound-le v (g .weighted) (matrixCost a) in let e = g .bounded in let p = g .priced in let c = g .cheap in omega arith
+  degree-small = let b = bound-le v (g .weighted) (matrixCost sixteen a) in let e = g .bounded in let p = g .priced in let c = g .cheap in omega arith
 
   -- and the coefficients
   pub row-fits : w ≤ width
@@ -86,7 +86,7 @@ module _ (a : List (List ℕ)) (v D w cost : ℕ) (out : List ℕ) (g : Given a 
   -- and more monomials
   pub more : cost < w
   more =
-      let f : matrixCost a < count v D = subst (λ (d : ℕ). matrixCost a < count v d) (sym (g .bounded)) (bound-is-least v (g .weighted) (matrixCost a) .0) in
+      let f : matrixCost sixteen a < count v D = subst (λ (d : ℕ). matrixCost sixteen a < count v d) (sym (g .bounded)) (bound-is-least v (g .weighted) (matrixCost sixteen a) .0) in
       let e = g .counted in let p = g .priced in omega arith
 
   -- the rows of the system that holds them
@@ -167,7 +167,7 @@ module _ (a : List (List ℕ)) (v D cost : ℕ) (out : List ℕ) (g : Given a v 
       (λ r k _ _. refl) (e .same) j (let w = within .fewer in omega arith) low reduced q symbols
       (coefficients-back sixteen j b (count v D) out led after place (g .room) l s) one (λ k h _. ends k h)
 
-  module _ (m : List ℕ) (n : ℕ) (small : n ≤ sixteen .positions) (full : length m ≡ sixteen .symbols * n) (loaded : a ≡ matrixOf m n) where
+  module _ (m : List ℕ) (n : ℕ) (small : n ≤ sixteen .positions) (full : length m ≡ sixteen .symbols * n) (loaded : a ≡ matrixOf sixteen m n) where
     -- the conditions are there
     there : length (maskedRows v D (count v D) a) ≤ length o
     there = let p = rows-priced a v D (count v D) cost out g in omega arith

@@ -40,16 +40,16 @@ length-point px n w es b m =
     length-join (orderAt row es b m) m ∙ sum-ext m _ (λ s. m - s) (λ s h. length-orderAt row es b m s) ∙ point-cost m
 
 -- of a position
-length-column : (px : List ℕ) (n w : ℕ) (es : List (List ℕ)) (column : List ℕ) → length (maskedColumn px n w es column) ≡ columnCost column
+length-column : (px : List ℕ) (n w : ℕ) (es : List (List ℕ)) (column : List ℕ) → length (maskedColumn px n w es column) ≡ columnCost sixteen column
 length-column px n w es column =
     length-join (pointAt px n w es column) (sixteen .symbols)
     ∙ sum-ext (sixteen .symbols) _ (λ b. entryCost (getD column b 0)) (λ b h. length-point px n w es b (getD column b 0))
 
 -- there are as many conditions as the matrix costs
-pub length-conditions : (v d w : ℕ) (a : List (List ℕ)) → length (maskedRows v d w a) ≡ matrixCost a
+pub length-conditions : (v d w : ℕ) (a : List (List ℕ)) → length (maskedRows v d w a) ≡ matrixCost sixteen a
 length-conditions v d w a =
     length-join (columnAt v d w a) (sixteen .positions)
-    ∙ sum-ext (sixteen .positions) _ (λ i. columnCost (getD a i []))
+    ∙ sum-ext (sixteen .positions) _ (λ i. columnCost sixteen (getD a i []))
     (λ i h. length-column (powersRow (d + 1) (point sixteen i)) (d / v + 1) w (exponentRows v w) (getD a i []))
 
 -- ---- which
@@ -127,7 +127,7 @@ module _ (v D : ℕ) (pos : 0 < v) (fits : count v D ≤ width) (a o : List (Lis
 nonzero : (i : ℕ) → point sixteen i ≢ 0
 nonzero = point-nonzero sixteen sixteen-field (λ e. let z : ⊥ = omega arith in z)
 
-module _ (m : List ℕ) (n v D : ℕ) (small : n ≤ sixteen .positions) (size : length m ≡ sixteen .symbols * n) (pos : 0 < v) (fits : count v D ≤ width) (a : List (List ℕ)) (loaded : a ≡ matrixOf m n)
+module _ (m : List ℕ) (n v D : ℕ) (small : n ≤ sixteen .positions) (size : length m ≡ sixteen .symbols * n) (pos : 0 < v) (fits : count v D ≤ width) (a : List (List ℕ)) (loaded : a ≡ matrixOf sixteen m n)
     (q : List ℕ) (sq : Symbols sixteen q) where
   -- the row of a condition times q is zero exactly where the derivative is
   condition-vanishes : (ρ : List ℕ) (c : Condition v D (count v D) a ρ)

@@ -12,10 +12,10 @@ use Rattle.definitions.specs.Weights.{entry}
 use Rattle.weights.proofs.Cost.{matrix-entry}
 use Rattle.weights.specs.Matrix.{matrixOf}
 
-module _ (m : List ℕ) (n : ℕ) (small : n ≤ sixteen .positions) (size : length m ≡ sixteen .symbols * n) (a : List (List ℕ)) (loaded : a ≡ matrixOf m n) where
+module _ (m : List ℕ) (n : ℕ) (small : n ≤ sixteen .positions) (size : length m ≡ sixteen .symbols * n) (a : List (List ℕ)) (loaded : a ≡ matrixOf sixteen m n) where
   -- the entry of a position and a symbol is that of the bytes
   pub entry-is : (i b : ℕ) → i < sixteen .positions → b < sixteen .symbols → entryOf a i b ≡ entry sixteen m i b
-  entry-is i b hi hb = ap (λ (x : List (List ℕ)). entryOf x i b) loaded ∙ matrix-entry m n small size i b hi hb
+  entry-is i b hi hb = ap (λ (x : List (List ℕ)). entryOf x i b) loaded ∙ matrix-entry sixteen m n small size i b hi hb
 
   -- a position with a multiplicity is one of the n
   pub used : (i b : ℕ) → b < sixteen .symbols → 0 < entry sixteen m i b → i < n

@@ -15,15 +15,15 @@ pub record Given (a : List (List ℕ)) (v D w cost : ℕ) (out : List ℕ) : Typ
   pub weighted : 0 < v
   pub low : v < sixteen .positions
   pub cheap : cost ≤ greatestLimit
-  pub priced : cost ≡ matrixCost a
-  pub bounded : D ≡ bound v (matrixCost a)
+  pub priced : cost ≡ matrixCost sixteen a
+  pub bounded : D ≡ bound v (matrixCost sixteen a)
   pub counted : w ≡ count v D
   pub room : w ≤ length out
 
 pub record Found (a : List (List ℕ)) (v D : ℕ) (before : List ℕ) (place : ℕ) (after : List ℕ) : Type 0 where
   pub coefficients : List ℕ
   -- they interpolate the bytes that the matrix was loaded from
-  pub interpolates : (m : List ℕ) (n : ℕ) → n ≤ sixteen .positions → length m ≡ sixteen .symbols * n → a ≡ matrixOf m n → Interpolates sixteen n v D m coefficients
+  pub interpolates : (m : List ℕ) (n : ℕ) → n ≤ sixteen .positions → length m ≡ sixteen .symbols * n → a ≡ matrixOf sixteen m n → Interpolates sixteen n v D m coefficients
   pub size : length coefficients ≡ count v D
   pub leads : place ≡ leading coefficients
   pub written : after ≡ coefficients ++ drop (length coefficients) before

@@ -92,8 +92,8 @@ pub fn polynomial(
     count: usize,
     out: &mut [u8],
 ) -> usize
-    requires { ⌜ (0 < v) × (v < sixteen .positions) × (matrixCost (now matrix) ≤ greatestLimit) ⌝ }
-    requires { ⌜ (d ≡ bound v (matrixCost (now matrix))) × (count ≡ Rattle.definitions.specs.Bound.count v d) × (count ≤ length (now out)) ⌝ }
+    requires { ⌜ (0 < v) × (v < sixteen .positions) × (matrixCost sixteen (now matrix) ≤ greatestLimit) ⌝ }
+    requires { ⌜ (d ≡ bound v (matrixCost sixteen (now matrix))) × (count ≡ Rattle.definitions.specs.Bound.count v d) × (count ≤ length (now out)) ⌝ }
     ensures { λ r. ⌜ Found (now (matrix .entry)) v d (now (out .entry)) r (now (out .exit)) ⌝ }
 {
     let cost = weights::inside::cost(matrix);

@@ -29,9 +29,9 @@ module _ (n k price : ℕ) (hk : 2 ≤ k) (hn : k ≤ n) (small : n ≤ sixteen 
       e-le : count (k - 1) D ≤ width → N ≤ width
       e-le h = omega arith
 
-  module _ (a : List (List ℕ)) (m : List ℕ) (size : length m ≡ sixteen .symbols * n) (loaded : a ≡ matrixOf m n) (paid : price ≡ matrixCost a) where
+  module _ (a : List (List ℕ)) (m : List ℕ) (size : length m ≡ sixteen .symbols * n) (loaded : a ≡ matrixOf sixteen m n) (paid : price ≡ matrixCost sixteen a) where
     price-is-cost : price ≡ cost m
-    price-is-cost = paid ∙ ap matrixCost loaded ∙ matrix-cost m n small size
+    price-is-cost = paid ∙ ap (matrixCost sixteen) loaded ∙ matrix-cost sixteen m n small size
 
     pub bound-of-cost : D ≡ bound (k - 1) (cost m)
     bound-of-cost = is-bound ∙ ap (bound (k - 1)) price-is-cost

@@ -79,29 +79,29 @@ module _ (n k D t : ℕ) (q : List ℕ) (r : Rooted n k D t q) where
         let few = few-roots .0 in
         omega arith
 
-    agree : All (λ f. matrixScore (matrixOf m n) n f ≡ score sixteen n m f) (rootsOf sixteen D k q)
-    agree = all-members (λ f. matrixScore (matrixOf m n) n f ≡ score sixteen n m f) (rootsOf sixteen D k q) (λ f e.
+    agree : All (λ f. matrixScore (matrixOf sixteen m n) n f ≡ score sixteen n m f) (rootsOf sixteen D k q)
+    agree = all-members (λ f. matrixScore (matrixOf sixteen m n) n f ≡ score sixteen n m f) (rootsOf sixteen D k q) (λ f e.
         matrix-score m n (r .sized .2) size f (messages-in-order sixteen (zero-symbol sixteen sixteen-field) k .symbols f (root-member D k q f e)))
 
     is-ranked : ranked (score sixteen n m) t (rootsOf sixteen D k q) ≡ rootsAbove n k m D q t
     unfolding ranked
     is-ranked = refl
 
-    ranked-are : (a : List (List ℕ)) (before found : List ℕ) (many : ℕ) → a ≡ matrixOf m n → many ≡ length (rootsOf sixteen D k q) → found ≡ rowsOnto sixteen k (rootsOf sixteen D k q) before
+    ranked-are : (a : List (List ℕ)) (before found : List ℕ) (many : ℕ) → a ≡ matrixOf sixteen m n → many ≡ length (rootsOf sixteen D k q) → found ≡ rowsOnto sixteen k (rootsOf sixteen D k q) before
         → ranked (matrixScore a n) t (rowsOf k many found) ≡ rootsAbove n k m D q t
     ranked-are a before found many ea em ef =
         ap (λ (x : List (List ℕ)). ranked (matrixScore x n) t (rowsOf k many found)) ea
-        ∙ ap (ranked (matrixScore (matrixOf m n) n) t) (rows-read k (rootsOf sixteen D k q) before found many (roots-sized D k q) em ef)
-        ∙ ranked-same (matrixScore (matrixOf m n) n) (score sixteen n m) t (rootsOf sixteen D k q) agree ∙ is-ranked
+        ∙ ap (ranked (matrixScore (matrixOf sixteen m n) n) t) (rows-read k (rootsOf sixteen D k q) before found many (roots-sized D k q) em ef)
+        ∙ ranked-same (matrixScore (matrixOf sixteen m n) n) (score sixteen n m) t (rootsOf sixteen D k q) agree ∙ is-ranked
 
     -- the scores are those of the bytes
-    ranked-scores : map (matrixScore (matrixOf m n) n) (rootsAbove n k m D q t) ≡ map (score sixteen n m) (rootsAbove n k m D q t)
+    ranked-scores : map (matrixScore (matrixOf sixteen m n) n) (rootsAbove n k m D q t) ≡ map (score sixteen n m) (rootsAbove n k m D q t)
     ranked-scores =
-        map-same (matrixScore (matrixOf m n) n) (score sixteen n m) (rootsAbove n k m D q t)
-        (subst (λ (l : List (List ℕ)). All (λ f. matrixScore (matrixOf m n) n f ≡ score sixteen n m f) l) is-ranked
-        (all-ranked (score sixteen n m) (λ f. matrixScore (matrixOf m n) n f ≡ score sixteen n m f) t (rootsOf sixteen D k q) agree))
+        map-same (matrixScore (matrixOf sixteen m n) n) (score sixteen n m) (rootsAbove n k m D q t)
+        (subst (λ (l : List (List ℕ)). All (λ f. matrixScore (matrixOf sixteen m n) n f ≡ score sixteen n m f) l) is-ranked
+        (all-ranked (score sixteen n m) (λ f. matrixScore (matrixOf sixteen m n) n f ≡ score sixteen n m f) t (rootsOf sixteen D k q) agree))
 
-    pub roots-listed : (a : List (List ℕ)) (before found : List ℕ) (many : ℕ) → a ≡ matrixOf m n → many ≡ length (rootsOf sixteen D k q) → found ≡ rowsOnto sixteen k (rootsOf sixteen D k q) before
+    pub roots-listed : (a : List (List ℕ)) (before found : List ℕ) (many : ℕ) → a ≡ matrixOf sixteen m n → many ≡ length (rootsOf sixteen D k q) → found ≡ rowsOnto sixteen k (rootsOf sixteen D k q) before
         → (out scores : List ℕ) (count : ℕ) (outAfter scoresAfter : List ℕ) → count ≡ length (ranked (matrixScore a n) t (rowsOf k many found))
         → outAfter ≡ rowsOnto sixteen k (ranked (matrixScore a n) t (rowsOf k many found)) out → scoresAfter ≡ scoresOf (matrixScore a n) (ranked (matrixScore a n) t (rowsOf k many found)) scores
         → Lists n k m (rootsAbove n k m D q t) out scores count outAfter scoresAfter

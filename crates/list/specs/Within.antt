@@ -21,7 +21,7 @@ use Rattle.weights.specs.Matrix.{matrixOf}
 
 -- the matrix was loaded from the bytes of n positions
 abbrev pub Loaded : List (List ℕ) → ℕ → Type 0
-Loaded a n = (m : List ℕ) × (length m ≡ sixteen .symbols * n) × (a ≡ matrixOf m n)
+Loaded a n = (m : List ℕ) × (length m ≡ sixteen .symbols * n) × (a ≡ matrixOf sixteen m n)
 
 -- rows that are listed: how many, never more than the lent memory takes, and the memory after
 pub record Lists (n k : ℕ) (m : List ℕ) (listed : List (List ℕ)) (rows scores : List ℕ) (count : ℕ) (rowsAfter scoresAfter : List ℕ) : Type 0 where
@@ -46,12 +46,12 @@ pub record Rooted (n k D t : ℕ) (q : List ℕ) : Type 0 where
 
 abbrev pub RootsOf : List (List ℕ) → ℕ → ℕ → ℕ → List ℕ → ℕ → List ℕ → List ℕ → ℕ → List ℕ → List ℕ → Type 0
 RootsOf a n k D q t rows scores count rowsAfter scoresAfter =
-    (m : List ℕ) → length m ≡ sixteen .symbols * n → a ≡ matrixOf m n → Lists n k m (rootsAbove n k m D q t) rows scores count rowsAfter scoresAfter
+    (m : List ℕ) → length m ≡ sixteen .symbols * n → a ≡ matrixOf sixteen m n → Lists n k m (rootsAbove n k m D q t) rows scores count rowsAfter scoresAfter
 
 -- the list of the bytes that the matrix was loaded from
 abbrev pub ListsOf : List (List ℕ) → ℕ → ℕ → List ℕ → List ℕ → ℕ → List ℕ → List ℕ → Type 0
 ListsOf a n k rows scores count rowsAfter scoresAfter =
-    (m : List ℕ) → length m ≡ sixteen .symbols * n → a ≡ matrixOf m n → Lists n k m (listOf sixteen n k m) rows scores count rowsAfter scoresAfter
+    (m : List ℕ) → length m ≡ sixteen .symbols * n → a ≡ matrixOf sixteen m n → Lists n k m (listOf sixteen n k m) rows scores count rowsAfter scoresAfter
 
 -- what a table makes of the list: the answer and both memories, refused or listed
 module _ (table : List Line) (n k : ℕ) (m rows scores : List ℕ) where
@@ -64,4 +64,4 @@ module _ (table : List Line) (n k : ℕ) (m rows scores : List ℕ) where
 -- the last line of both tables, the cost
 abbrev pub PricedOf : List (List ℕ) → ℕ → ℕ → ℕ → List ℕ → List ℕ → Answer → List ℕ → List ℕ → Type 0
 PricedOf a n k G rows scores answer rowsAfter scoresAfter =
-    (m : List ℕ) → length m ≡ sixteen .symbols * n → a ≡ matrixOf m n → Answered (costWithin G m ∷ []) n k m rows scores answer rowsAfter scoresAfter
+    (m : List ℕ) → length m ≡ sixteen .symbols * n → a ≡ matrixOf sixteen m n → Answered (costWithin G m ∷ []) n k m rows scores answer rowsAfter scoresAfter

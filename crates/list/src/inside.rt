@@ -50,7 +50,7 @@ pub fn list_within(
     rows: &mut [u8],
     scores: &mut [u16],
 ) -> usize
-    requires { ⌜ (2 ≤ k) × (k ≤ n) × (n ≤ sixteen .positions) × (cost ≡ matrixCost (now matrix)) × (cost ≤ greatestLimit) ⌝ }
+    requires { ⌜ (2 ≤ k) × (k ≤ n) × (n ≤ sixteen .positions) × (cost ≡ matrixCost sixteen (now matrix)) × (cost ≤ greatestLimit) ⌝ }
     requires { ⌜ (greatestRows * k ≤ length (now rows)) × (greatestRows ≤ length (now scores)) ⌝ }
     requires { ⌜ Loaded (now matrix) n ⌝ }
     ensures { λ r. ⌜ ListsOf (now (matrix .entry)) n k (now (rows .entry)) (now (scores .entry)) r (now (rows .exit)) (now (scores .exit)) ⌝ }

@@ -17,9 +17,9 @@ use Rattle.ranking.specs.Rows.{matrixScore}
 use Rattle.weights.proofs.Cost.{matrix-entry}
 use Rattle.weights.specs.Matrix.{matrixOf}
 
-pub matrix-score : (m : List ℕ) (n : ℕ) → n ≤ sixteen .positions → length m ≡ sixteen .symbols * n → (f : List ℕ) → Symbols sixteen f → matrixScore (matrixOf m n) n f ≡ score sixteen n m f
+pub matrix-score : (m : List ℕ) (n : ℕ) → n ≤ sixteen .positions → length m ≡ sixteen .symbols * n → (f : List ℕ) → Symbols sixteen f → matrixScore (matrixOf sixteen m n) n f ≡ score sixteen n m f
 matrix-score m n small size f s =
-    sum-ext n (λ (i : ℕ). entryOf (matrixOf m n) i (value (numbers sixteen) (point sixteen i) f)) (λ (i : ℕ). entry sixteen m i (getD (codeword sixteen n f) i 0))
+    sum-ext n (λ (i : ℕ). entryOf (matrixOf sixteen m n) i (value (numbers sixteen) (point sixteen i) f)) (λ (i : ℕ). entry sixteen m i (getD (codeword sixteen n f) i 0))
     (λ i h.
-    matrix-entry m n small size i (value (numbers sixteen) (point sixteen i) f) (omega arith) (value-symbol sixteen sixteen-field (point sixteen i) f (point-symbol sixteen sixteen-field i) s)
+    matrix-entry sixteen m n small size i (value (numbers sixteen) (point sixteen i) f) (omega arith) (value-symbol sixteen sixteen-field (point sixteen i) f (point-symbol sixteen sixteen-field i) s)
     ∙ ap (entry sixteen m i) (sym (codeword-at sixteen f n i h)))

@@ -14,7 +14,7 @@ use lib.Seq.{length-take-le}
 use Rattle.definitions.proofs.Loops.{put-more, map-more}
 use Rattle.definitions.proofs.Tools.{below-zero, smallest-is}
 use Rattle.definitions.proofs.Weights.{map-take}
-use Rattle.definitions.specs.Field.{sixteen}
+use Rattle.definitions.specs.Field.{Code}
 use Rattle.definitions.specs.Limits.{columnSum, greatestLevel}
 use Rattle.definitions.specs.Refusals.{badColumn}
 use Rattle.definitions.specs.Tools.{below, smallest}
@@ -30,9 +30,9 @@ multiplicity-more L r out now i x hr ho e ex =
     ∙ ap (λ (l : List ℕ). l ++ drop (i + 1) out) (sym (map-take (multiplicity L) r i hr) ∙ ap (λ (n : ℕ). matrix L (take n r)) (sym (add-one i))))
 
 -- one column more is loaded
-pub column-more : (m : List ℕ) (rest now : List (List ℕ)) (i : ℕ) (col : List ℕ) → i < length rest → now ≡ map (columnOf m) (below i) ++ drop i rest
-    → col ≡ columnOf m i → set now i col ≡ map (columnOf m) (below (i + 1)) ++ drop (i + 1) rest
-column-more m rest now i col h e ec = map-more (columnOf m) rest now i col h e ec
+pub column-more : (C : Code) (m : List ℕ) (rest now : List (List ℕ)) (i : ℕ) (col : List ℕ) → i < length rest → now ≡ map (columnOf C m) (below i) ++ drop i rest
+    → col ≡ columnOf C m i → set now i col ≡ map (columnOf C m) (below (i + 1)) ++ drop (i + 1) rest
+column-more C m rest now i col h e ec = map-more (columnOf C m) rest now i col h e ec
 
 -- a level within limits times a reliability
 pub level-fits : (L r : ℕ) → L ≤ greatestLevel → r < 65536 → L * r ≤ greatestLevel * 65535
@@ -43,17 +43,17 @@ pub cost-fits : (m : ℕ) → m < 256 → m * (m + 1) ≤ 65280
 cost-fits m h = mul-le-mul {n₁ = m} {m₁ = m + 1} {n₂ = 255} {m₂ = 256} (omega arith) (omega arith)
 
 -- no column is loaded yet
-pub none-loaded : (m : List ℕ) → zeroColumns ≡ matrixOf m 0
-none-loaded m = ap (λ (l : List ℕ). map (columnOf m) l ++ zeroColumns) (sym below-zero)
+pub none-loaded : (C : Code) (m : List ℕ) → zeroColumns C ≡ matrixOf C m 0
+none-loaded C m = ap (λ (l : List ℕ). map (columnOf C m) l ++ zeroColumns C) (sym below-zero)
 
 -- the columns that a search has passed sum to 4,096
-module _ (r : List ℕ) (n i : ℕ) (passed : (j : ℕ) → j < i → badColumn sixteen r j ≡ false) where
-  pub column-found : (total : ℕ) → i < n → total ≡ sumOfColumn sixteen r i → (total ≡ columnSum → ⊥) → i ≡ smallest (badColumn sixteen r) n
+module _ (C : Code) (r : List ℕ) (n i : ℕ) (passed : (j : ℕ) → j < i → badColumn C r j ≡ false) where
+  pub column-found : (total : ℕ) → i < n → total ≡ sumOfColumn C r i → (total ≡ columnSum → ⊥) → i ≡ smallest (badColumn C r) n
   column-found total h e bad =
-      sym (smallest-is (badColumn sixteen r) n i (omega arith) passed (λ _. ap not (ne-eqb (sumOfColumn sixteen r i) columnSum (λ q. bad (e ∙ q)))))
+      sym (smallest-is (badColumn C r) n i (omega arith) passed (λ _. ap not (ne-eqb (sumOfColumn C r i) columnSum (λ q. bad (e ∙ q)))))
 
-  pub column-passed : (total : ℕ) → total ≡ sumOfColumn sixteen r i → total ≡ columnSum → (j : ℕ) → j < i + 1 → badColumn sixteen r j ≡ false
-  column-passed total e right = below-more (λ (j : ℕ). badColumn sixteen r j ≡ false) i passed (ap not (eq-eqb (sumOfColumn sixteen r i) columnSum (sym e ∙ right)))
+  pub column-passed : (total : ℕ) → total ≡ sumOfColumn C r i → total ≡ columnSum → (j : ℕ) → j < i + 1 → badColumn C r j ≡ false
+  column-passed total e right = below-more (λ (j : ℕ). badColumn C r j ≡ false) i passed (ap not (eq-eqb (sumOfColumn C r i) columnSum (sym e ∙ right)))
 
-  pub no-column : i ≤ n → n ≤ i → i ≡ smallest (badColumn sixteen r) n
-  no-column h k = sym (smallest-is (badColumn sixteen r) n i h passed (λ l. let z : ⊥ = omega arith in absurd z))
+  pub no-column : i ≤ n → n ≤ i → i ≡ smallest (badColumn C r) n
+  no-column h k = sym (smallest-is (badColumn C r) n i h passed (λ l. let z : ⊥ = omega arith in absurd z))

@@ -3,25 +3,26 @@
 use mathlib.Core.List.{List, [], _++_, map}
 use Prim.Native.Nat.{ℕ, _*_}
 use lib.ListN.{take, drop, getD, replicate}
-use Rattle.definitions.specs.Field.{sixteen}
+use Rattle.definitions.specs.Field.{Code}
 use Rattle.definitions.specs.Tools.{below, sum}
 use Rattle.definitions.specs.Weights.{entryCost}
 
--- the sixteen numbers of position i
-abbrev pub columnOf : List ℕ → ℕ → List ℕ
-columnOf m i = take (sixteen .symbols) (drop (sixteen .symbols * i) m)
+module _ (C : Code) where
+  -- the numbers of position i, one a symbol
+  abbrev pub columnOf : List ℕ → ℕ → List ℕ
+  columnOf m i = take (C .symbols) (drop (C .symbols * i) m)
 
--- "unused columns are zero"
-abbrev pub zeroColumns : List (List ℕ)
-zeroColumns = replicate (sixteen .positions) (replicate (sixteen .symbols) 0)
+  -- "unused columns are zero"
+  abbrev pub zeroColumns : List (List ℕ)
+  zeroColumns = replicate (C .positions) (replicate (C .symbols) 0)
 
--- the columns of n positions, and unused ones
-abbrev pub matrixOf : List ℕ → ℕ → List (List ℕ)
-matrixOf m n = map (columnOf m) (below n) ++ drop n zeroColumns
+  -- the columns of n positions, and unused ones
+  abbrev pub matrixOf : List ℕ → ℕ → List (List ℕ)
+  matrixOf m n = map (columnOf m) (below n) ++ drop n zeroColumns
 
--- the cost of a column, and of all columns
-abbrev pub columnCost : List ℕ → ℕ
-columnCost c = sum (sixteen .symbols) (λ (b : ℕ). entryCost (getD c b 0))
+  -- the cost of a column, and of all columns
+  abbrev pub columnCost : List ℕ → ℕ
+  columnCost c = sum (C .symbols) (λ (b : ℕ). entryCost (getD c b 0))
 
-abbrev pub matrixCost : List (List ℕ) → ℕ
-matrixCost a = sum (sixteen .positions) (λ (i : ℕ). columnCost (getD a i []))
+  abbrev pub matrixCost : List (List ℕ) → ℕ
+  matrixCost a = sum (C .positions) (λ (i : ℕ). columnCost (getD a i []))

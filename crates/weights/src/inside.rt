@@ -90,7 +90,7 @@ pub fn multiplicities_into(level: usize, reliabilities: &[u16], out: &mut [u8])
 
 fn column(matrix: &[u8], i: usize) -> [u8; SYMBOLS]
     requires { ⌜ (i < sixteen .positions) × (sixteen .symbols * i + sixteen .symbols ≤ length (now matrix)) ⌝ }
-    ensures { λ r. ⌜ r ≡ columnOf (now (matrix .entry)) i ⌝ }
+    ensures { λ r. ⌜ r ≡ columnOf sixteen (now (matrix .entry)) i ⌝ }
 {
     let mut col = [0u8; SYMBOLS];
     let mut b = 0;
@@ -104,7 +104,7 @@ fn column(matrix: &[u8], i: usize) -> [u8; SYMBOLS]
 // The matrix that is lent as bytes, by value.
 pub fn load(matrix: &[u8], n: usize) -> [[u8; SYMBOLS]; POSITIONS]
     requires { ⌜ (n ≤ sixteen .positions) × (sixteen .symbols * n ≤ length (now matrix)) ⌝ }
-    ensures { λ r. ⌜ r ≡ matrixOf (now (matrix .entry)) n ⌝ }
+    ensures { λ r. ⌜ r ≡ matrixOf sixteen (now (matrix .entry)) n ⌝ }
 {
     let mut columns = [[0u8; SYMBOLS]; POSITIONS];
     let mut i = 0;
@@ -118,7 +118,7 @@ pub fn load(matrix: &[u8], n: usize) -> [[u8; SYMBOLS]; POSITIONS]
 
 fn weighed_column(level: usize, reliabilities: &[u16], i: usize) -> [u8; SYMBOLS]
     requires { ⌜ (level ≤ greatestLevel) × (i < sixteen .positions) × (sixteen .symbols * i + sixteen .symbols ≤ length (now reliabilities)) ⌝ }
-    ensures { λ r. ⌜ r ≡ columnOf (matrix level (now (reliabilities .entry))) i ⌝ }
+    ensures { λ r. ⌜ r ≡ columnOf sixteen (matrix level (now (reliabilities .entry))) i ⌝ }
 {
     let mut col = [0u8; SYMBOLS];
     let mut b = 0;
@@ -132,7 +132,7 @@ fn weighed_column(level: usize, reliabilities: &[u16], i: usize) -> [u8; SYMBOLS
 // The matrix of the reliabilities, by value.
 pub fn weighed(level: usize, reliabilities: &[u16], n: usize) -> [[u8; SYMBOLS]; POSITIONS]
     requires { ⌜ (level ≤ greatestLevel) × (n ≤ sixteen .positions) × (sixteen .symbols * n ≤ length (now reliabilities)) ⌝ }
-    ensures { λ r. ⌜ r ≡ matrixOf (matrix level (now (reliabilities .entry))) n ⌝ }
+    ensures { λ r. ⌜ r ≡ matrixOf sixteen (matrix level (now (reliabilities .entry))) n ⌝ }
 {
     let mut columns = [[0u8; SYMBOLS]; POSITIONS];
     let mut i = 0;
@@ -145,7 +145,7 @@ pub fn weighed(level: usize, reliabilities: &[u16], n: usize) -> [[u8; SYMBOLS];
 }
 
 fn column_cost(col: &[u8; SYMBOLS]) -> usize
-    ensures { λ r. ⌜ (r ≡ columnCost (now (col .entry))) × (r < 1000000) ⌝ }
+    ensures { λ r. ⌜ (r ≡ columnCost sixteen (now (col .entry))) × (r < 1000000) ⌝ }
 {
     let mut total = 0;
     let mut b = 0;
@@ -158,7 +158,7 @@ fn column_cost(col: &[u8; SYMBOLS]) -> usize
 }
 
 pub fn cost(matrix: &[[u8; SYMBOLS]; POSITIONS]) -> usize
-    ensures { λ r. ⌜ r ≡ matrixCost (now (matrix .entry)) ⌝ }
+    ensures { λ r. ⌜ r ≡ matrixCost sixteen (now (matrix .entry)) ⌝ }
 {
     let mut total = 0;
     let mut i = 0;

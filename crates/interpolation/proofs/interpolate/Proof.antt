@@ -5,6 +5,7 @@ use Prim.Native.Nat.{_-_, _≤_}
 use native.Mathlib.Omega.{arith}
 use Rattle.definitions.proofs.Bound.{bound-le}
 use Rattle.definitions.specs.Bound.{bound}
+use Rattle.definitions.specs.Field.{sixteen}
 use Rattle.definitions.specs.Limits.{greatestLimit}
 use Rattle.definitions.specs.Weights.{cost}
 use Rattle.interpolation.proofs.Answers.{front, Fit, fits, refused-by-check, refused-by-cost, found-is-answered}
@@ -48,7 +49,7 @@ paid c =
     let l = c .before .before in
     let a = entry (l .before .before .before) .args in
     let f = fit (l .before) in
-    loaded-cost (a .matrix .now) (a .n) (f .sized .2) (f .full) (l .load .result) (c .cost .result) (l .load .ensures) (c .cost .ensures)
+    loaded-cost sixteen (a .matrix .now) (a .n) (f .sized .2) (f .full) (l .load .result) (c .cost .result) (l .load .ensures) (c .cost .ensures)
 
 returns-2 : tie.Need-returns-2
 returns-2 c =
@@ -60,7 +61,7 @@ returns-2 c =
 sub-v : tie.Need-sub-v
 sub-v c = let s = fit (c .before .before .before .before) .sized in omega arith
 
-cheap : (c : tie.Else1) → matrixCost (c .before .before .before .load .result) ≤ greatestLimit
+cheap : (c : tie.Else1) → matrixCost sixteen (c .before .before .before .load .result) ≤ greatestLimit
 cheap c = let low = fit (c .before .before .before .before) .low in let e = c .before .cost .ensures in omega arith
 
 bound-requires : tie.Need-bound-requires
@@ -72,7 +73,7 @@ bound-requires c κs =
 
 -- the bound is that of the columns
 bounded : (c : tie.After-bound)
-    → c .bound .result ≡ bound (entry (c .before .before .before .before .before .before .before) .args .k - 1) (matrixCost (c .before .before .before .before .load .result))
+    → c .bound .result ≡ bound (entry (c .before .before .before .before .before .before .before) .args .k - 1) (matrixCost sixteen (c .before .before .before .before .load .result))
 bounded c = c .bound .ensures ∙ ap (bound _) (c .before .before .cost .ensures)
 
 count-requires : tie.Need-count-requires

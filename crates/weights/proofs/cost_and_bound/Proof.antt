@@ -49,7 +49,7 @@ paid c =
     let l = c .before .before in
     let a = entry (l .before .before .before) .args in
     let f = fit (l .before) in
-    loaded-cost (a .matrix .now) (a .n) (f .sized .2) (f .full) (l .load .result) (c .cost .result) (l .load .ensures) (c .cost .ensures)
+    loaded-cost sixteen (a .matrix .now) (a .n) (f .sized .2) (f .full) (l .load .result) (c .cost .result) (l .load .ensures) (c .cost .ensures)
 
 sub-bound : tie.Need-sub-bound
 sub-bound c = let s = fit (c .before .before .before) .sized in omega arith
@@ -61,7 +61,7 @@ bound-requires c κs =
     let f = fit t in
     let s = f .sized in
     let e = paid c in
-    let small = cost-small (a .matrix .now) (a .n) (s .2) (f .full) (f .low) in
+    let small = cost-small sixteen (a .matrix .now) (a .n) (s .2) (f .full) (f .low) in
     (omega arith, omega arith)
 
 returns-2 : tie.Need-returns-2

@@ -63,7 +63,7 @@ long c =
     length-after (a .n) (a .k) (a .cost) (z .0) (z .1) (z .2) (z .4) (degree c .bound .result) (degree c .bound .ensures) (a .matrix .now) (w .0) (w .1) (w .2) (z .3) (replicate width 0) (written c) (c .polynomial2 .result) refl (c .polynomial2 .ensures)
 
 -- and its front interpolates the bytes that the matrix was loaded from
-front : (c : tie.After-polynomial2) (m : List ℕ) → length m ≡ sixteen .symbols * entry (degree c) .args .n → entry (degree c) .args .matrix .now ≡ matrixOf m (entry (degree c) .args .n)
+front : (c : tie.After-polynomial2) (m : List ℕ) → length m ≡ sixteen .symbols * entry (degree c) .args .n → entry (degree c) .args .matrix .now ≡ matrixOf sixteen m (entry (degree c) .args .n)
     → (let a = entry (degree c) .args in Interpolates sixteen (a .n) (a .k - 1) (degree c .bound .result) m (take (c .before .before .count .result) (written c)))
 front c m size loaded =
     let s = entry (degree c) in

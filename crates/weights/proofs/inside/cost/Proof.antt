@@ -13,13 +13,13 @@ use Rattle.weights.proofs.inside.cost.Statement.{statement}
 use Rattle.weights.proofs.inside.cost.Tie as tie
 
 abbrev Inv-loop : tie.InvT-loop
-Inv-loop matrix total₀ i₀ total i = (i ≤ sixteen .positions) × (total ≡ sum i (λ (j : ℕ). columnCost (getD matrix j []))) × (total ≤ 1000000 * i)
+Inv-loop matrix total₀ i₀ total i = (i ≤ sixteen .positions) × (total ≡ sum i (λ (j : ℕ). columnCost sixteen (getD matrix j []))) × (total ≤ 1000000 * i)
 
 abbrev μ-loop : tie.MeasureT-loop
 μ-loop matrix total₀ i₀ total i = sixteen .positions - i
 
 loop-holds : tie.Need-loop-holds Inv-loop μ-loop
-loop-holds c = (omega arith, sum-none (λ (j : ℕ). columnCost (getD (c .args .matrix .now) j [])), omega arith)
+loop-holds c = (omega arith, sum-none (λ (j : ℕ). columnCost sixteen (getD (c .args .matrix .now) j [])), omega arith)
 
 mul-column-cost : tie.Need-mul-column-cost Inv-loop μ-loop
 mul-column-cost c = omega arith
@@ -42,7 +42,7 @@ loop-less c = omega arith
 loop-again : tie.Need-loop-again Inv-loop μ-loop
 loop-again c =
     let l = c .before .before .before in
-    let f : ℕ → ℕ = λ j. columnCost (getD (l .before .args .matrix .now) j []) in
+    let f : ℕ → ℕ = λ j. columnCost sixteen (getD (l .before .args .matrix .now) j []) in
     let small = c .column-cost .ensures .1 in
     (omega arith, sum-more f (l .loop .i) (l .loop .total) (c .column-cost .result) (l .loop .inv .1) (c .column-cost .ensures .0), omega arith)
 

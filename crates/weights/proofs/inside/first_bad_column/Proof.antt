@@ -26,7 +26,7 @@ returns : tie.Need-returns Inv-loop μ-loop
 returns c =
     let l = c .before .before .before in
     let s = l .before .before in
-    column-found (s .args .reliabilities .now) (s .args .n) (l .loop .i) (l .loop .inv .1) (c .before .column-sum .result) (c .before .before .loop-test .taken)
+    column-found sixteen (s .args .reliabilities .now) (s .args .n) (l .loop .i) (l .loop .inv .1) (c .before .column-sum .result) (c .before .before .loop-test .taken)
     (c .before .column-sum .ensures) (c .if1 .taken)
 
 add-i : tie.Need-add-i Inv-loop μ-loop
@@ -40,7 +40,7 @@ loop-again c =
     let l = c .before .before .before in
     let s = l .before .before in (
       omega arith,
-      column-passed (s .args .reliabilities .now) (s .args .n) (l .loop .i) (l .loop .inv .1) (c .before .column-sum .result)
+      column-passed sixteen (s .args .reliabilities .now) (s .args .n) (l .loop .i) (l .loop .inv .1) (c .before .column-sum .result)
           (c .before .column-sum .ensures) (c .if1 .left),
     )
 
@@ -48,7 +48,7 @@ returns-2 : tie.Need-returns-2 Inv-loop μ-loop
 returns-2 c =
     let l = c .before in
     let s = l .before .before in
-    no-column (s .args .reliabilities .now) (s .args .n) (l .loop .i) (l .loop .inv .1) (l .loop .inv .0) (c .loop-test .left)
+    no-column sixteen (s .args .reliabilities .now) (s .args .n) (l .loop .i) (l .loop .inv .1) (l .loop .inv .0) (c .loop-test .left)
 
 pub first-bad-column-spec : {M : Type 1} → statement M
 first-bad-column-spec =

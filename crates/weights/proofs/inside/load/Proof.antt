@@ -1,6 +1,7 @@
 -- The loop has loaded the columns of the first i positions.
 use mathlib.Core.Path.{_≡_}
 use Prim.Native.Nat.{_-_, _≤_}
+use Rattle.definitions.specs.Field.{sixteen}
 use Rattle.weights.proofs.Weighing.{none-loaded, column-more}
 use Rattle.weights.specs.Matrix.{zeroColumns, matrixOf}
 use native.Mathlib.Omega.{arith}
@@ -8,13 +9,13 @@ use Rattle.weights.proofs.inside.load.Statement.{statement}
 use Rattle.weights.proofs.inside.load.Tie as tie
 
 abbrev Inv-loop : tie.InvT-loop
-Inv-loop matrix n columns₀ i₀ columns i = (i ≤ n) × (columns ≡ matrixOf matrix i)
+Inv-loop matrix n columns₀ i₀ columns i = (i ≤ n) × (columns ≡ matrixOf sixteen matrix i)
 
 abbrev μ-loop : tie.MeasureT-loop
 μ-loop matrix n columns₀ i₀ columns i = n - i
 
 loop-holds : tie.Need-loop-holds Inv-loop μ-loop
-loop-holds c = (omega arith, none-loaded (c .before .args .matrix .now))
+loop-holds c = (omega arith, none-loaded sixteen (c .before .args .matrix .now))
 
 column-requires : tie.Need-column-requires Inv-loop μ-loop
 column-requires c κs = omega arith
@@ -35,7 +36,7 @@ loop-again : tie.Need-loop-again Inv-loop μ-loop
 loop-again c =
     let l = c .before .before in
     let s = l .before .before in
-    (omega arith, column-more (s .args .matrix .now) zeroColumns (l .loop .columns) (l .loop .i) (c .column .result) (omega arith) (l .loop .inv .1) (c .column .ensures))
+    (omega arith, column-more sixteen (s .args .matrix .now) (zeroColumns sixteen) (l .loop .columns) (l .loop .i) (c .column .result) (omega arith) (l .loop .inv .1) (c .column .ensures))
 
 returns : tie.Need-returns Inv-loop μ-loop
 returns c =

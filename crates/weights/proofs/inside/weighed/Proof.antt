@@ -1,6 +1,7 @@
 -- The loop holds the columns of the first i positions of the matrix.
 use mathlib.Core.Path.{_≡_}
 use Prim.Native.Nat.{_-_, _≤_}
+use Rattle.definitions.specs.Field.{sixteen}
 use Rattle.definitions.specs.Weights.{matrix}
 use Rattle.weights.proofs.Weighing.{none-loaded, column-more}
 use Rattle.weights.specs.Matrix.{zeroColumns, matrixOf}
@@ -9,13 +10,13 @@ use Rattle.weights.proofs.inside.weighed.Statement.{statement}
 use Rattle.weights.proofs.inside.weighed.Tie as tie
 
 abbrev Inv-loop : tie.InvT-loop
-Inv-loop level reliabilities n columns₀ i₀ columns i = (i ≤ n) × (columns ≡ matrixOf (matrix level reliabilities) i)
+Inv-loop level reliabilities n columns₀ i₀ columns i = (i ≤ n) × (columns ≡ matrixOf sixteen (matrix level reliabilities) i)
 
 abbrev μ-loop : tie.MeasureT-loop
 μ-loop level reliabilities n columns₀ i₀ columns i = n - i
 
 loop-holds : tie.Need-loop-holds Inv-loop μ-loop
-loop-holds c = (omega arith, none-loaded (matrix (c .before .args .level) (c .before .args .reliabilities .now)))
+loop-holds c = (omega arith, none-loaded sixteen (matrix (c .before .args .level) (c .before .args .reliabilities .now)))
 
 weighed-column-requires : tie.Need-weighed-column-requires Inv-loop μ-loop
 weighed-column-requires c κs = omega arith
@@ -36,7 +37,7 @@ loop-again : tie.Need-loop-again Inv-loop μ-loop
 loop-again c =
     let l = c .before .before in
     let s = l .before .before in
-    (omega arith, column-more (matrix (s .args .level) (s .args .reliabilities .now)) zeroColumns (l .loop .columns) (l .loop .i) (c .weighed-column .result) (omega arith) (l .loop .inv .1) (c .weighed-column .ensures))
+    (omega arith, column-more sixteen (matrix (s .args .level) (s .args .reliabilities .now)) (zeroColumns sixteen) (l .loop .columns) (l .loop .i) (c .weighed-column .result) (omega arith) (l .loop .inv .1) (c .weighed-column .ensures))
 
 returns : tie.Need-returns Inv-loop μ-loop
 returns c =
