@@ -8,7 +8,7 @@ use native.Mathlib.Omega.{arith}
 use lib.ListN.{length}
 use Rattle.definitions.proofs.Table.{Accepts, stop, next, end, gives, accepts, sizes-mean, level-means, limit-means, entries-mean, room-means}
 use Rattle.definitions.specs.Answers.{Answer, refused, counted}
-use Rattle.definitions.specs.Field.{sixteen}
+use Rattle.definitions.specs.Field.{Code}
 use Rattle.definitions.specs.Limits.{greatestLevel, greatestLimit, greatestRows}
 use Rattle.definitions.specs.Listing.{listOf}
 use Rattle.definitions.specs.Refusals.{Line, sizes, level, limit, entries, room, entriesOf, costWithin}
@@ -21,16 +21,16 @@ use Rattle.refusals.specs.declared.Checked.{Checked}
 use Rattle.refusals.specs.declared.Checked.the-variants.{Passed, Refused}
 use Rattle.refusals.specs.declared.Refusal.{Refusal}
 
-module _ (n k : ℕ) (m rows scores : List ℕ) where
+module _ (C : Code) (n k : ℕ) (m rows scores : List ℕ) where
   -- the checks of the front, and the rest of the table after them
   module _ {front : List Line} {c : Checked} (came : Came front [] (toldChecked c)) (rest : List Line) where
-    pub refused-by-check : {r : Refusal} → c ≡ Refused r → Answered (front ++ rest) n k m rows scores (toldRefusal r) rows scores
+    pub refused-by-check : {r : Refusal} → c ≡ Refused r → Answered C (front ++ rest) n k m rows scores (toldRefusal r) rows scores
     refused-by-check {r} e =
         let none = ap (λ (a : Answer). a .count) (told-is r) in
         (answers came rest _ e, (stops came rest (λ _ _. rows) _ e, (stops came rest (λ _ _. scores) _ e, omega arith)))
 
     pub passed-on : c ≡ Passed → (answer : Answer) (rowsAfter scoresAfter : List ℕ)
-        → Answered rest n k m rows scores answer rowsAfter scoresAfter → Answered (front ++ rest) n k m rows scores answer rowsAfter scoresAfter
+        → Answered C rest n k m rows scores answer rowsAfter scoresAfter → Answered C (front ++ rest) n k m rows scores answer rowsAfter scoresAfter
     passed-on e answer rowsAfter scoresAfter w = (
       w .0 ∙ goes-on came rest refused _ e,
       (w .1 .0 ∙ goes-on came rest (λ _ _. rows) _ e, (w .1 .1 .0 ∙ goes-on came rest (λ _ _. scores) _ e, w .1 .1 .1)),
@@ -38,50 +38,50 @@ module _ (n k : ℕ) (m rows scores : List ℕ) where
 
   -- the cost, which both tables try last
   module _ (G : ℕ) where
-    pub refused-by-cost : G < cost m → Answered (costWithin G m ∷ []) n k m rows scores (refused 7 0) rows scores
+    pub refused-by-cost : G < cost m → Answered C (costWithin G m ∷ []) n k m rows scores (refused 7 0) rows scores
     refused-by-cost h =
         let g = stop {l = costWithin G m} {table = []} (lt-ltb G (cost m) h) in
         (gives refused _ g, (gives (λ _ _. rows) _ g, (gives (λ _ _. scores) _ g, omega arith)))
 
-    pub listed : cost m ≤ G → (count : ℕ) (rowsAfter scoresAfter : List ℕ) → Lists n k m (listOf sixteen n k m) rows scores count rowsAfter scoresAfter
-        → Answered (costWithin G m ∷ []) n k m rows scores (counted count) rowsAfter scoresAfter
+    pub listed : cost m ≤ G → (count : ℕ) (rowsAfter scoresAfter : List ℕ) → Lists C n k m (listOf C n k m) rows scores count rowsAfter scoresAfter
+        → Answered C (costWithin G m ∷ []) n k m rows scores (counted count) rowsAfter scoresAfter
     listed h count rowsAfter scoresAfter w =
         let a = next {l = costWithin G m} {table = []} (le-ltb G (cost m) h) end in
         (ap counted (w .counted) ∙ accepts refused _ a, (w .rows-are ∙ accepts (λ _ _. rows) _ a, (w .scores-are ∙ accepts (λ _ _. scores) _ a, w .few)))
 
 -- what a call that passed the checks has
-pub record Fit (n k G size rows scores : ℕ) : Type 0 where
-  pub sized : (2 ≤ k) × (k ≤ n) × (n ≤ sixteen .positions)
+pub record Fit (C : Code) (n k G size rows scores : ℕ) : Type 0 where
+  pub sized : (2 ≤ k) × (k ≤ n) × (n ≤ C .positions)
   pub low : G ≤ greatestLimit
-  pub full : size ≡ sixteen .symbols * n
+  pub full : size ≡ C .symbols * n
   pub room-for-rows : greatestRows * k ≤ rows
   pub room-for-scores : greatestRows ≤ scores
 
-module _ (n k G : ℕ) (m : List ℕ) (rows scores : ℕ) where
+module _ (C : Code) (n k G : ℕ) (m : List ℕ) (rows scores : ℕ) where
   abbrev pub listFront : List Line
   listFront =
-      sizes sixteen n k ∷ limit G ∷ entries (sixteen .symbols * n) m ∷ room (greatestRows * k) rows ∷ room greatestRows scores ∷ entriesOf m ∷ []
+      sizes C n k ∷ limit G ∷ entries (C .symbols * n) m ∷ room (greatestRows * k) rows ∷ room greatestRows scores ∷ entriesOf m ∷ []
 
-  pub list-fits : Accepts listFront → Fit n k G (length m) rows scores
+  pub list-fits : Accepts listFront → Fit C n k G (length m) rows scores
   list-fits (next s (next g (next e (next r (next t (next a end)))))) = record {
-    sized = sizes-mean sixteen n k s;
+    sized = sizes-mean C n k s;
     low = limit-means G g;
     full = entries-mean _ m e;
     room-for-rows = room-means (greatestRows * k) rows r;
     room-for-scores = room-means greatestRows scores t;
   }
 
-module _ (n k L G : ℕ) (r : List ℕ) (rows scores : ℕ) where
+module _ (C : Code) (n k L G : ℕ) (r : List ℕ) (rows scores : ℕ) where
   -- the lines before the columns, which need what these say
   abbrev pub readStart : List Line
   readStart =
-      sizes sixteen n k ∷ level L ∷ limit G ∷ entries (sixteen .symbols * n) r ∷ room (greatestRows * k) rows ∷ room greatestRows scores ∷ []
+      sizes C n k ∷ level L ∷ limit G ∷ entries (C .symbols * n) r ∷ room (greatestRows * k) rows ∷ room greatestRows scores ∷ []
 
-  pub read-fits : Accepts readStart → (L ≤ greatestLevel) × Fit n k G (length r) rows scores
+  pub read-fits : Accepts readStart → (L ≤ greatestLevel) × Fit C n k G (length r) rows scores
   read-fits (next s (next l (next g (next e (next h (next t end)))))) = (
     level-means L l .1,
     record {
-      sized = sizes-mean sixteen n k s;
+      sized = sizes-mean C n k s;
       low = limit-means G g;
       full = entries-mean _ r e;
       room-for-rows = room-means (greatestRows * k) rows h;

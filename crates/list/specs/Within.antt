@@ -9,7 +9,7 @@ use lib.ListN.{length}
 use Rattle.definitions.specs.Answers.{Answer, refused, counted, rowsOnto, scoresOnto}
 use Rattle.definitions.specs.Bound.{count}
 use Rattle.definitions.specs.Code.{Symbols}
-use Rattle.definitions.specs.Field.{sixteen}
+use Rattle.definitions.specs.Field.{Code}
 use Rattle.definitions.specs.Limits.{greatestCount, greatestRows}
 use Rattle.definitions.specs.Listing.{fallingOnto, listOf}
 use Rattle.definitions.specs.Polynomial.{isZero}
@@ -19,49 +19,49 @@ use Rattle.definitions.specs.Tools.{select}
 use Rattle.definitions.specs.Weights.{score}
 use Rattle.weights.specs.Matrix.{matrixOf}
 
--- the matrix was loaded from the bytes of n positions
-abbrev pub Loaded : List (List ℕ) → ℕ → Type 0
-Loaded a n = (m : List ℕ) × (length m ≡ sixteen .symbols * n) × (a ≡ matrixOf sixteen m n)
+module _ (C : Code) where
+  -- the matrix was loaded from the bytes of n positions
+  abbrev pub Loaded : List (List ℕ) → ℕ → Type 0
+  Loaded a n = (m : List ℕ) × (length m ≡ C .symbols * n) × (a ≡ matrixOf C m n)
 
--- rows that are listed: how many, never more than the lent memory takes, and the memory after
-pub record Lists (n k : ℕ) (m : List ℕ) (listed : List (List ℕ)) (rows scores : List ℕ) (count : ℕ) (rowsAfter scoresAfter : List ℕ) : Type 0 where
-  pub counted : count ≡ length listed
-  pub few : count ≤ greatestRows
-  pub rows-are : rowsAfter ≡ rowsOnto sixteen k listed rows
-  pub scores-are : scoresAfter ≡ scoresOnto sixteen n m listed scores
+  -- rows that are listed: how many, never more than the lent memory takes, and the memory after
+  pub record Lists (n k : ℕ) (m : List ℕ) (listed : List (List ℕ)) (rows scores : List ℕ) (count : ℕ) (rowsAfter scoresAfter : List ℕ) : Type 0 where
+    pub counted : count ≡ length listed
+    pub few : count ≤ greatestRows
+    pub rows-are : rowsAfter ≡ rowsOnto C k listed rows
+    pub scores-are : scoresAfter ≡ scoresOnto C n m listed scores
 
--- the y-roots whose score is greater than t, by falling score
-abbrev pub rootsAbove : ℕ → ℕ → List ℕ → ℕ → List ℕ → ℕ → List (List ℕ)
-rootsAbove n k m D q t = fallingOnto (score sixteen n m) [] (select (λ (f : List ℕ). ltb t (score sixteen n m f)) (rootsOf sixteen D k q))
+  -- the y-roots whose score is greater than t, by falling score
+  abbrev pub rootsAbove : ℕ → ℕ → List ℕ → ℕ → List ℕ → ℕ → List (List ℕ)
+  rootsAbove n k m D q t = fallingOnto (score C n m) [] (select (λ (f : List ℕ). ltb t (score C n m f)) (rootsOf C D k q))
 
--- what lists them, of any polynomial
-pub record Rooted (n k D t : ℕ) (q : List ℕ) : Type 0 where
-  pub sized : (2 ≤ k) × (k ≤ n) × (n ≤ sixteen .positions)
-  pub few : count (k - 1) D ≤ greatestCount
-  pub low : D / (k - 1) ≤ greatestRows
-  pub threshold : t < 65536
-  pub full : length q ≡ count (k - 1) D
-  pub symbols : Symbols sixteen q
-  pub nonzero : isZero q ≡ false
+  -- what lists them, of any polynomial
+  pub record Rooted (n k D t : ℕ) (q : List ℕ) : Type 0 where
+    pub sized : (2 ≤ k) × (k ≤ n) × (n ≤ C .positions)
+    pub few : count (k - 1) D ≤ greatestCount
+    pub low : D / (k - 1) ≤ greatestRows
+    pub threshold : t < 65536
+    pub full : length q ≡ count (k - 1) D
+    pub symbols : Symbols C q
+    pub nonzero : isZero q ≡ false
 
-abbrev pub RootsOf : List (List ℕ) → ℕ → ℕ → ℕ → List ℕ → ℕ → List ℕ → List ℕ → ℕ → List ℕ → List ℕ → Type 0
-RootsOf a n k D q t rows scores count rowsAfter scoresAfter =
-    (m : List ℕ) → length m ≡ sixteen .symbols * n → a ≡ matrixOf sixteen m n → Lists n k m (rootsAbove n k m D q t) rows scores count rowsAfter scoresAfter
+  abbrev pub RootsOf : List (List ℕ) → ℕ → ℕ → ℕ → List ℕ → ℕ → List ℕ → List ℕ → ℕ → List ℕ → List ℕ → Type 0
+  RootsOf a n k D q t rows scores count rowsAfter scoresAfter =
+      (m : List ℕ) → length m ≡ C .symbols * n → a ≡ matrixOf C m n → Lists n k m (rootsAbove n k m D q t) rows scores count rowsAfter scoresAfter
 
--- the list of the bytes that the matrix was loaded from
-abbrev pub ListsOf : List (List ℕ) → ℕ → ℕ → List ℕ → List ℕ → ℕ → List ℕ → List ℕ → Type 0
-ListsOf a n k rows scores count rowsAfter scoresAfter =
-    (m : List ℕ) → length m ≡ sixteen .symbols * n → a ≡ matrixOf sixteen m n → Lists n k m (listOf sixteen n k m) rows scores count rowsAfter scoresAfter
+  -- the list of the bytes that the matrix was loaded from
+  abbrev pub ListsOf : List (List ℕ) → ℕ → ℕ → List ℕ → List ℕ → ℕ → List ℕ → List ℕ → Type 0
+  ListsOf a n k rows scores count rowsAfter scoresAfter =
+      (m : List ℕ) → length m ≡ C .symbols * n → a ≡ matrixOf C m n → Lists n k m (listOf C n k m) rows scores count rowsAfter scoresAfter
 
--- what a table makes of the list: the answer and both memories, refused or listed
-module _ (table : List Line) (n k : ℕ) (m rows scores : List ℕ) where
-  abbrev pub Answered : Answer → List ℕ → List ℕ → Type 0
-  Answered answer rowsAfter scoresAfter =
-      (answer ≡ tried table refused (counted (length (listOf sixteen n k m))))
-      × ((rowsAfter ≡ tried table (λ _ _. rows) (rowsOnto sixteen k (listOf sixteen n k m) rows))
-      × ((scoresAfter ≡ tried table (λ _ _. scores) (scoresOnto sixteen n m (listOf sixteen n k m) scores)) × (answer .count ≤ greatestRows)))
+  -- what a table makes of the list: the answer and both memories, refused or listed
+  abbrev pub Answered : List Line → ℕ → ℕ → List ℕ → List ℕ → List ℕ → Answer → List ℕ → List ℕ → Type 0
+  Answered table n k m rows scores answer rowsAfter scoresAfter =
+      (answer ≡ tried table refused (counted (length (listOf C n k m))))
+      × ((rowsAfter ≡ tried table (λ _ _. rows) (rowsOnto C k (listOf C n k m) rows))
+      × ((scoresAfter ≡ tried table (λ _ _. scores) (scoresOnto C n m (listOf C n k m) scores)) × (answer .count ≤ greatestRows)))
 
--- the last line of both tables, the cost
-abbrev pub PricedOf : List (List ℕ) → ℕ → ℕ → ℕ → List ℕ → List ℕ → Answer → List ℕ → List ℕ → Type 0
-PricedOf a n k G rows scores answer rowsAfter scoresAfter =
-    (m : List ℕ) → length m ≡ sixteen .symbols * n → a ≡ matrixOf sixteen m n → Answered (costWithin G m ∷ []) n k m rows scores answer rowsAfter scoresAfter
+  -- the last line of both tables, the cost
+  abbrev pub PricedOf : List (List ℕ) → ℕ → ℕ → ℕ → List ℕ → List ℕ → Answer → List ℕ → List ℕ → Type 0
+  PricedOf a n k G rows scores answer rowsAfter scoresAfter =
+      (m : List ℕ) → length m ≡ C .symbols * n → a ≡ matrixOf C m n → Answered (costWithin G m ∷ []) n k m rows scores answer rowsAfter scoresAfter

@@ -32,10 +32,10 @@ pub fn listed(
     rows: &mut [u8],
     scores: &mut [u16],
 ) -> usize
-    requires { ⌜ Rooted n k degree threshold (now coefficients) ⌝ }
+    requires { ⌜ Rooted sixteen n k degree threshold (now coefficients) ⌝ }
     requires { ⌜ (greatestRows * k ≤ length (now rows)) × (greatestRows ≤ length (now scores)) ⌝ }
-    requires { ⌜ Loaded (now matrix) n ⌝ }
-    ensures { λ r. ⌜ RootsOf (now (matrix .entry)) n k degree (now (coefficients .entry)) threshold (now (rows .entry)) (now (scores .entry)) r (now (rows .exit)) (now (scores .exit)) ⌝ }
+    requires { ⌜ Loaded sixteen (now matrix) n ⌝ }
+    ensures { λ r. ⌜ RootsOf sixteen (now (matrix .entry)) n k degree (now (coefficients .entry)) threshold (now (rows .entry)) (now (scores .entry)) r (now (rows .exit)) (now (scores .exit)) ⌝ }
 {
     let mut found = [0u8; GREATEST_ROWS * POSITIONS];
     let many = roots::inside::roots_into(degree, k, coefficients, &mut found);
@@ -52,8 +52,8 @@ pub fn list_within(
 ) -> usize
     requires { ⌜ (2 ≤ k) × (k ≤ n) × (n ≤ sixteen .positions) × (cost ≡ matrixCost sixteen (now matrix)) × (cost ≤ greatestLimit) ⌝ }
     requires { ⌜ (greatestRows * k ≤ length (now rows)) × (greatestRows ≤ length (now scores)) ⌝ }
-    requires { ⌜ Loaded (now matrix) n ⌝ }
-    ensures { λ r. ⌜ ListsOf (now (matrix .entry)) n k (now (rows .entry)) (now (scores .entry)) r (now (rows .exit)) (now (scores .exit)) ⌝ }
+    requires { ⌜ Loaded sixteen (now matrix) n ⌝ }
+    ensures { λ r. ⌜ ListsOf sixteen (now (matrix .entry)) n k (now (rows .entry)) (now (scores .entry)) r (now (rows .exit)) (now (scores .exit)) ⌝ }
 {
     let v = k - 1;
     let bound = bound::bound(v, cost);
@@ -83,8 +83,8 @@ pub fn list_priced(
 ) -> Counted
     requires { ⌜ (2 ≤ k) × (k ≤ n) × (n ≤ sixteen .positions) × (limit ≤ greatestLimit) ⌝ }
     requires { ⌜ (greatestRows * k ≤ length (now rows)) × (greatestRows ≤ length (now scores)) ⌝ }
-    requires { ⌜ Loaded (now matrix) n ⌝ }
-    ensures { λ r. ⌜ PricedOf (now (matrix .entry)) n k limit (now (rows .entry)) (now (scores .entry)) (toldCounted r) (now (rows .exit)) (now (scores .exit)) ⌝ }
+    requires { ⌜ Loaded sixteen (now matrix) n ⌝ }
+    ensures { λ r. ⌜ PricedOf sixteen (now (matrix .entry)) n k limit (now (rows .entry)) (now (scores .entry)) (toldCounted r) (now (rows .exit)) (now (scores .exit)) ⌝ }
 {
     let cost = weights::inside::cost(matrix);
     if limit < cost {

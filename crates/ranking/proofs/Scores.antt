@@ -9,17 +9,17 @@ use Rattle.algebra.proofs.Numbers.{point-symbol, value-symbol}
 use Rattle.definitions.proofs.Codeword.{codeword-at}
 use Rattle.definitions.proofs.Tools.{sum-ext}
 use Rattle.definitions.specs.Code.{Symbols, point, codeword}
-use Rattle.definitions.specs.Field.{numbers, value, sixteen}
+use Rattle.definitions.specs.Field.{Code, numbers, value}
 use Rattle.definitions.specs.Weights.{entry, score}
+use Rattle.algebra.specs.FieldOf.{FieldOf}
 use Rattle.algebra.specs.Grid.{entryOf}
-use Rattle.instances.proofs.Codes.{sixteen-field}
 use Rattle.ranking.specs.Rows.{matrixScore}
 use Rattle.weights.proofs.Cost.{matrix-entry}
 use Rattle.weights.specs.Matrix.{matrixOf}
 
-pub matrix-score : (m : List ℕ) (n : ℕ) → n ≤ sixteen .positions → length m ≡ sixteen .symbols * n → (f : List ℕ) → Symbols sixteen f → matrixScore (matrixOf sixteen m n) n f ≡ score sixteen n m f
-matrix-score m n small size f s =
-    sum-ext n (λ (i : ℕ). entryOf (matrixOf sixteen m n) i (value (numbers sixteen) (point sixteen i) f)) (λ (i : ℕ). entry sixteen m i (getD (codeword sixteen n f) i 0))
+pub matrix-score : (C : Code) (F : FieldOf C) (m : List ℕ) (n : ℕ) → n ≤ C .positions → length m ≡ C .symbols * n → (f : List ℕ) → Symbols C f → matrixScore C (matrixOf C m n) n f ≡ score C n m f
+matrix-score C F m n small size f s =
+    sum-ext n (λ (i : ℕ). entryOf (matrixOf C m n) i (value (numbers C) (point C i) f)) (λ (i : ℕ). entry C m i (getD (codeword C n f) i 0))
     (λ i h.
-    matrix-entry sixteen m n small size i (value (numbers sixteen) (point sixteen i) f) (omega arith) (value-symbol sixteen sixteen-field (point sixteen i) f (point-symbol sixteen sixteen-field i) s)
-    ∙ ap (entry sixteen m i) (sym (codeword-at sixteen f n i h)))
+    matrix-entry C m n small size i (value (numbers C) (point C i) f) (omega arith) (value-symbol C F (point C i) f (point-symbol C F i) s)
+    ∙ ap (entry C m i) (sym (codeword-at C f n i h)))

@@ -2,6 +2,7 @@
 use mathlib.Core.List.{[], _∷_}
 use native.Mathlib.Omega.{arith}
 use lib.ListN.{length}
+use Rattle.definitions.specs.Field.{sixteen}
 use Rattle.definitions.specs.Refusals.{costWithin}
 use Rattle.list.proofs.Answers.{refused-by-check, passed-on, listFront, list-fits, Fit}
 use Rattle.refusals.proofs.Chain.{Came, start, _▸_, accepted}
@@ -15,7 +16,7 @@ entry c = c .before .before .before .before .before .before .before .before .bef
 
 came : (c : tie.After-symbols)
     → (let a = entry c .args in
-    Came (listFront (a .n) (a .k) (a .limit) (a .matrix .now) (length (a .rows .now)) (length (a .scores .now))) [] (toldChecked (c .symbols .result)))
+    Came (listFront sixteen (a .n) (a .k) (a .limit) (a .matrix .now) (length (a .rows .now)) (length (a .scores .now))) [] (toldChecked (c .symbols .result)))
 came c =
     let scores = c .before in
     let rows = scores .before in
@@ -27,13 +28,13 @@ returns : tie.Need-returns
 returns c =
     let w = c .before .before .before in
     let a = entry w .args in
-    refused-by-check (a .n) (a .k) (a .matrix .now) (a .rows .now) (a .scores .now) (came w) (costWithin (a .limit) (a .matrix .now) ∷ []) (c .before .checked .given .1)
+    refused-by-check sixteen (a .n) (a .k) (a .matrix .now) (a .rows .now) (a .scores .now) (came w) (costWithin (a .limit) (a .matrix .now) ∷ []) (c .before .checked .given .1)
 
 fit : (c : tie.After-enum-told)
-    → (let a = entry (c .before .before) .args in Fit (a .n) (a .k) (a .limit) (length (a .matrix .now)) (length (a .rows .now)) (length (a .scores .now)))
+    → (let a = entry (c .before .before) .args in Fit sixteen (a .n) (a .k) (a .limit) (length (a .matrix .now)) (length (a .rows .now)) (length (a .scores .now)))
 fit c =
     let a = entry (c .before .before) .args in
-    list-fits (a .n) (a .k) (a .limit) (a .matrix .now) (length (a .rows .now)) (length (a .scores .now)) (accepted (came (c .before .before)) (c .enum-told .given .1))
+    list-fits sixteen (a .n) (a .k) (a .limit) (a .matrix .now) (length (a .rows .now)) (length (a .scores .now)) (accepted (came (c .before .before)) (c .enum-told .given .1))
 
 load-requires : tie.Need-load-requires
 load-requires c κs = let f = fit c in (f .sized .2, omega arith)
@@ -51,7 +52,7 @@ returns-2 c =
     let t = l .before in
     let w = t .before .before in
     let a = entry w .args in
-    passed-on (a .n) (a .k) (a .matrix .now) (a .rows .now) (a .scores .now) (came w) (costWithin (a .limit) (a .matrix .now) ∷ []) (t .enum-told .given .1) _ _ _
+    passed-on sixteen (a .n) (a .k) (a .matrix .now) (a .rows .now) (a .scores .now) (came w) (costWithin (a .limit) (a .matrix .now) ∷ []) (t .enum-told .given .1) _ _ _
     (q .list-priced .ensures (a .matrix .now) (fit t .full) (l .load .ensures))
 
 pub list-of-multiplicities-spec : {M : Type 1} → statement M

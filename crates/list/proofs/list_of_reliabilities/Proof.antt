@@ -22,7 +22,7 @@ entry c = c .before .before .before .before .before .before .before .before .bef
 
 settled : (c : tie.After-or2)
     → (let a = entry c .args in
-    Came (readStart (a .n) (a .k) (a .level) (a .limit) (a .reliabilities .now) (length (a .rows .now)) (length (a .scores .now))) [] (toldChecked (c .or2 .result)))
+    Came (readStart sixteen (a .n) (a .k) (a .level) (a .limit) (a .reliabilities .now) (length (a .rows .now)) (length (a .scores .now))) [] (toldChecked (c .or2 .result)))
 settled c =
     let rows = c .before in
     let given = rows .before in
@@ -33,12 +33,12 @@ settled c =
 columns-checked-requires : tie.Need-columns-checked-requires
 columns-checked-requires c κs e =
     let a = entry c .args in
-    let f = read-fits (a .n) (a .k) (a .level) (a .limit) (a .reliabilities .now) (length (a .rows .now)) (length (a .scores .now)) (accepted (settled c) e) .1 in
+    let f = read-fits sixteen (a .n) (a .k) (a .level) (a .limit) (a .reliabilities .now) (length (a .rows .now)) (length (a .scores .now)) (accepted (settled c) e) .1 in
     (f .sized .2, omega arith)
 
 came : (c : tie.After-columns-checked)
     → (let a = entry (c .before) .args in
-    Came (readStart (a .n) (a .k) (a .level) (a .limit) (a .reliabilities .now) (length (a .rows .now)) (length (a .scores .now)) ++ (columns sixteen (a .n) (a .reliabilities .now) ∷ [])) [] (toldChecked (c .columns-checked .result)))
+    Came (readStart sixteen (a .n) (a .k) (a .level) (a .limit) (a .reliabilities .now) (length (a .rows .now)) (length (a .scores .now)) ++ (columns sixteen (a .n) (a .reliabilities .now) ∷ [])) [] (toldChecked (c .columns-checked .result)))
 came c =
     let a = entry (c .before) .args in
     further (columns sixteen (a .n) (a .reliabilities .now) ∷ []) (settled (c .before)) ▸ c .columns-checked .ensures
@@ -48,14 +48,14 @@ returns c =
     let w = c .before .before .before in
     let a = entry (w .before) .args in
     let m = matrix (a .level) (a .reliabilities .now) in
-    refused-by-check (a .n) (a .k) m (a .rows .now) (a .scores .now) (came w) (costWithin (a .limit) m ∷ []) (c .before .checked .given .1)
+    refused-by-check sixteen (a .n) (a .k) m (a .rows .now) (a .scores .now) (came w) (costWithin (a .limit) m ∷ []) (c .before .checked .given .1)
 
 fit : (c : tie.After-enum-told)
     → (let a = entry (c .before .before .before) .args in
-    (a .level ≤ greatestLevel) × Fit (a .n) (a .k) (a .limit) (length (a .reliabilities .now)) (length (a .rows .now)) (length (a .scores .now)))
+    (a .level ≤ greatestLevel) × Fit sixteen (a .n) (a .k) (a .limit) (length (a .reliabilities .now)) (length (a .rows .now)) (length (a .scores .now)))
 fit c =
     let a = entry (c .before .before .before) .args in
-    read-fits (a .n) (a .k) (a .level) (a .limit) (a .reliabilities .now) (length (a .rows .now)) (length (a .scores .now)) (accepts-front _ (columns sixteen (a .n) (a .reliabilities .now) ∷ []) (accepted (came (c .before .before)) (c .enum-told .given .1)))
+    read-fits sixteen (a .n) (a .k) (a .level) (a .limit) (a .reliabilities .now) (length (a .rows .now)) (length (a .scores .now)) (accepts-front _ (columns sixteen (a .n) (a .reliabilities .now) ∷ []) (accepted (came (c .before .before)) (c .enum-told .given .1)))
 
 weighed-requires : tie.Need-weighed-requires
 weighed-requires c κs = let f = fit c in (f .0, f .1 .sized .2, omega arith)
@@ -81,7 +81,7 @@ returns-2 c =
     let t = l .before in
     let w = t .before .before in
     let a = entry (w .before) .args in
-    passed-on (a .n) (a .k) (made t) (a .rows .now) (a .scores .now) (came w) (costWithin (a .limit) (made t) ∷ []) (t .enum-told .given .1) _ _ _
+    passed-on sixteen (a .n) (a .k) (made t) (a .rows .now) (a .scores .now) (came w) (costWithin (a .limit) (made t) ∷ []) (t .enum-told .given .1) _ _ _
     (q .list-priced .ensures (made t) (full t) (l .weighed .ensures))
 
 pub list-of-reliabilities-spec : {M : Type 1} → statement M

@@ -14,7 +14,7 @@ returns c m full loaded =
     let s = c .before .before .before .before in
     let a = s .args in
     let paid : c .before .cost .result ≡ cost m = loaded-cost sixteen m (a .n) (s .pre .0 .2) full (a .matrix .now) (c .before .cost .result) loaded (c .before .cost .ensures) in
-    refused-by-cost (a .n) (a .k) m (a .rows .now) (a .scores .now) (a .limit) (omega arith)
+    refused-by-cost sixteen (a .n) (a .k) m (a .rows .now) (a .scores .now) (a .limit) (omega arith)
 
 returns-2 : tie.Need-returns-2
 returns-2 c m full loaded =
@@ -23,7 +23,7 @@ returns-2 c m full loaded =
     let s = e .before .before .before .before in
     let a = s .args in
     let paid : e .before .cost .result ≡ cost m = loaded-cost sixteen m (a .n) (s .pre .0 .2) full (a .matrix .now) (e .before .cost .result) loaded (e .before .cost .ensures) in
-    listed (a .n) (a .k) m (a .rows .now) (a .scores .now) (a .limit) (omega arith) (q .list-within .result) _ _ (q .list-within .ensures m full loaded)
+    listed sixteen (a .n) (a .k) m (a .rows .now) (a .scores .now) (a .limit) (omega arith) (q .list-within .result) _ _ (q .list-within .ensures m full loaded)
 
 pub list-priced-spec : {M : Type 1} → statement M
 list-priced-spec =

@@ -10,6 +10,7 @@ use Rattle.definitions.specs.Bound.{bound}
 use Rattle.definitions.specs.Field.{sixteen}
 use Rattle.definitions.specs.Limits.{greatestRows}
 use Rattle.definitions.specs.Polynomial.{Interpolates}
+use Rattle.instances.proofs.Codes.{sixteen-field}
 use Rattle.list.proofs.Degrees.{powers-of-y}
 use Rattle.list.proofs.Found.{degree-small, count-small, bound-of-cost, interpolating, prefix, length-after}
 use Rattle.list.proofs.Listing.{lists}
@@ -75,7 +76,7 @@ front c m size loaded =
     (interpolating (a .n) (a .k) (a .cost) (z .0) (z .1) (z .2) (z .4) (degree c .bound .result) (degree c .bound .ensures) (a .matrix .now) m size loaded (z .3) (replicate width 0) (written c) (c .polynomial2 .result) refl (c .polynomial2 .ensures))
 
 rooted : (c : tie.After-polynomial2)
-    → (let a = entry (degree c) .args in Rooted (a .n) (a .k) (degree c .bound .result) (degree c .bound .result) (take (c .before .before .count .result) (written c)))
+    → (let a = entry (degree c) .args in Rooted sixteen (a .n) (a .k) (degree c .bound .result) (degree c .bound .result) (take (c .before .before .count .result) (written c)))
 rooted c =
     let s = entry (degree c) in
     let a = s .args in
@@ -120,7 +121,7 @@ returns c m size loaded =
     let a = s .args in
     let z = s .pre .0 in
     let d = degree p .bound .result in
-    lists (a .n) (a .k) d d (take (p .before .before .count .result) (written p)) (rooted p) m size (front p m size loaded .through) (omega arith) _
+    lists sixteen sixteen-field (a .n) (a .k) d d (take (p .before .before .count .result) (written p)) (rooted p) m size (front p m size loaded .through) (omega arith) _
     (bound-of-cost (a .n) (a .k) (a .cost) (z .0) (z .1) (z .2) (z .4) d (degree p .bound .ensures) (a .matrix .now) m size loaded (z .3)) (l .listed .ensures m size loaded)
 
 pub list-within-spec : {M : Type 1} → statement M

@@ -8,6 +8,7 @@ use Rattle.definitions.proofs.Symbols.{replicate-symbols}
 use Rattle.definitions.specs.Field.{sixteen}
 use Rattle.definitions.specs.Limits.{greatestRows}
 use Rattle.definitions.specs.Roots.{rootsOf}
+use Rattle.instances.proofs.Codes.{sixteen-field}
 use Rattle.list.proofs.Listing.{few-roots, found-symbols, roots-listed, length-found, rows-fit}
 use borrow.Author.Needs.{needs}
 use Rattle.list.proofs.inside.listed.Statement.{statement}
@@ -26,7 +27,7 @@ roots-into-requires c κs =
     let a = s .args in
     let f = s .pre .0 in
     let z = f .sized in
-    let few = few-roots (a .n) (a .k) (a .degree) (a .threshold) (a .coefficients .now) f in
+    let few = few-roots sixteen sixteen-field (a .n) (a .k) (a .degree) (a .threshold) (a .coefficients .now) f in
     ((z .0, omega arith, f .few), ((f .full, few .1), (f .symbols, f .nonzero)))
 
 ranked-requires : tie.Need-ranked-requires
@@ -38,13 +39,13 @@ ranked-requires c κs =
     let f = s .pre .0 in
     let z = f .sized in
     let q = a .coefficients .now in
-    let few = few-roots (a .n) (a .k) (a .degree) (a .threshold) q f in
+    let few = few-roots sixteen sixteen-field (a .n) (a .k) (a .degree) (a .threshold) q f in
     let many = r .roots-into .ensures .0 in
     let rows = r .roots-into .ensures .1 in
-    let fits = rows-fit (a .k) (length (rootsOf sixteen (a .degree) (a .k) q)) (omega arith) (few .0) in
-    let long = length-found (a .degree) (a .k) q memory (r .roots-into .last .1 .1 .1 .0) fits rows in
+    let fits = rows-fit (sixteen .positions) (a .k) (length (rootsOf sixteen (a .degree) (a .k) q)) (omega arith) (few .0) in
+    let long = length-found sixteen sixteen-field (a .degree) (a .k) q memory (r .roots-into .last .1 .1 .1 .0) fits rows in
     let taken : a .k * r .roots-into .result ≤ greatestRows * sixteen .positions = rw many fits in
-    (found-symbols (a .degree) (a .k) q memory (r .roots-into .last .1 .1 .1 .0) (replicate-symbols sixteen (greatestRows * sixteen .positions) 0 (omega arith)) rows, ((z .2, omega arith, rw many (few .0), omega arith), s .pre .1 .0))
+    (found-symbols sixteen sixteen-field (a .degree) (a .k) q memory (r .roots-into .last .1 .1 .1 .0) (replicate-symbols sixteen (greatestRows * sixteen .positions) 0 (omega arith)) rows, ((z .2, omega arith, rw many (few .0), omega arith), s .pre .1 .0))
 
 returns : tie.Need-returns
 unfolding memory
@@ -56,7 +57,7 @@ returns c m size loaded =
     let a = s .args in
     let q = p .ranked in
     let e : x .narrow .result ≡ a .threshold = x .narrow .ensures in
-    roots-listed (a .n) (a .k) (a .degree) (a .threshold) (a .coefficients .now) (s .pre .0) m size (a .matrix .now) memory (r .roots-into .last .1 .1 .1 .0) (r .roots-into .result) loaded
+    roots-listed sixteen sixteen-field (a .n) (a .k) (a .degree) (a .threshold) (a .coefficients .now) (s .pre .0) m size (a .matrix .now) memory (r .roots-into .last .1 .1 .1 .0) (r .roots-into .result) loaded
     (r .roots-into .ensures .0) (r .roots-into .ensures .1) (a .rows .now) (a .scores .now) (q .result) _ _ (rw e at (q .ensures .0)) (rw e at (q .ensures .1 .0)) (rw e at (q .ensures .1 .1))
 
 pub listed-spec : {M : Type 1} → statement M
