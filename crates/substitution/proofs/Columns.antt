@@ -36,13 +36,14 @@ no-value p h g l =
 -- Horner's step
 pub first-value-more : (p : List ℕ) (h g b y x : ℕ) → 0 < b → b ≤ h → h ≤ length p → y ≡ value (numbers sixteen) g (drop b (take h p))
     → x ≡ sixteen .times g y → bitXor (getD p (b - 1) 0) x ≡ value (numbers sixteen) g (drop (b - 1) (take h p))
+unfolding sumOf
 first-value-more p h g b y x pos l k ey ex =
     let n = length-take-le h p k in
-    ap (λ (z : ℕ). bitXor z x) (sym (getD-take h p (b - 1) 0 (omega arith))) ∙ value-more g (take h p) b y x pos (omega arith) ey ex
+    ap (λ (z : ℕ). bitXor z x) (sym (getD-take h p (b - 1) 0 (omega arith))) ∙ value-more sixteen g (take h p) b y x pos (omega arith) ey ex
 
 -- what it has come to is a symbol
 pub first-value-symbol : (p : List ℕ) (h g b y : ℕ) → g < sixteen .symbols → Symbols sixteen p → y ≡ value (numbers sixteen) g (drop b (take h p)) → y < sixteen .symbols
-first-value-symbol p h g b y hg s e = value-so-far g (take h p) b y hg (take-symbols sixteen (omega arith) h p s) e
+first-value-symbol p h g b y hg s e = value-so-far sixteen sixteen-field g (take h p) b y hg (take-symbols sixteen (omega arith) h p s) e
 
 -- ---- entries copied to the front of zeros
 

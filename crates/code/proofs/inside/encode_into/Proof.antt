@@ -8,6 +8,7 @@ use lib.ListN.{length, drop, length-set}
 use Rattle.code.proofs.Encoding.{first-point, next-point, point-so-far, none-written, symbol-more}
 use Rattle.definitions.specs.Code.{point, codeword}
 use Rattle.definitions.specs.Field.{sixteen}
+use Rattle.instances.proofs.Codes.{sixteen-field}
 use Rattle.code.proofs.inside.encode_into.Statement.{statement}
 use Rattle.code.proofs.inside.encode_into.Tie as tie
 
@@ -24,13 +25,13 @@ products-requires c κs = search needs
 loop-holds : tie.Need-loop-holds Inv-loop μ-loop
 loop-holds c =
     let s = c .before .before .before in
-    (omega arith, refl, first-point, none-written (s .args .f .now) (s .args .out .now))
+    (omega arith, refl, first-point sixteen, none-written sixteen (s .args .f .now) (s .args .out .now))
 
 value-at-requires : tie.Need-value-at-requires Inv-loop μ-loop
 value-at-requires c κs =
     let l = c .before .before in
     let s = l .before .before .before .before in
-    (l .before .products .ensures, (s .pre .0, point-so-far (l .loop .i) (l .loop .x) (l .loop .inv .2)))
+    (l .before .products .ensures, (s .pre .0, point-so-far sixteen sixteen-field (l .loop .i) (l .loop .x) (l .loop .inv .2)))
 
 slice-write-out : tie.Need-slice-write-out Inv-loop μ-loop
 slice-write-out c = omega arith
@@ -38,7 +39,7 @@ slice-write-out c = omega arith
 look-requires : tie.Need-look-requires Inv-loop μ-loop
 look-requires c κs =
     let l = c .before .before .before .before in
-    (l .before .products .ensures, (omega arith, point-so-far (l .loop .i) (l .loop .x) (l .loop .inv .2)))
+    (l .before .products .ensures, (omega arith, point-so-far sixteen sixteen-field (l .loop .i) (l .loop .x) (l .loop .inv .2)))
 
 add-i : tie.Need-add-i Inv-loop μ-loop
 add-i c = omega arith
@@ -53,8 +54,8 @@ loop-again c =
     let more : l .loop .i < s .args .n = omega arith in (
       omega arith,
       length-set (l .loop .out) (l .loop .i) (c .before .before .value-at .result) ∙ l .loop .inv .1,
-      next-point (l .loop .i) (l .loop .x) (c .look .result) (l .loop .inv .2) (c .look .ensures),
-      symbol-more (s .args .f .now) (s .args .out .now) (l .loop .out) (l .loop .i) (l .loop .x) (c .before .before .value-at .result) (omega arith)
+      next-point sixteen (l .loop .i) (l .loop .x) (c .look .result) (l .loop .inv .2) (c .look .ensures),
+      symbol-more sixteen (s .args .f .now) (s .args .out .now) (l .loop .out) (l .loop .i) (l .loop .x) (c .before .before .value-at .result) (omega arith)
           (l .loop .inv .3) (l .loop .inv .2) (c .before .before .value-at .ensures),
     )
 

@@ -4,7 +4,8 @@ use Prim.Native.Nat.{_≤_}
 use native.Mathlib.Omega.{arith}
 use lib.ListN.{length, drop}
 use Rattle.code.proofs.Encoding.{empty-value, value-more, value-so-far}
-use Rattle.definitions.specs.Field.{numbers, value, sixteen}
+use Rattle.definitions.specs.Field.{numbers, value, sixteen, sumOf}
+use Rattle.instances.proofs.Codes.{sixteen-field}
 use Rattle.code.proofs.inside.value_at.Statement.{statement}
 use Rattle.code.proofs.inside.value_at.Tie as tie
 
@@ -15,7 +16,7 @@ abbrev μ-loop : tie.MeasureT-loop
 μ-loop table f x y₀ j₀ y j = j
 
 loop-holds : tie.Need-loop-holds Inv-loop μ-loop
-loop-holds c = (omega arith, empty-value (c .before .args .x) (c .before .args .f .now))
+loop-holds c = (omega arith, empty-value sixteen (c .before .args .x) (c .before .args .f .now))
 
 sub-j : tie.Need-sub-j Inv-loop μ-loop
 sub-j c = omega arith
@@ -27,19 +28,20 @@ look-requires : tie.Need-look-requires Inv-loop μ-loop
 look-requires c κs =
     let l = c .before .before in
     let s = l .before .before in
-    let small = value-so-far (s .args .x) (s .args .f .now) (l .loop .j) (l .loop .y) (s .pre .1 .1) (s .pre .1 .0) (l .loop .inv .1) in
+    let small = value-so-far sixteen sixteen-field (s .args .x) (s .args .f .now) (l .loop .j) (l .loop .y) (s .pre .1 .1) (s .pre .1 .0) (l .loop .inv .1) in
     (s .pre .0, (s .pre .1 .1, small))
 
 loop-less : tie.Need-loop-less Inv-loop μ-loop
 loop-less c = omega arith
 
 loop-again : tie.Need-loop-again Inv-loop μ-loop
+unfolding sumOf
 loop-again c =
     let l = c .before .before .before in
     let s = l .before .before in
     let lower = l .loop .inv .0 in (
       omega arith,
-      value-more (s .args .x) (s .args .f .now) (l .loop .j) (l .loop .y) (c .look .result) (omega arith) lower (l .loop .inv .1) (c .look .ensures),
+      value-more sixteen (s .args .x) (s .args .f .now) (l .loop .j) (l .loop .y) (c .look .result) (omega arith) lower (l .loop .inv .1) (c .look .ensures),
     )
 
 returns : tie.Need-returns Inv-loop μ-loop
