@@ -62,30 +62,30 @@ module _ (D k : ℕ) (q : List ℕ) (two : 2 ≤ k) (small : count (k - 1) D ≤
 
     -- which are symbols
     start-symbols : Symbols sixteen start
-    start-symbols = loaded-symbols sixteen (D / (k - 1) + 1) q (monomials (k - 1) D) (zeros places) s (zeros-symbols places)
+    start-symbols = loaded-symbols sixteen (D / (k - 1) + 1) q (monomials (k - 1) D) (zeros places) s (zeros-symbols sixteen sixteen-field places)
 
     -- also under another name
     pub loaded-are-symbols : Symbols sixteen l
     loaded-are-symbols = subst (Symbols sixteen) (sym el) start-symbols
 
-    module _ (p : List ℕ) (sp : Symbols sixteen p) (fp : Freed (D / (k - 1) + 1) (D + 1) l p) where
+    module _ (p : List ℕ) (sp : Symbols sixteen p) (fp : Freed sixteen (D / (k - 1) + 1) (D + 1) l p) where
       -- what the search begins with is the loaded array, freed
-      freed-start : Freed (D / (k - 1) + 1) (D + 1) start p
-      freed-start = subst (λ (x : List ℕ). Freed (D / (k - 1) + 1) (D + 1) x p) el fp
+      freed-start : Freed sixteen (D / (k - 1) + 1) (D + 1) start p
+      freed-start = subst (λ (x : List ℕ). Freed sixteen (D / (k - 1) + 1) (D + 1) x p) el fp
 
       -- its weighted degree is within the array
       pub within : DegreeWithin (k - 1) D (D / (k - 1) + 1) p
       within a b h =
           freed-start a b
-          ∙ under-strip sixteen (k - 1) D (polynomial (D / (k - 1) + 1) (D + 1) start)
+          ∙ under-strip sixteen (k - 1) D (polynomial sixteen (D / (k - 1) + 1) (D + 1) start)
           (under-grid sixteen sixteen-field places (k - 1) D (omega arith) array-fits q s) a b h
 
       -- the search finds the roots
-      found : search sixteen k (polynomial (D / (k - 1) + 1) (D + 1) p) ≡ rootsOf sixteen D k q
+      found : search sixteen k (polynomial sixteen (D / (k - 1) + 1) (D + 1) p) ≡ rootsOf sixteen D k q
       found =
-          search-same sixteen sixteen-field k (polynomial (D / (k - 1) + 1) (D + 1) p) (strip (polynomial (D / (k - 1) + 1) (D + 1) start))
+          search-same sixteen sixteen-field k (polynomial sixteen (D / (k - 1) + 1) (D + 1) p) (strip (polynomial sixteen (D / (k - 1) + 1) (D + 1) start))
           (columns-symbols sixteen (zero-symbol sixteen sixteen-field) (D / (k - 1) + 1) (D + 1) p sp)
-          (strip-symbols sixteen (polynomial (D / (k - 1) + 1) (D + 1) start)
+          (strip-symbols sixteen (polynomial sixteen (D / (k - 1) + 1) (D + 1) start)
           (columns-symbols sixteen (zero-symbol sixteen sixteen-field) (D / (k - 1) + 1) (D + 1) start start-symbols)) freed-start
           ∙ search-is-roots sixteen sixteen-field k D two q s places array-fits
 
@@ -95,16 +95,16 @@ module _ (D k : ℕ) (q : List ℕ) (two : 2 ≤ k) (small : count (k - 1) D ≤
 
       module _ (row : List ℕ) where
         -- the rows that the search writes
-        rows-found : rowsAfter (take (k - k) row) (search sixteen k (polynomial (D / (k - 1) + 1) (D + 1) p)) ≡ rowsAfter [] (rootsOf sixteen D k q)
+        rows-found : rowsAfter (take (k - k) row) (search sixteen k (polynomial sixteen (D / (k - 1) + 1) (D + 1) p)) ≡ rowsAfter [] (rootsOf sixteen D k q)
         rows-found = let e : k - k ≡ 0 = omega arith in ap₂ (λ (n : ℕ) (r : List (List ℕ)). rowsAfter (take n row) r) e found
 
         -- k entries for each root
-        rows-number : length (rowsAfter (take (k - k) row) (search sixteen k (polynomial (D / (k - 1) + 1) (D + 1) p))) ≡ k * length (rootsOf sixteen D k q)
+        rows-number : length (rowsAfter (take (k - k) row) (search sixteen k (polynomial sixteen (D / (k - 1) + 1) (D + 1) p))) ≡ k * length (rootsOf sixteen D k q)
         rows-number = ap length rows-found ∙ rows-length k (rootsOf sixteen D k q) row-size
 
         -- the room of refusal 4 is enough
         pub room-enough : isZero q ≡ false → (n : ℕ) → k * (D / (k - 1)) ≤ n
-            → 0 + length (rowsAfter (take (k - k) row) (search sixteen k (polynomial (D / (k - 1) + 1) (D + 1) p))) ≤ n
+            → 0 + length (rowsAfter (take (k - k) row) (search sixteen k (polynomial sixteen (D / (k - 1) + 1) (D + 1) p))) ≤ n
         room-enough z n h =
             let a = roots-at-most sixteen sixteen-field k D two q s (omega arith) z in
             let b : k * length (rootsOf sixteen D k q) ≤ k * (D / (k - 1)) = mul-le-mul-left k a in
@@ -112,7 +112,7 @@ module _ (D k : ℕ) (q : List ℕ) (two : 2 ≤ k) (small : count (k - 1) D ≤
             omega arith
 
         -- how many rows there are
-        pub rows-counted : (e : ℕ) → e ≡ 0 + length (rowsAfter (take (k - k) row) (search sixteen k (polynomial (D / (k - 1) + 1) (D + 1) p)))
+        pub rows-counted : (e : ℕ) → e ≡ 0 + length (rowsAfter (take (k - k) row) (search sixteen k (polynomial sixteen (D / (k - 1) + 1) (D + 1) p)))
             → e / k ≡ length (rootsOf sixteen D k q)
         rows-counted e h =
             let n = length (rootsOf sixteen D k q) in
@@ -121,8 +121,8 @@ module _ (D k : ℕ) (q : List ℕ) (two : 2 ≤ k) (small : count (k - 1) D ≤
             ap (λ (m : ℕ). m / k) g ∙ place-column k n 0 (omega arith)
 
         -- the rows one after the other, and what lies after them
-        pub rows-written : (d r : List ℕ) → r ≡ laid d 0 (rowsAfter (take (k - k) row) (search sixteen k (polynomial (D / (k - 1) + 1) (D + 1) p)))
+        pub rows-written : (d r : List ℕ) → r ≡ laid d 0 (rowsAfter (take (k - k) row) (search sixteen k (polynomial sixteen (D / (k - 1) + 1) (D + 1) p)))
             → r ≡ rowsOnto sixteen k (rootsOf sixteen D k q) d
         rows-written d r h =
-            h ∙ laid-front d (rowsAfter (take (k - k) row) (search sixteen k (polynomial (D / (k - 1) + 1) (D + 1) p))) (k * length (rootsOf sixteen D k q)) rows-number
+            h ∙ laid-front d (rowsAfter (take (k - k) row) (search sixteen k (polynomial sixteen (D / (k - 1) + 1) (D + 1) p))) (k * length (rootsOf sixteen D k q)) rows-number
             ∙ ap (λ (x : List ℕ). x ++ drop (k * length (rootsOf sixteen D k q)) d) (rows-found ∙ rows-flat (rootsOf sixteen D k q))

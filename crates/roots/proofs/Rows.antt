@@ -145,45 +145,45 @@ columns-fit h w pos l = let m : w * 1 ≤ w * h = mul-le-mul-left w pos in omega
 -- ---- one symbol tried
 
 -- the first column
-front-column : (h D : ℕ) (p : List ℕ) → first (numbers sixteen) (polynomial h (suc D) p) ≡ take h p
+front-column : (h D : ℕ) (p : List ℕ) → first (numbers sixteen) (polynomial sixteen h (suc D) p) ≡ take h p
 unfolding first columns
 front-column h D p = refl
 
 -- of an array of D + 1 columns
-first-of : (h D : ℕ) (p : List ℕ) → first (numbers sixteen) (polynomial h (D + 1) p) ≡ take h p
-first-of h D p = ap (λ (n : ℕ). first (numbers sixteen) (polynomial h n p)) (add-one D) ∙ front-column h D p
+first-of : (h D : ℕ) (p : List ℕ) → first (numbers sixteen) (polynomial sixteen h (D + 1) p) ≡ take h p
+first-of h D p = ap (λ (n : ℕ). first (numbers sixteen) (polynomial sixteen h n p)) (add-one D) ∙ front-column h D p
 
 module _ (h D g : ℕ) (p : List ℕ) (y : ℕ) (e : y ≡ value (numbers sixteen) g (take h p)) where
   -- M(0, g)
-  first-value : value (numbers sixteen) g (first (numbers sixteen) (polynomial h (D + 1) p)) ≡ y
+  first-value : value (numbers sixteen) g (first (numbers sixteen) (polynomial sixteen h (D + 1) p)) ≡ y
   first-value = ap (value (numbers sixteen) g) (first-of h D p) ∙ sym e
 
   -- where it is zero g is gone on with
-  pub begins-yes : y ≡ 0 → begins sixteen g (polynomial h (D + 1) p) ≡ true
+  pub begins-yes : y ≡ 0 → begins sixteen g (polynomial sixteen h (D + 1) p) ≡ true
   unfolding begins
-  begins-yes z = eq-eqb (value (numbers sixteen) g (first (numbers sixteen) (polynomial h (D + 1) p))) 0 (first-value ∙ z)
+  begins-yes z = eq-eqb (value (numbers sixteen) g (first (numbers sixteen) (polynomial sixteen h (D + 1) p))) 0 (first-value ∙ z)
 
   -- where it is not g is left
-  pub begins-no : (y ≡ 0 → ⊥) → begins sixteen g (polynomial h (D + 1) p) ≡ false
+  pub begins-no : (y ≡ 0 → ⊥) → begins sixteen g (polynomial sixteen h (D + 1) p) ≡ false
   unfolding begins
-  begins-no n = ne-eqb (value (numbers sixteen) g (first (numbers sixteen) (polynomial h (D + 1) p))) 0 (λ z. n (sym first-value ∙ z))
+  begins-no n = ne-eqb (value (numbers sixteen) g (first (numbers sixteen) (polynomial sixteen h (D + 1) p))) 0 (λ z. n (sym first-value ∙ z))
 
 module _ (k left D h : ℕ) (row p : List ℕ) (d : List ℕ) (at : ℕ) (out : List ℕ) (end g : ℕ) (hg : g < sixteen .symbols) (pos : 0 < left) (fits : left ≤ k) (long : k ≤ length row)
-    (room : at + length (rowsAfter (take (k - left) row) (search sixteen left (polynomial h (D + 1) p))) ≤ length d)
-    (he : end ≡ at + length (rowsBefore (take (k - left) row) (left - 1) (polynomial h (D + 1) p) g))
-    (ho : out ≡ laid d at (rowsBefore (take (k - left) row) (left - 1) (polynomial h (D + 1) p) g)) where
+    (room : at + length (rowsAfter (take (k - left) row) (search sixteen left (polynomial sixteen h (D + 1) p))) ≤ length d)
+    (he : end ≡ at + length (rowsBefore (take (k - left) row) (left - 1) (polynomial sixteen h (D + 1) p) g))
+    (ho : out ≡ laid d at (rowsBefore (take (k - left) row) (left - 1) (polynomial sixteen h (D + 1) p) g)) where
   -- the polynomial
   abbrev M : List (List ℕ)
-  M = polynomial h (D + 1) p
+  M = polynomial sixteen h (D + 1) p
 
   -- the symbols fixed so far
   abbrev prefix : List ℕ
   prefix = take (k - left) row
 
   -- a symbol that begins no root
-  pub tried-none : begins sixteen g (polynomial h (D + 1) p) ≡ false
-      → (end ≡ at + length (rowsBefore (take (k - left) row) (left - 1) (polynomial h (D + 1) p) (g + 1)))
-      × (out ≡ laid d at (rowsBefore (take (k - left) row) (left - 1) (polynomial h (D + 1) p) (g + 1)))
+  pub tried-none : begins sixteen g (polynomial sixteen h (D + 1) p) ≡ false
+      → (end ≡ at + length (rowsBefore (take (k - left) row) (left - 1) (polynomial sixteen h (D + 1) p) (g + 1)))
+      × (out ≡ laid d at (rowsBefore (take (k - left) row) (left - 1) (polynomial sixteen h (D + 1) p) (g + 1)))
   tried-none b =
       let f : rowsOf prefix (left - 1) M g ≡ [] =
       ap (λ (b : Bool). rowsAfter prefix (cond b (map (λ (f : List ℕ). g ∷ f) (search sixteen (left - 1) (next sixteen g M))) [])) b ∙ rows-none prefix in
@@ -191,11 +191,11 @@ module _ (k left D h : ℕ) (row p : List ℕ) (d : List ℕ) (at : ℕ) (out : 
       before-more prefix (left - 1) M g ∙ ap (λ (l : List ℕ). rowsBefore prefix (left - 1) M g ++ l) f ∙ append-nil (rowsBefore prefix (left - 1) M g) in
       (rw e he, rw e ho)
 
-  module _ (h0 : 0 < h) (sp : Symbols sixteen p) (u : DegreeWithin (left - 1) D h p) (b : begins sixteen g (polynomial h (D + 1) p) ≡ true)
-      (r : List ℕ) (sr : Symbols sixteen r) (q : Handed h (D + 1) g p r) where
+  module _ (h0 : 0 < h) (sp : Symbols sixteen p) (u : DegreeWithin (left - 1) D h p) (b : begins sixteen g (polynomial sixteen h (D + 1) p) ≡ true)
+      (r : List ℕ) (sr : Symbols sixteen r) (q : Handed sixteen h (D + 1) g p r) where
     -- the rows of the recursive call
     abbrev rows : List ℕ
-    rows = rowsAfter (take (k - (left - 1)) (set row (k - left) g)) (search sixteen (left - 1) (polynomial h (D + 1) r))
+    rows = rowsAfter (take (k - (left - 1)) (set row (k - left) g)) (search sixteen (left - 1) (polynomial sixteen h (D + 1) r))
 
     -- the degree of what is handed on is within the array
     pub handed-within : DegreeWithin (left - 1 - 1) D h r
@@ -219,7 +219,7 @@ module _ (k left D h : ℕ) (row p : List ℕ) (d : List ℕ) (at : ℕ) (out : 
     all-room = subst (λ (l : List ℕ). at + length l ≤ length d) (rows-all prefix left M pos) room
 
     -- they have room
-    pub handed-room : end + length (rowsAfter (take (k - (left - 1)) (set row (k - left) g)) (search sixteen (left - 1) (polynomial h (D + 1) r))) ≤ length d
+    pub handed-room : end + length (rowsAfter (take (k - (left - 1)) (set row (k - left) g)) (search sixteen (left - 1) (polynomial sixteen h (D + 1) r))) ≤ length d
     handed-room =
         let a = joined-room (rowsOf prefix (left - 1) M) (sixteen .symbols) g hg in
         let c = ap length handed-rows in
@@ -228,10 +228,10 @@ module _ (k left D h : ℕ) (row p : List ℕ) (d : List ℕ) (at : ℕ) (out : 
 
     -- and are written behind those before
     pub tried-some : (e : ℕ) (o : List ℕ)
-        → e ≡ end + length (rowsAfter (take (k - (left - 1)) (set row (k - left) g)) (search sixteen (left - 1) (polynomial h (D + 1) r)))
-        → o ≡ laid out end (rowsAfter (take (k - (left - 1)) (set row (k - left) g)) (search sixteen (left - 1) (polynomial h (D + 1) r)))
-        → (e ≡ at + length (rowsBefore (take (k - left) row) (left - 1) (polynomial h (D + 1) p) (g + 1)))
-        × (o ≡ laid d at (rowsBefore (take (k - left) row) (left - 1) (polynomial h (D + 1) p) (g + 1)))
+        → e ≡ end + length (rowsAfter (take (k - (left - 1)) (set row (k - left) g)) (search sixteen (left - 1) (polynomial sixteen h (D + 1) r)))
+        → o ≡ laid out end (rowsAfter (take (k - (left - 1)) (set row (k - left) g)) (search sixteen (left - 1) (polynomial sixteen h (D + 1) r)))
+        → (e ≡ at + length (rowsBefore (take (k - left) row) (left - 1) (polynomial sixteen h (D + 1) p) (g + 1)))
+        × (o ≡ laid d at (rowsBefore (take (k - left) row) (left - 1) (polynomial sixteen h (D + 1) p) (g + 1)))
     tried-some e o ee eo =
         let f : rowsBefore prefix (left - 1) M (g + 1) ≡ rowsBefore prefix (left - 1) M g ++ rows =
         before-more prefix (left - 1) M g ∙ ap (λ (l : List ℕ). rowsBefore prefix (left - 1) M g ++ l) handed-rows in

@@ -8,7 +8,7 @@ use Rattle.substitution.specs.Array.{polynomial}
 
 -- the array's weighted degree, of weights 1 and v, is at most D
 abbrev pub DegreeWithin : ℕ → ℕ → ℕ → List ℕ → Type 0
-DegreeWithin v D h l = Under sixteen v D (polynomial h (D + 1) l)
+DegreeWithin v D h l = Under sixteen v D (polynomial sixteen h (D + 1) l)
 
 -- rows after a prefix, one after the other
 abbrev pub rowsAfter : List ℕ → List (List ℕ) → List ℕ

@@ -1,4 +1,4 @@
--- The steps of substitution and stripping over an array, over plain numbers and lists.
+-- The steps of substitution and stripping over an array, over plain numbers and lists and any code.
 -- Assumes nothing.
 use mathlib.Core.Bool.{true, false, not}
 use mathlib.Core.List.{List, [], _++_}
@@ -13,15 +13,15 @@ use lib.Dec.{eqb}
 use lib.ListN.{length, getD, take, drop, set, length-drop, List·getD-append}
 use lib.Seq.{getD-take, getD-drop, getD-set-same, getD-set-other, getD-append-add, length-take-le}
 use Rattle.algebra.proofs.Elements.{zero-symbol}
+use Rattle.algebra.specs.FieldOf.{FieldOf}
 use Rattle.definitions.proofs.Loops.{row-within}
 use Rattle.definitions.proofs.Tools.{smallest-le, smallest-fails, smallest-passes, smallest-is}
 use Rattle.definitions.proofs.Symbols.{append-symbols, replicate-symbols, drop-symbols, take-symbols}
 use Rattle.definitions.proofs.Zeros.{isZero-of-zeros, isZero-false}
 use Rattle.definitions.specs.Code.{Symbols}
-use Rattle.definitions.specs.Field.{numbers, sixteen}
+use Rattle.definitions.specs.Field.{Code, numbers}
 use Rattle.definitions.specs.Polynomial.{isZero}
 use Rattle.definitions.specs.Tools.{smallest}
-use Rattle.instances.proofs.Codes.{sixteen-field}
 use Rattle.root_tree.proofs.Arrays.{place-once, place-within, columns-within, columns-beyond, columns-above, columns-at}
 use Rattle.root_tree.proofs.Columns.{substitute-above}
 use Rattle.root_tree.proofs.Levels.{strip-at, substitute-cell}
@@ -68,11 +68,11 @@ module _ (h w a : ℕ) (col l : List ℕ) where
 
 -- ---- substitution, column by column
 
-module _ (h w c : ℕ) (p : List ℕ) where
+module _ (C : Code) (h w c : ℕ) (p : List ℕ) where
   -- the columns before the a-th are done
   pub record Partly (a : ℕ) (q : List ℕ) : Type 0 where
     -- what they give
-    pub done : (s t : ℕ) → s < w → t < h → t ≤ s → s - t < a → getD q (s * h + t) 0 ≡ getD (shift (numbers sixteen) c (take h (drop ((s - t) * h) p))) t 0
+    pub done : (s t : ℕ) → s < w → t < h → t ≤ s → s - t < a → getD q (s * h + t) 0 ≡ getD (shift (numbers C) c (take h (drop ((s - t) * h) p))) t 0
     -- what they do not give is zero
     pub rest : (s t : ℕ) → s < w → t < h → (t ≤ s → s - t < a → ⊥) → getD q (s * h + t) 0 ≡ 0
 
@@ -81,32 +81,32 @@ module _ (h w c : ℕ) (p : List ℕ) where
   partly-none n = record { done = λ s t _ _ _ k. absurd (not-suc-le-zero k); rest = λ s t _ _ _. zeros-at n (s * h + t) }
 
   -- one column more
-  pub partly-more : (a : ℕ) (q r col : List ℕ) → Partly a q → take h col ≡ shift (numbers sixteen) c (take h (drop (a * h) p)) → Laid h w a h col q r → Partly (a + 1) r
+  pub partly-more : (a : ℕ) (q r col : List ℕ) → Partly a q → take h col ≡ shift (numbers C) c (take h (drop (a * h) p)) → Laid h w a h col q r → Partly (a + 1) r
   partly-more a q r col d e k =
       record {
         done = λ s t hs ht l m. elim (ℕ-discrete (s - t) a) [
           | yes f ↦
               let g : s ≡ a + t = omega arith in
-              subst (λ (j : ℕ). getD r (j * h + t) 0 ≡ getD (shift (numbers sixteen) c (take h (drop ((s - t) * h) p))) t 0) (sym g)
+              subst (λ (j : ℕ). getD r (j * h + t) 0 ≡ getD (shift (numbers C) c (take h (drop ((s - t) * h) p))) t 0) (sym g)
               (k .hit t ht (omega arith) ∙ sym (getD-take h col t 0 ht) ∙ ap (λ (x : List ℕ). getD x t 0) e
-              ∙ ap (λ (j : ℕ). getD (shift (numbers sixteen) c (take h (drop (j * h) p))) t 0) (sym f))
+              ∙ ap (λ (j : ℕ). getD (shift (numbers C) c (take h (drop (j * h) p))) t 0) (sym f))
           | no n ↦ k .miss s t hs ht (λ _ g. n (omega arith)) ∙ d .done s t hs ht l (omega arith)
         ];
         rest = λ s t hs ht n.
             k .miss s t hs ht (λ _ g. n (omega arith) (omega arith)) ∙ d .rest s t hs ht (λ l m. n l (omega arith));
       }
 
-  -- after the last column
-  pub partly-all : c < sixteen .symbols → Symbols sixteen p → (q : List ℕ) → Partly w q → Substituted h w c p q
-  partly-all hc sp q d s t hs ht =
-      elim (decLt s t) [
-        | yes l ↦ d .rest s t hs ht (λ m _. let z : ⊥ = omega arith in z) ∙ sym (substitute-above (numbers sixteen) c (polynomial h w p) s t l)
-        | no n ↦
-            let l : t ≤ s = omega arith in
-            d .done s t hs ht l (omega arith)
-            ∙ ap (λ (x : List ℕ). getD (shift (numbers sixteen) c x) t 0) (sym (columns-at (numbers sixteen) h w p (s - t) (omega arith)))
-            ∙ sym (substitute-cell sixteen sixteen-field c hc (polynomial h w p) (columns-symbols sixteen (zero-symbol sixteen sixteen-field) h w p sp) s t l)
-      ]
+-- after the last column
+pub partly-all : (C : Code) (F : FieldOf C) (h w c : ℕ) (p : List ℕ) → c < C .symbols → Symbols C p → (q : List ℕ) → Partly C h w c p w q → Substituted C h w c p q
+partly-all C F h w c p hc sp q d s t hs ht =
+    elim (decLt s t) [
+      | yes l ↦ d .rest s t hs ht (λ m _. let z : ⊥ = omega arith in z) ∙ sym (substitute-above (numbers C) c (polynomial C h w p) s t l)
+      | no n ↦
+          let l : t ≤ s = omega arith in
+          d .done s t hs ht l (omega arith)
+          ∙ ap (λ (x : List ℕ). getD (shift (numbers C) c x) t 0) (sym (columns-at (numbers C) h w p (s - t) (omega arith)))
+          ∙ sym (substitute-cell C F c hc (polynomial C h w p) (columns-symbols C (zero-symbol C F) h w p sp) s t l)
+    ]
 
 -- ---- the first coefficient other than zero
 
@@ -135,12 +135,12 @@ add-mul zero s h = rw (zero-add s) (omega arith)
 add-mul (suc u) s h = let e = add-mul u s h in let a = suc-mul u h in let b = suc-mul (u + s) h in rw (suc-add u s) (omega arith)
 
 -- the number of columns
-columns-length : (h w : ℕ) (l : List ℕ) → length (polynomial h w l) ≡ w
+columns-length : (C : Code) (h w : ℕ) (l : List ℕ) → length (polynomial C h w l) ≡ w
 unfolding columns
-columns-length h zero l = refl
-columns-length h (suc w) l = ap suc (columns-length h w (drop h l))
+columns-length C h zero l = refl
+columns-length C h (suc w) l = ap suc (columns-length C h w (drop h l))
 
-module _ (h w : ℕ) (pos : 0 < h) (p : List ℕ) (full : length p ≡ places) (room : w * h ≤ places) where
+module _ (C : Code) (h w : ℕ) (pos : 0 < h) (p : List ℕ) (full : length p ≡ places) (room : w * h ≤ places) where
   -- the first coefficient other than zero
   abbrev i : ℕ
   i = smallest (isOther p) (w * h)
@@ -158,9 +158,9 @@ module _ (h w : ℕ) (pos : 0 < h) (p : List ℕ) (full : length p ≡ places) (
   u-high = (div-lt-iff-lt-mul pos) .0 (omega arith)
 
   -- the columns before it are zero
-  before-zero : (a : ℕ) → a < u → isZero (getD (polynomial h w p) a []) ≡ true
+  before-zero : (a : ℕ) → a < u → isZero (getD (polynomial C h w p) a []) ≡ true
   before-zero a l =
-      isZero-of-zeros (getD (polynomial h w p) a [])
+      isZero-of-zeros (getD (polynomial C h w p) a [])
       (λ t. elim (decLt t h) [
         | yes q ↦
             let m : suc a * h ≤ u * h = mul-le-mul-right h l in
@@ -169,8 +169,8 @@ module _ (h w : ℕ) (pos : 0 < h) (p : List ℕ) (full : length p ≡ places) (
             let k : a * h + t < i = omega arith in
             let s = smallest-le (isOther p) (w * h) in
             let aw : a < w = inside a t k s in
-            columns-within (numbers sixteen) h w p a t aw q ∙ eqb-true (getD p (a * h + t) 0) 0 (not-false (eqb (getD p (a * h + t) 0) 0) (smallest-fails (isOther p) (w * h) (a * h + t) k))
-        | no n ↦ columns-above (numbers sixteen) h w p a t (omega arith)
+            columns-within (numbers C) h w p a t aw q ∙ eqb-true (getD p (a * h + t) 0) 0 (not-false (eqb (getD p (a * h + t) 0) 0) (smallest-fails (isOther p) (w * h) (a * h + t) k))
+        | no n ↦ columns-above (numbers C) h w p a t (omega arith)
       ])
     where
       -- a place before it is in a column
@@ -182,7 +182,7 @@ module _ (h w : ℕ) (pos : 0 < h) (p : List ℕ) (full : length p ≡ places) (
           ]
 
   -- and it is not, or there is none
-  first-other-column : (isZero (getD (polynomial h w p) u []) ≡ false) ⊎ (length (polynomial h w p) ≤ u)
+  first-other-column : (isZero (getD (polynomial C h w p) u []) ≡ false) ⊎ (length (polynomial C h w p) ≤ u)
   first-other-column =
       elim (decLt i (w * h)) [
         | yes l ↦
@@ -193,26 +193,26 @@ module _ (h w : ℕ) (pos : 0 < h) (p : List ℕ) (full : length p ≡ places) (
             let ht : t < h = omega arith in
             let uw : u < w = (div-lt-iff-lt-mul pos) .1 l in
             let e : u * h + t ≡ i = omega arith in
-            inl (isZero-false (getD (polynomial h w p) u []) t
+            inl (isZero-false (getD (polynomial C h w p) u []) t
             (λ z. eqb-false (getD p i 0) 0 (not-true (eqb (getD p i 0) 0) (smallest-passes (isOther p) (w * h) l))
-            (ap (λ (j : ℕ). getD p j 0) (sym e) ∙ sym (columns-within (numbers sixteen) h w p u t uw ht) ∙ z)))
+            (ap (λ (j : ℕ). getD p j 0) (sym e) ∙ sym (columns-within (numbers C) h w p u t uw ht) ∙ z)))
         | no n ↦
             let s = smallest-le (isOther p) (w * h) in
             let d = u-high in
             elim (decLt u w) [
               | yes l ↦ let m : suc u * h ≤ w * h = mul-le-mul-right h l in let z : ⊥ = omega arith in absurd z
-              | no k ↦ inr (rw (columns-length h w p) (omega arith))
+              | no k ↦ inr (rw (columns-length C h w p) (omega arith))
             ]
       ]
 
   -- the entries from the first column on that is not zero, moved to the front
-  pub freed-moved : (r : List ℕ) → r ≡ take (w * h - u * h) (drop (u * h) p) ++ drop (w * h - u * h) (zeros places) → Freed h w p r
+  pub freed-moved : (r : List ℕ) → r ≡ take (w * h - u * h) (drop (u * h) p) ++ drop (w * h - u * h) (zeros places) → Freed C h w p r
   freed-moved r e s t =
       elim (decLt s w) [
         | yes hs ↦ elim (decLt t h) [
           | yes ht ↦
               let j = place-within h s t w hs ht in
-              columns-within (numbers sixteen) h w r s t hs ht
+              columns-within (numbers C) h w r s t hs ht
               ∙ ap (λ (x : List ℕ). getD x (s * h + t) 0) e
               ∙ elim (decLt (u + s) w) [
                 | yes k ↦
@@ -221,7 +221,7 @@ module _ (h w : ℕ) (pos : 0 < h) (p : List ℕ) (full : length p ≡ places) (
                     let f : s * h + t < length (take (w * h - u * h) (drop (u * h) p)) = rw front (omega arith) in
                     List·getD-append (take (w * h - u * h) (drop (u * h) p)) (drop (w * h - u * h) (zeros places)) 0 (s * h + t) f
                     ∙ getD-take (w * h - u * h) (drop (u * h) p) (s * h + t) 0 (omega arith) ∙ getD-drop (u * h) p (s * h + t) 0
-                    ∙ ap (λ (n : ℕ). getD p n 0) (omega arith) ∙ sym (columns-within (numbers sixteen) h w p (u + s) t k ht)
+                    ∙ ap (λ (n : ℕ). getD p n 0) (omega arith) ∙ sym (columns-within (numbers C) h w p (u + s) t k ht)
                 | no n ↦
                     let a : w * h ≤ (u + s) * h = mul-le-mul-right h (omega arith) in
                     let b : (u + s) * h ≡ u * h + s * h = add-mul u s h in
@@ -230,32 +230,33 @@ module _ (h w : ℕ) (pos : 0 < h) (p : List ℕ) (full : length p ≡ places) (
                     ap (λ (n : ℕ). getD (take (w * h - u * h) (drop (u * h) p) ++ drop (w * h - u * h) (zeros places)) n 0) g
                     ∙ getD-append-add (take (w * h - u * h) (drop (u * h) p)) (drop (w * h - u * h) (zeros places)) m 0
                     ∙ getD-drop (w * h - u * h) (zeros places) m 0 ∙ zeros-at places (w * h - u * h + m)
-                    ∙ sym (columns-beyond (numbers sixteen) h w p (u + s) t (omega arith))
+                    ∙ sym (columns-beyond (numbers C) h w p (u + s) t (omega arith))
               ]
-              ∙ sym (strip-at sixteen (polynomial h w p) u before-zero first-other-column s t)
+              ∙ sym (strip-at C (polynomial C h w p) u before-zero first-other-column s t)
           | no n ↦
-              columns-above (numbers sixteen) h w r s t (omega arith)
-              ∙ sym (strip-at sixteen (polynomial h w p) u before-zero first-other-column s t ∙ columns-above (numbers sixteen) h w p (u + s) t (omega arith))
+              columns-above (numbers C) h w r s t (omega arith)
+              ∙ sym (strip-at C (polynomial C h w p) u before-zero first-other-column s t ∙ columns-above (numbers C) h w p (u + s) t (omega arith))
         ]
         | no n ↦
-            columns-beyond (numbers sixteen) h w r s t (omega arith)
-            ∙ sym (strip-at sixteen (polynomial h w p) u before-zero first-other-column s t ∙ columns-beyond (numbers sixteen) h w p (u + s) t (omega arith))
+            columns-beyond (numbers C) h w r s t (omega arith)
+            ∙ sym (strip-at C (polynomial C h w p) u before-zero first-other-column s t ∙ columns-beyond (numbers C) h w p (u + s) t (omega arith))
       ]
     where
       -- what is moved
       front : length (take (w * h - u * h) (drop (u * h) p)) ≡ w * h - u * h
       front = length-take-le (w * h - u * h) (drop (u * h) p) (rw (length-drop (u * h) p) (omega arith))
 
--- zeros are symbols
-pub zeros-symbols : (n : ℕ) → Symbols sixteen (zeros n)
-unfolding zeros
-zeros-symbols n = replicate-symbols sixteen n 0 (omega arith)
+module _ (C : Code) (F : FieldOf C) where
+  -- zeros are symbols
+  pub zeros-symbols : (n : ℕ) → Symbols C (zeros n)
+  unfolding zeros
+  zeros-symbols n = replicate-symbols C n 0 (zero-symbol C F)
 
--- entries copied to the front of zeros are symbols
-pub copied-symbols : (p : List ℕ) (n from size : ℕ) → Symbols sixteen p → Symbols sixteen (take n (drop from p) ++ drop n (zeros size))
-copied-symbols p n from size s =
-    append-symbols sixteen (take n (drop from p)) (drop n (zeros size)) (take-symbols sixteen (omega arith) n (drop from p) (drop-symbols sixteen from p s))
-    (drop-symbols sixteen n (zeros size) (zeros-symbols size))
+  -- entries copied to the front of zeros are symbols
+  pub copied-symbols : (p : List ℕ) (n from size : ℕ) → Symbols C p → Symbols C (take n (drop from p) ++ drop n (zeros size))
+  copied-symbols p n from size s =
+      append-symbols C (take n (drop from p)) (drop n (zeros size)) (take-symbols C (zero-symbol C F) n (drop from p) (drop-symbols C from p s))
+      (drop-symbols C n (zeros size) (zeros-symbols size))
 
 -- a column lies within the array
 pub column-within : (a h w : ℕ) → a < w → a * h + h ≤ w * h

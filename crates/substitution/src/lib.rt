@@ -53,7 +53,7 @@ fn pass(table: &[u8; 256], col: &mut [u8], from: usize, h: usize, g: u8)
     requires { ⌜ Products (now table) ⌝ }
     requires { ⌜ Symbols sixteen (now col) ⌝ }
     requires { ⌜ (from < h) × (h ≤ length (now col)) × (g < sixteen .symbols) ⌝ }
-    ensures column { λ _. ⌜ take h (now (col .exit)) ≡ passed g from (take h (now (col .entry))) ⌝ }
+    ensures column { λ _. ⌜ take h (now (col .exit)) ≡ passed sixteen g from (take h (now (col .entry))) ⌝ }
     ensures symbols { λ _. ⌜ Symbols sixteen (now (col .exit)) ⌝ }
 {
     let mut b = from;
@@ -101,7 +101,7 @@ fn substituted(table: &[u8; 256], p: &[u8; PLACES], h: usize, w: usize, g: u8) -
     requires { ⌜ Products (now table) ⌝ }
     requires { ⌜ Symbols sixteen (now p) ⌝ }
     requires { ⌜ (h ≤ height) × (g < sixteen .symbols) × (w * h ≤ places) × (length (now p) ≡ places) ⌝ }
-    ensures polynomial { λ r. ⌜ Substituted h w g (now (p .entry)) r ⌝ }
+    ensures polynomial { λ r. ⌜ Substituted sixteen h w g (now (p .entry)) r ⌝ }
     ensures symbols { λ r. ⌜ Symbols sixteen r ⌝ }
 {
     let mut q = [0u8; PLACES];
@@ -148,7 +148,7 @@ fn moved(p: &[u8; PLACES], from: usize, n: usize) -> [u8; PLACES]
 pub fn freed(p: &[u8; PLACES], h: usize, w: usize) -> [u8; PLACES]
     requires { ⌜ Symbols sixteen (now p) ⌝ }
     requires { ⌜ (0 < h) × (w * h ≤ places) × (length (now p) ≡ places) ⌝ }
-    ensures polynomial { λ r. ⌜ Freed h w (now (p .entry)) r ⌝ }
+    ensures polynomial { λ r. ⌜ Freed sixteen h w (now (p .entry)) r ⌝ }
     ensures symbols { λ r. ⌜ Symbols sixteen r ⌝ }
 {
     let n = w * h;
@@ -161,7 +161,7 @@ pub fn handed(table: &[u8; 256], p: &[u8; PLACES], h: usize, w: usize, g: u8) ->
     requires { ⌜ Products (now table) ⌝ }
     requires { ⌜ Symbols sixteen (now p) ⌝ }
     requires { ⌜ (0 < h) × (h ≤ height) × (g < sixteen .symbols) × (w * h ≤ places) × (length (now p) ≡ places) ⌝ }
-    ensures polynomial { λ r. ⌜ Handed h w g (now (p .entry)) r ⌝ }
+    ensures polynomial { λ r. ⌜ Handed sixteen h w g (now (p .entry)) r ⌝ }
     ensures symbols { λ r. ⌜ Symbols sixteen r ⌝ }
 {
     let q = substituted(table, p, h, w, g);
@@ -171,7 +171,7 @@ pub fn handed(table: &[u8; 256], p: &[u8; PLACES], h: usize, w: usize, g: u8) ->
 // Whether every coefficient of y^0 is zero.
 pub fn constants_zero(p: &[u8; PLACES], h: usize, w: usize) -> bool
     requires { ⌜ (0 < h) × (w * h ≤ places) ⌝ }
-    ensures { λ r. ⌜ r ≡ constantsZero (polynomial h w (now (p .entry))) ⌝ }
+    ensures { λ r. ⌜ r ≡ constantsZero (polynomial sixteen h w (now (p .entry))) ⌝ }
 {
     let mut a = 0;
     while a < w {

@@ -2,7 +2,8 @@
 use mathlib.Core.Path.{_≡_}
 use Prim.Native.Nat.{_≤_}
 use lib.ListN.{take, drop}
-use Rattle.definitions.specs.Field.{numbers, value, sixteen}
+use Rattle.definitions.specs.Field.{numbers, value, sixteen, sumOf}
+use Rattle.instances.proofs.Codes.{sixteen-field}
 use Rattle.substitution.proofs.Columns.{no-value, first-value-more, first-value-symbol}
 use native.Mathlib.Omega.{arith}
 use Rattle.substitution.proofs.first_value.Statement.{statement}
@@ -16,7 +17,7 @@ abbrev μ-loop : tie.MeasureT-loop
 
 loop-holds : tie.Need-loop-holds Inv-loop μ-loop
 loop-holds c =
-    (omega arith, no-value (c .args .p .now) (c .args .h) (c .args .g) (omega arith))
+    (omega arith, no-value sixteen (c .args .p .now) (c .args .h) (c .args .g) (omega arith))
 
 sub-b : tie.Need-sub-b Inv-loop μ-loop
 sub-b c = omega arith
@@ -28,16 +29,17 @@ look-requires : tie.Need-look-requires Inv-loop μ-loop
 look-requires c κs =
     let l = c .before .before in
     let s = l .before in
-    (s .pre .0, (s .pre .1 .1 .1, first-value-symbol (s .args .p .now) (s .args .h) (s .args .g) (l .loop .b) (l .loop .y) (s .pre .1 .1 .1) (s .pre .1 .0) (l .loop .inv .1)))
+    (s .pre .0, (s .pre .1 .1 .1, first-value-symbol sixteen sixteen-field (s .args .p .now) (s .args .h) (s .args .g) (l .loop .b) (l .loop .y) (s .pre .1 .1 .1) (s .pre .1 .0) (l .loop .inv .1)))
 
 loop-less : tie.Need-loop-less Inv-loop μ-loop
 loop-less c = omega arith
 
 loop-again : tie.Need-loop-again Inv-loop μ-loop
+unfolding sumOf
 loop-again c =
     let l = c .before .before .before in
     let s = l .before in
-    (omega arith, first-value-more (s .args .p .now) (s .args .h) (s .args .g) (l .loop .b) (l .loop .y) (c .look .result) (omega arith) (omega arith) (omega arith) (l .loop .inv .1) (c .look .ensures))
+    (omega arith, first-value-more sixteen (s .args .p .now) (s .args .h) (s .args .g) (l .loop .b) (l .loop .y) (c .look .result) (omega arith) (omega arith) (omega arith) (l .loop .inv .1) (c .look .ensures))
 
 returns : tie.Need-returns Inv-loop μ-loop
 returns c =

@@ -8,6 +8,7 @@ use native.Mathlib.Nat.{div-mul-le-self}
 use Rattle.definitions.specs.Field.{sixteen}
 use Rattle.definitions.specs.Tools.{smallest}
 use Rattle.definitions.proofs.Tools.{smallest-le}
+use Rattle.instances.proofs.Codes.{sixteen-field}
 use Rattle.root_tree.specs.Tree.{zeros}
 use Rattle.substitution.specs.Array.{places, isOther}
 use Rattle.substitution.proofs.Substitution.{freed-moved, copied-symbols}
@@ -45,8 +46,8 @@ returns c =
     let s = o .before in
     let e : c .moved .result ≡ take (s .args .w * s .args .h - smallest (isOther (s .args .p .now)) (s .args .w * s .args .h) / s .args .h * s .args .h) (drop (smallest (isOther (s .args .p .now)) (s .args .w * s .args .h) / s .args .h * s .args .h) (s .args .p .now)) ++ drop (s .args .w * s .args .h - smallest (isOther (s .args .p .now)) (s .args .w * s .args .h) / s .args .h * s .args .h) (zeros places) =
     subst (λ (i : ℕ). c .moved .result ≡ take (s .args .w * s .args .h - i / s .args .h * s .args .h) (drop (i / s .args .h * s .args .h) (s .args .p .now)) ++ drop (s .args .w * s .args .h - i / s .args .h * s .args .h) (zeros places)) (o .first-other .ensures) (c .moved .ensures) in (
-      freed-moved (s .args .h) (s .args .w) (s .pre .1 .0) (s .args .p .now) (s .pre .1 .2) (s .pre .1 .1) (c .moved .result) e,
-      subst (Symbols sixteen) (sym e) (copied-symbols (s .args .p .now) (s .args .w * s .args .h - smallest (isOther (s .args .p .now)) (s .args .w * s .args .h) / s .args .h * s .args .h) (smallest (isOther (s .args .p .now)) (s .args .w * s .args .h) / s .args .h * s .args .h) places (s .pre .0)),
+      freed-moved sixteen (s .args .h) (s .args .w) (s .pre .1 .0) (s .args .p .now) (s .pre .1 .2) (s .pre .1 .1) (c .moved .result) e,
+      subst (Symbols sixteen) (sym e) (copied-symbols sixteen sixteen-field (s .args .p .now) (s .args .w * s .args .h - smallest (isOther (s .args .p .now)) (s .args .w * s .args .h) / s .args .h * s .args .h) (smallest (isOther (s .args .p .now)) (s .args .w * s .args .h) / s .args .h * s .args .h) places (s .pre .0)),
     )
 
 pub freed-spec : {M : Type 1} → statement M

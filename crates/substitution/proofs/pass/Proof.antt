@@ -4,7 +4,8 @@ use Prim.Native.Nat.{_+_, _-_}
 use lib.Bits.{bitXor}
 use lib.ListN.{length, getD, take, length-set}
 use Rattle.definitions.specs.Code.{Symbols}
-use Rattle.definitions.specs.Field.{sixteen}
+use Rattle.definitions.specs.Field.{sixteen, sumOf}
+use Rattle.instances.proofs.Codes.{sixteen-field}
 use Rattle.root_tree.proofs.Roots.{set-symbols}
 use Rattle.substitution.specs.Array.{passed}
 use Rattle.substitution.proofs.Columns.{passed-more, passed-end, pass-symbol}
@@ -13,7 +14,7 @@ use Rattle.substitution.proofs.pass.Statement.{statement}
 use Rattle.substitution.proofs.pass.Tie as tie
 
 abbrev Inv-loop : tie.InvT-loop
-Inv-loop table col₀ from h g b₀ col b = (length col ≡ length col₀) × Symbols sixteen col × (passed g from (take h col₀) ≡ passed g b (take h col))
+Inv-loop table col₀ from h g b₀ col b = (length col ≡ length col₀) × Symbols sixteen col × (passed sixteen g from (take h col₀) ≡ passed sixteen g b (take h col))
 
 abbrev μ-loop : tie.MeasureT-loop
 μ-loop table col₀ from h g b₀ col b = h - b
@@ -49,14 +50,15 @@ loop-less : tie.Need-loop-less Inv-loop μ-loop
 loop-less c = omega arith
 
 loop-again : tie.Need-loop-again Inv-loop μ-loop
+unfolding sumOf
 loop-again c =
     let l = c .before .before .before .before in
     let s = l .before .before in
     let x = c .before .look .result in
-    let small = pass-symbol (s .args .g) x (getD (l .loop .col) (l .loop .b + 1) 0) (getD (l .loop .col) (l .loop .b) 0) (c .before .look .ensures) (s .pre .1 .1 .2) (l .loop .inv .1 (l .loop .b + 1)) (l .loop .inv .1 (l .loop .b)) in (
+    let small = pass-symbol sixteen sixteen-field (s .args .g) x (getD (l .loop .col) (l .loop .b + 1) 0) (getD (l .loop .col) (l .loop .b) 0) (c .before .look .ensures) (s .pre .1 .1 .2) (l .loop .inv .1 (l .loop .b + 1)) (l .loop .inv .1 (l .loop .b)) in (
       length-set (l .loop .col) (l .loop .b) (bitXor x (getD (l .loop .col) (l .loop .b) 0)) ∙ l .loop .inv .0,
       set-symbols sixteen (l .loop .col) (l .loop .b) (bitXor x (getD (l .loop .col) (l .loop .b) 0)) small (l .loop .inv .1),
-      passed-more (s .args .g) (l .loop .b) (s .args .h) (l .loop .col) (passed (s .args .g) (s .args .from) (take (s .args .h) (s .args .col .now))) x
+      passed-more sixteen (s .args .g) (l .loop .b) (s .args .h) (l .loop .col) (passed sixteen (s .args .g) (s .args .from) (take (s .args .h) (s .args .col .now))) x
           (omega arith) (omega arith) (l .loop .inv .2) (c .before .look .ensures),
     )
 
@@ -67,7 +69,7 @@ returns : tie.Need-returns Inv-loop μ-loop
 returns c =
     let l = c .before in
     let s = l .before .before in
-    (passed-end (s .args .g) (l .loop .b) (s .args .h) (l .loop .col) (passed (s .args .g) (s .args .from) (take (s .args .h) (s .args .col .now))) (omega arith) (omega arith) (l .loop .inv .2), l .loop .inv .1)
+    (passed-end sixteen (s .args .g) (l .loop .b) (s .args .h) (l .loop .col) (passed sixteen (s .args .g) (s .args .from) (take (s .args .h) (s .args .col .now))) (omega arith) (omega arith) (l .loop .inv .2), l .loop .inv .1)
 
 pub pass-spec : {M : Type 1} → statement M
 pass-spec =

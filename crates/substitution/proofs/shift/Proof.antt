@@ -18,7 +18,7 @@ abbrev μ-loop : tie.MeasureT-loop
 μ-loop table col₀ h g b₀ col b = b
 
 loop-holds : tie.Need-loop-holds Inv-loop μ-loop
-loop-holds c = (omega arith, refl, c .before .pre .1 .0, no-pass (c .before .args .g) (c .before .args .h) (c .before .args .col .now) (c .before .pre .1 .1 .0))
+loop-holds c = (omega arith, refl, c .before .pre .1 .0, no-pass sixteen (c .before .args .g) (c .before .args .h) (c .before .args .col .now) (c .before .pre .1 .1 .0))
 
 sub-b : tie.Need-sub-b Inv-loop μ-loop
 sub-b c = omega arith
@@ -40,7 +40,7 @@ loop-again c =
       omega arith,
       omega arith,
       r .ensures .1,
-      pass-more (s .args .g) (l .loop .b) (s .args .h) (s .args .col .now) (l .loop .col) (r .last .1 .0) (omega arith) (omega arith) (omega arith) (l .loop .inv .3) (r .ensures .0),
+      pass-more sixteen (s .args .g) (l .loop .b) (s .args .h) (s .args .col .now) (l .loop .col) (r .last .1 .0) (omega arith) (omega arith) (omega arith) (l .loop .inv .3) (r .ensures .0),
     )
 
 same-length : tie.Need-same-length Inv-loop μ-loop

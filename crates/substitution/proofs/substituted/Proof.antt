@@ -6,6 +6,7 @@ use borrow.Author.Needs.{needs}
 use lib.ListN.{length, drop}
 use Rattle.definitions.specs.Code.{Symbols}
 use Rattle.definitions.specs.Field.{numbers, sixteen}
+use Rattle.instances.proofs.Codes.{sixteen-field}
 use Rattle.root_tree.specs.Columns.{shift}
 use Rattle.root_tree.specs.Tree.{zeros}
 use Rattle.substitution.specs.Array.{places, height}
@@ -20,14 +21,14 @@ use Rattle.substitution.proofs.lay.Reads as lay-reads
 use Rattle.substitution.proofs.shift.Reads as shift-reads
 
 abbrev Inv-loop : tie.InvT-loop
-Inv-loop table p h w g q₀ a₀ q a = (a ≤ w) × (length q ≡ places) × Symbols sixteen q × Partly h w g p a q
+Inv-loop table p h w g q₀ a₀ q a = (a ≤ w) × (length q ≡ places) × Symbols sixteen q × Partly sixteen h w g p a q
 
 abbrev μ-loop : tie.MeasureT-loop
 μ-loop table p h w g q₀ a₀ q a = w - a
 
 loop-holds : tie.Need-loop-holds Inv-loop μ-loop
 unfolding zeros
-loop-holds c = (omega arith, refl, zeros-symbols places, partly-none (c .args .h) (c .args .w) (c .args .g) (c .args .p .now) places)
+loop-holds c = (omega arith, refl, zeros-symbols sixteen sixteen-field places, partly-none sixteen (c .args .h) (c .args .w) (c .args .g) (c .args .p .now) places)
 
 mul-column : tie.Need-mul-column Inv-loop μ-loop
 mul-column c =
@@ -51,7 +52,7 @@ shift-requires c κs =
     let l = c .before .before .before in
     let s = l .before in
     let n : length (c .before .column .result) ≡ height = search needs in
-    (s .pre .0, (subst (Symbols sixteen) (sym (c .before .column .ensures)) (copied-symbols (s .args .p .now) (s .args .h) (l .loop .a * s .args .h) height (s .pre .1 .0)), (omega arith, s .pre .1 .1 .1)))
+    (s .pre .0, (subst (Symbols sixteen) (sym (c .before .column .ensures)) (copied-symbols sixteen sixteen-field (s .args .p .now) (s .args .h) (l .loop .a * s .args .h) height (s .pre .1 .0)), (omega arith, s .pre .1 .1 .1)))
 
 slice-aggregate-lay : tie.Need-slice-aggregate-lay Inv-loop μ-loop
 slice-aggregate-lay c = search needs
@@ -83,7 +84,7 @@ loop-again c =
       omega arith,
       omega arith,
       r .ensures .1,
-      partly-more (s .args .h) (s .args .w) (s .args .g) (s .args .p .now) (l .loop .a) (l .loop .q) (r .last .0) (t .last .1 .0) (l .loop .inv .3)
+      partly-more sixteen (s .args .h) (s .args .w) (s .args .g) (s .args .p .now) (l .loop .a) (l .loop .q) (r .last .0) (t .last .1 .0) (l .loop .inv .3)
           (t .ensures .0 ∙ ap (shift (numbers sixteen) (s .args .g)) e) (r .ensures .0),
     )
 
@@ -92,8 +93,8 @@ returns c =
     let l = c .before in
     let s = l .before in
     let e : l .loop .a ≡ s .args .w = omega arith in (
-      partly-all (s .args .h) (s .args .w) (s .args .g) (s .args .p .now) (s .pre .1 .1 .1) (s .pre .1 .0) (l .loop .q)
-          (subst (λ (n : ℕ). Partly (s .args .h) (s .args .w) (s .args .g) (s .args .p .now) n (l .loop .q)) e (l .loop .inv .3)),
+      partly-all sixteen sixteen-field (s .args .h) (s .args .w) (s .args .g) (s .args .p .now) (s .pre .1 .1 .1) (s .pre .1 .0) (l .loop .q)
+          (subst (λ (n : ℕ). Partly sixteen (s .args .h) (s .args .w) (s .args .g) (s .args .p .now) n (l .loop .q)) e (l .loop .inv .3)),
       l .loop .inv .2,
     )
 

@@ -48,8 +48,8 @@ claims t = (
 )
 
 abbrev search-Inv-loop : search-lts.InvT-loop
-search-Inv-loop table degree h k left out₀ at p row end₀ g₀ out end g = (g ≤ sixteen .symbols) × (length out ≡ length out₀) × (end ≡ at + length (rowsBefore (take (k - left) row) (left - 1) (polynomial h (degree + 1) p) g))
-    × (out ≡ laid out₀ at (rowsBefore (take (k - left) row) (left - 1) (polynomial h (degree + 1) p) g))
+search-Inv-loop table degree h k left out₀ at p row end₀ g₀ out end g = (g ≤ sixteen .symbols) × (length out ≡ length out₀) × (end ≡ at + length (rowsBefore (take (k - left) row) (left - 1) (polynomial sixteen h (degree + 1) p) g))
+    × (out ≡ laid out₀ at (rowsBefore (take (k - left) row) (left - 1) (polynomial sixteen h (degree + 1) p) g))
 
 abbrev search-μ-loop : search-lts.MeasureT-loop
 search-μ-loop table degree h k left out₀ at p row end₀ g₀ out end g = sixteen .symbols - g
@@ -81,7 +81,7 @@ search-put-requires t c κs =
     let s = c .before .before .before .before .before .before .before in
     let size : length (s .args .t5) ≡ sixteen .positions = search needs in
     let q = s .pre .1 .1 .1 .0 in
-    let n = leaf-root-length (s .args .t5) (s .args .k) (s .args .left) (polynomial (s .args .h) (s .args .degree + 1) (s .args .t2)) (c .before .before .before .before .before .if1 .taken) (sym (c .before .before .if2 .taken) ∙ c .before .before .before .constants-zero .ensures) (omega arith) in
+    let n = leaf-root-length (s .args .t5) (s .args .k) (s .args .left) (polynomial sixteen (s .args .h) (s .args .degree + 1) (s .args .t2)) (c .before .before .before .before .before .if1 .taken) (sym (c .before .before .if2 .taken) ∙ c .before .before .before .constants-zero .ensures) (omega arith) in
     let room = s .pre .1 .1 .1 .1 .1 in
     let long = length-take-le (s .args .k) (s .args .t5) (omega arith) in
     omega arith
@@ -91,7 +91,7 @@ search-add-result t c =
     let s = c .before .before .before .before .before .before .before .before .before .before in
     let size : length (s .args .t5) ≡ sixteen .positions = search needs in
     let q = s .pre .1 .1 .1 .0 in
-    let n = leaf-root-length (s .args .t5) (s .args .k) (s .args .left) (polynomial (s .args .h) (s .args .degree + 1) (s .args .t2)) (c .before .before .before .before .before .before .before .before .if1 .taken) (sym (c .before .before .before .before .before .if2 .taken) ∙ c .before .before .before .before .before .before .constants-zero .ensures) (omega arith) in
+    let n = leaf-root-length (s .args .t5) (s .args .k) (s .args .left) (polynomial sixteen (s .args .h) (s .args .degree + 1) (s .args .t2)) (c .before .before .before .before .before .before .before .before .if1 .taken) (sym (c .before .before .before .before .before .if2 .taken) ∙ c .before .before .before .before .before .before .constants-zero .ensures) (omega arith) in
     let room = s .pre .1 .1 .1 .1 .1 in
     omega arith
 
@@ -104,19 +104,19 @@ search-returns t c =
     let size : length (s .args .t5) ≡ sixteen .positions = search needs in
     let q = s .pre .1 .1 .1 .0 in
     let e = sym (c .before .before .before .before .before .if2 .taken) ∙ c .before .before .before .before .before .before .constants-zero .ensures in (
-      ap (λ (n : ℕ). s .args .at + n) (sym (leaf-root-length (s .args .t5) (s .args .k) (s .args .left) (polynomial (s .args .h) (s .args .degree + 1) (s .args .t2)) (c .before .before .before .before .before .before .before .before .if1 .taken) e (omega arith))),
-      leaf-written (s .args .t5) (s .args .k) (s .args .left) (polynomial (s .args .h) (s .args .degree + 1) (s .args .t2)) (c .before .before .before .before .before .before .before .before .if1 .taken) e (s .args .out .now) _ (s .args .at) (c .before .before .put .ensures),
+      ap (λ (n : ℕ). s .args .at + n) (sym (leaf-root-length (s .args .t5) (s .args .k) (s .args .left) (polynomial sixteen (s .args .h) (s .args .degree + 1) (s .args .t2)) (c .before .before .before .before .before .before .before .before .if1 .taken) e (omega arith))),
+      leaf-written (s .args .t5) (s .args .k) (s .args .left) (polynomial sixteen (s .args .h) (s .args .degree + 1) (s .args .t2)) (c .before .before .before .before .before .before .before .before .if1 .taken) e (s .args .out .now) _ (s .args .at) (c .before .before .put .ensures),
     )
 
 search-returns-2 : (t : ℕ) → search-lts.Need-returns-2 (claims t) (search-at t) search′.Post search-Inv-loop search-μ-loop
 search-returns-2 t c =
     let s = c .before .before .before .before .before in
-    leaf-nothing (s .args .t5) (s .args .k) (s .args .left) (polynomial (s .args .h) (s .args .degree + 1) (s .args .t2)) (c .before .before .before .if1 .taken) (sym (c .if2 .left) ∙ c .before .constants-zero .ensures) (s .args .out .now) (s .args .at)
+    leaf-nothing (s .args .t5) (s .args .k) (s .args .left) (polynomial sixteen (s .args .h) (s .args .degree + 1) (s .args .t2)) (c .before .before .before .if1 .taken) (sym (c .if2 .left) ∙ c .before .constants-zero .ensures) (s .args .out .now) (s .args .at)
 
 search-loop-holds : (t : ℕ) → search-lts.Need-loop-holds (claims t) (search-at t) search′.Post search-Inv-loop search-μ-loop
 search-loop-holds t c =
     let s = c .before .before in
-    let z = before-nothing (take (s .args .k - s .args .left) (s .args .t5)) (s .args .left - 1) (polynomial (s .args .h) (s .args .degree + 1) (s .args .t2)) (s .args .out .now) (s .args .at) in
+    let z = before-nothing (take (s .args .k - s .args .left) (s .args .t5)) (s .args .left - 1) (polynomial sixteen (s .args .h) (s .args .degree + 1) (s .args .t2)) (s .args .out .now) (s .args .at) in
     (omega arith, refl, z .0, z .1)
 
 search-first-value-requires : (t : ℕ) → search-lts.Need-first-value-requires (claims t) (search-at t) search′.Post search-Inv-loop search-μ-loop
@@ -197,10 +197,10 @@ search-returns-3 : (t : ℕ) → search-lts.Need-returns-3 (claims t) (search-at
 search-returns-3 t c =
     let l = c .before in
     let s = c .before .before .before .before in
-    let r = rows-all (take (s .args .k - s .args .left) (s .args .t5)) (s .args .left) (polynomial (s .args .h) (s .args .degree + 1) (s .args .t2)) (omega arith) in
+    let r = rows-all (take (s .args .k - s .args .left) (s .args .t5)) (s .args .left) (polynomial sixteen (s .args .h) (s .args .degree + 1) (s .args .t2)) (omega arith) in
     let e : l .loop .g ≡ sixteen .symbols = omega arith in (
-      l .loop .inv .2 ∙ ap (λ (n : ℕ). s .args .at + length (rowsBefore (take (s .args .k - s .args .left) (s .args .t5)) (s .args .left - 1) (polynomial (s .args .h) (s .args .degree + 1) (s .args .t2)) n)) e ∙ ap (λ (x : List ℕ). s .args .at + length x) (sym r),
-      l .loop .inv .3 ∙ ap (λ (n : ℕ). laid (s .args .out .now) (s .args .at) (rowsBefore (take (s .args .k - s .args .left) (s .args .t5)) (s .args .left - 1) (polynomial (s .args .h) (s .args .degree + 1) (s .args .t2)) n)) e ∙ ap (laid (s .args .out .now) (s .args .at)) (sym r),
+      l .loop .inv .2 ∙ ap (λ (n : ℕ). s .args .at + length (rowsBefore (take (s .args .k - s .args .left) (s .args .t5)) (s .args .left - 1) (polynomial sixteen (s .args .h) (s .args .degree + 1) (s .args .t2)) n)) e ∙ ap (λ (x : List ℕ). s .args .at + length x) (sym r),
+      l .loop .inv .3 ∙ ap (λ (n : ℕ). laid (s .args .out .now) (s .args .at) (rowsBefore (take (s .args .k - s .args .left) (s .args .t5)) (s .args .left - 1) (polynomial sixteen (s .args .h) (s .args .degree + 1) (s .args .t2)) n)) e ∙ ap (laid (s .args .out .now) (s .args .at)) (sym r),
     )
 
 pub +search-spec : {M : Type 1} → statement M
