@@ -79,7 +79,7 @@ fn search(
     requires { ⌜ Products (now table) ⌝ }
     requires { ⌜ Symbols sixteen p ⌝ }
     requires { ⌜ (0 < h) × (h ≤ height) × ((degree + 1) * h ≤ places) × (left ≤ k) × (k ≤ sixteen .positions) ⌝ }
-    requires { ⌜ DegreeWithin (left - 1) degree h p × (at + length (rowsAfter (take (k - left) row) (search sixteen left (polynomial sixteen h (degree + 1) p))) ≤ length (now out)) ⌝ }
+    requires { ⌜ DegreeWithin sixteen (left - 1) degree h p × (at + length (rowsAfter (take (k - left) row) (search sixteen left (polynomial sixteen h (degree + 1) p))) ≤ length (now out)) ⌝ }
     ensures count { λ r. ⌜ r ≡ at + length (rowsAfter (take (k - left) row) (search sixteen left (polynomial sixteen h (degree + 1) p))) ⌝ }
     ensures memory { λ _. ⌜ now (out .exit) ≡ laid (now (out .entry)) at (rowsAfter (take (k - left) row) (search sixteen left (polynomial sixteen h (degree + 1) p))) ⌝ }
 {

@@ -1,6 +1,6 @@
 -- A leaf lays its row by memory's put; a level lays, symbol after symbol, the rows of what it hands on behind those before them.
 use mathlib.Core.Logic.{⊎-elim}
-use mathlib.Core.List.{List, []}
+use mathlib.Core.List.{List}
 use mathlib.Core.Path.{_≡_, refl, sym, _∙_, ap}
 use Prim.Native.Nat.{ℕ, _+_, _-_, _≤_, _<_}
 use native.Mathlib.Omega.{arith}
@@ -8,6 +8,7 @@ use borrow.Author.Needs.{needs}
 use lib.ListN.{length, take}
 use lib.Seq.{length-take-le}
 use Rattle.definitions.specs.Field.{sixteen}
+use Rattle.instances.proofs.Codes.{sixteen-field}
 use Rattle.substitution.specs.Array.{places, polynomial}
 use Rattle.memory.specs.Laid.{laid}
 use Rattle.roots.proofs.Rows.{rowsBefore, before-nothing, rows-all, leaf-root-length, leaf-written, leaf-nothing, symbol, positive, fewer, fewer-fit, same-room, row-holds, columns-fit, begins-yes, begins-no, tried-none, tried-some, handed-within, handed-room}
@@ -48,8 +49,8 @@ claims t = (
 )
 
 abbrev search-Inv-loop : search-lts.InvT-loop
-search-Inv-loop table degree h k left out₀ at p row end₀ g₀ out end g = (g ≤ sixteen .symbols) × (length out ≡ length out₀) × (end ≡ at + length (rowsBefore (take (k - left) row) (left - 1) (polynomial sixteen h (degree + 1) p) g))
-    × (out ≡ laid out₀ at (rowsBefore (take (k - left) row) (left - 1) (polynomial sixteen h (degree + 1) p) g))
+search-Inv-loop table degree h k left out₀ at p row end₀ g₀ out end g = (g ≤ sixteen .symbols) × (length out ≡ length out₀) × (end ≡ at + length (rowsBefore sixteen (take (k - left) row) (left - 1) (polynomial sixteen h (degree + 1) p) g))
+    × (out ≡ laid out₀ at (rowsBefore sixteen (take (k - left) row) (left - 1) (polynomial sixteen h (degree + 1) p) g))
 
 abbrev search-μ-loop : search-lts.MeasureT-loop
 search-μ-loop table degree h k left out₀ at p row end₀ g₀ out end g = sixteen .symbols - g
@@ -81,7 +82,7 @@ search-put-requires t c κs =
     let s = c .before .before .before .before .before .before .before in
     let size : length (s .args .t5) ≡ sixteen .positions = search needs in
     let q = s .pre .1 .1 .1 .0 in
-    let n = leaf-root-length (s .args .t5) (s .args .k) (s .args .left) (polynomial sixteen (s .args .h) (s .args .degree + 1) (s .args .t2)) (c .before .before .before .before .before .if1 .taken) (sym (c .before .before .if2 .taken) ∙ c .before .before .before .constants-zero .ensures) (omega arith) in
+    let n = leaf-root-length sixteen (s .args .t5) (s .args .k) (s .args .left) (polynomial sixteen (s .args .h) (s .args .degree + 1) (s .args .t2)) (c .before .before .before .before .before .if1 .taken) (sym (c .before .before .if2 .taken) ∙ c .before .before .before .constants-zero .ensures) (omega arith) in
     let room = s .pre .1 .1 .1 .1 .1 in
     let long = length-take-le (s .args .k) (s .args .t5) (omega arith) in
     omega arith
@@ -91,7 +92,7 @@ search-add-result t c =
     let s = c .before .before .before .before .before .before .before .before .before .before in
     let size : length (s .args .t5) ≡ sixteen .positions = search needs in
     let q = s .pre .1 .1 .1 .0 in
-    let n = leaf-root-length (s .args .t5) (s .args .k) (s .args .left) (polynomial sixteen (s .args .h) (s .args .degree + 1) (s .args .t2)) (c .before .before .before .before .before .before .before .before .if1 .taken) (sym (c .before .before .before .before .before .if2 .taken) ∙ c .before .before .before .before .before .before .constants-zero .ensures) (omega arith) in
+    let n = leaf-root-length sixteen (s .args .t5) (s .args .k) (s .args .left) (polynomial sixteen (s .args .h) (s .args .degree + 1) (s .args .t2)) (c .before .before .before .before .before .before .before .before .if1 .taken) (sym (c .before .before .before .before .before .if2 .taken) ∙ c .before .before .before .before .before .before .constants-zero .ensures) (omega arith) in
     let room = s .pre .1 .1 .1 .1 .1 in
     omega arith
 
@@ -104,19 +105,19 @@ search-returns t c =
     let size : length (s .args .t5) ≡ sixteen .positions = search needs in
     let q = s .pre .1 .1 .1 .0 in
     let e = sym (c .before .before .before .before .before .if2 .taken) ∙ c .before .before .before .before .before .before .constants-zero .ensures in (
-      ap (λ (n : ℕ). s .args .at + n) (sym (leaf-root-length (s .args .t5) (s .args .k) (s .args .left) (polynomial sixteen (s .args .h) (s .args .degree + 1) (s .args .t2)) (c .before .before .before .before .before .before .before .before .if1 .taken) e (omega arith))),
-      leaf-written (s .args .t5) (s .args .k) (s .args .left) (polynomial sixteen (s .args .h) (s .args .degree + 1) (s .args .t2)) (c .before .before .before .before .before .before .before .before .if1 .taken) e (s .args .out .now) _ (s .args .at) (c .before .before .put .ensures),
+      ap (λ (n : ℕ). s .args .at + n) (sym (leaf-root-length sixteen (s .args .t5) (s .args .k) (s .args .left) (polynomial sixteen (s .args .h) (s .args .degree + 1) (s .args .t2)) (c .before .before .before .before .before .before .before .before .if1 .taken) e (omega arith))),
+      leaf-written sixteen (s .args .t5) (s .args .k) (s .args .left) (polynomial sixteen (s .args .h) (s .args .degree + 1) (s .args .t2)) (c .before .before .before .before .before .before .before .before .if1 .taken) e (s .args .out .now) _ (s .args .at) (c .before .before .put .ensures),
     )
 
 search-returns-2 : (t : ℕ) → search-lts.Need-returns-2 (claims t) (search-at t) search′.Post search-Inv-loop search-μ-loop
 search-returns-2 t c =
     let s = c .before .before .before .before .before in
-    leaf-nothing (s .args .t5) (s .args .k) (s .args .left) (polynomial sixteen (s .args .h) (s .args .degree + 1) (s .args .t2)) (c .before .before .before .if1 .taken) (sym (c .if2 .left) ∙ c .before .constants-zero .ensures) (s .args .out .now) (s .args .at)
+    leaf-nothing sixteen (s .args .t5) (s .args .k) (s .args .left) (polynomial sixteen (s .args .h) (s .args .degree + 1) (s .args .t2)) (c .before .before .before .if1 .taken) (sym (c .if2 .left) ∙ c .before .constants-zero .ensures) (s .args .out .now) (s .args .at)
 
 search-loop-holds : (t : ℕ) → search-lts.Need-loop-holds (claims t) (search-at t) search′.Post search-Inv-loop search-μ-loop
 search-loop-holds t c =
     let s = c .before .before in
-    let z = before-nothing (take (s .args .k - s .args .left) (s .args .t5)) (s .args .left - 1) (polynomial sixteen (s .args .h) (s .args .degree + 1) (s .args .t2)) (s .args .out .now) (s .args .at) in
+    let z = before-nothing sixteen (take (s .args .k - s .args .left) (s .args .t5)) (s .args .left - 1) (polynomial sixteen (s .args .h) (s .args .degree + 1) (s .args .t2)) (s .args .out .now) (s .args .at) in
     (omega arith, refl, z .0, z .1)
 
 search-first-value-requires : (t : ℕ) → search-lts.Need-first-value-requires (claims t) (search-at t) search′.Post search-Inv-loop search-μ-loop
@@ -154,14 +155,14 @@ search-search-requires t c κs =
     let l = c .before .before .before .before .before .before .before in
     let s = c .before .before .before .before .before .before .before .before .before .before in
     let q = s .pre .1 .1 .1 .0 in
-    let fits = row-holds (s .args .t5) (s .args .k) (search needs) (q .4) in
-    let hg = symbol (l .loop .g) _ (c .before .before .before .before .before .before .loop-test .taken) (omega arith) in
+    let fits = row-holds sixteen (s .args .t5) (s .args .k) (search needs) (q .4) in
+    let hg = symbol sixteen (l .loop .g) _ (c .before .before .before .before .before .before .loop-test .taken) (omega arith) in
     let pos = positive (s .args .left) (c .before .before .before .before .before .before .before .before .if1 .left) in
     let f = c .before .before .before .before .first-value in
-    let b = begins-yes (s .args .h) (s .args .degree) (l .loop .g) (s .args .t2) (f .result) (f .ensures) (c .before .before .before .if3 .taken) in
+    let b = begins-yes sixteen (s .args .h) (s .args .degree) (l .loop .g) (s .args .t2) (f .result) (f .ensures) (c .before .before .before .if3 .taken) in
     let r = c .before .handed in
-    let within = handed-within (s .args .k) (s .args .left) (s .args .degree) (s .args .h) (s .args .t5) (s .args .t2) (s .args .out .now) (s .args .at) (l .loop .out) (l .loop .end) (l .loop .g) hg pos (q .3) fits (s .pre .1 .1 .1 .1 .1) (l .loop .inv .2) (l .loop .inv .3) (q .0) (s .pre .1 .1 .0) (s .pre .1 .1 .1 .1 .0) b (r .result) (r .ensures .1) (r .ensures .0) in
-    let room = handed-room (s .args .k) (s .args .left) (s .args .degree) (s .args .h) (s .args .t5) (s .args .t2) (s .args .out .now) (s .args .at) (l .loop .out) (l .loop .end) (l .loop .g) hg pos (q .3) fits (s .pre .1 .1 .1 .1 .1) (l .loop .inv .2) (l .loop .inv .3) (q .0) (s .pre .1 .1 .0) (s .pre .1 .1 .1 .1 .0) b (r .result) (r .ensures .1) (r .ensures .0) in
+    let within = handed-within sixteen sixteen-field (s .args .k) (s .args .left) (s .args .degree) (s .args .h) (s .args .t5) (s .args .t2) (s .args .out .now) (s .args .at) (l .loop .out) (l .loop .end) (l .loop .g) hg pos (q .3) fits (s .pre .1 .1 .1 .1 .1) (l .loop .inv .2) (l .loop .inv .3) (q .0) (s .pre .1 .1 .0) (s .pre .1 .1 .1 .1 .0) b (r .result) (r .ensures .1) (r .ensures .0) in
+    let room = handed-room sixteen sixteen-field (s .args .k) (s .args .left) (s .args .degree) (s .args .h) (s .args .t5) (s .args .t2) (s .args .out .now) (s .args .at) (l .loop .out) (l .loop .end) (l .loop .g) hg pos (q .3) fits (s .pre .1 .1 .1 .1 .1) (l .loop .inv .2) (l .loop .inv .3) (q .0) (s .pre .1 .1 .0) (s .pre .1 .1 .1 .1 .0) b (r .result) (r .ensures .1) (r .ensures .0) in
     (fewer (s .args .left) t (s .pre .0) pos, (s .pre .1 .0, (r .ensures .1, ((q .0, q .1, q .2, fewer-fit (s .args .left) (s .args .k) (q .3), q .4), (within, same-room _ _ _ (l .loop .inv .1) room)))))
 
 search-add-g : (t : ℕ) → search-lts.Need-add-g (claims t) (search-at t) search′.Post search-Inv-loop search-μ-loop
@@ -176,17 +177,17 @@ search-loop-again t c =
     let s = c .before .before .before .before .before .before .before in
     let q = s .pre .1 .1 .1 .0 in
     let f = c .before .first-value in
-    let fits = row-holds (s .args .t5) (s .args .k) (search needs) (q .4) in
-    let hg = symbol (l .loop .g) _ (c .before .before .before .loop-test .taken) (omega arith) in
+    let fits = row-holds sixteen (s .args .t5) (s .args .k) (search needs) (q .4) in
+    let hg = symbol sixteen (l .loop .g) _ (c .before .before .before .loop-test .taken) (omega arith) in
     let pos = positive (s .args .left) (c .before .before .before .before .before .if1 .left) in
     ⊎-elim
     (λ w.
-    let b = begins-yes (s .args .h) (s .args .degree) (l .loop .g) (s .args .t2) (f .result) (f .ensures) (w .0 .taken) in
-    let z = tried-some (s .args .k) (s .args .left) (s .args .degree) (s .args .h) (s .args .t5) (s .args .t2) (s .args .out .now) (s .args .at) (l .loop .out) (l .loop .end) (l .loop .g) hg pos (q .3) fits (s .pre .1 .1 .1 .1 .1) (l .loop .inv .2) (l .loop .inv .3) (q .0) (s .pre .1 .1 .0) (s .pre .1 .1 .1 .1 .0) b (w .2 .result) (w .2 .ensures .1) (w .2 .ensures .0) (c .if3 .end) (c .if3 .out)
+    let b = begins-yes sixteen (s .args .h) (s .args .degree) (l .loop .g) (s .args .t2) (f .result) (f .ensures) (w .0 .taken) in
+    let z = tried-some sixteen sixteen-field (s .args .k) (s .args .left) (s .args .degree) (s .args .h) (s .args .t5) (s .args .t2) (s .args .out .now) (s .args .at) (l .loop .out) (l .loop .end) (l .loop .g) hg pos (q .3) fits (s .pre .1 .1 .1 .1 .1) (l .loop .inv .2) (l .loop .inv .3) (q .0) (s .pre .1 .1 .0) (s .pre .1 .1 .1 .1 .0) b (w .2 .result) (w .2 .ensures .1) (w .2 .ensures .0) (c .if3 .end) (c .if3 .out)
     (w .8 ∙ w .4 .ensures .0) (w .7 ∙ w .4 .ensures .1) in
     (omega arith, ap length (w .7) ∙ w .4 .kept .1 .1 .1 .1 .1 .1 .1 .0 ∙ l .loop .inv .1, z .0, z .1))
     (λ w.
-    let z = tried-none (s .args .k) (s .args .left) (s .args .degree) (s .args .h) (s .args .t5) (s .args .t2) (s .args .out .now) (s .args .at) (l .loop .out) (l .loop .end) (l .loop .g) hg pos (q .3) fits (s .pre .1 .1 .1 .1 .1) (l .loop .inv .2) (l .loop .inv .3) (begins-no (s .args .h) (s .args .degree) (l .loop .g) (s .args .t2) (f .result) (f .ensures) (w .0 .left)) in
+    let z = tried-none sixteen (take (s .args .k - s .args .left) (s .args .t5)) (s .args .left - 1) (polynomial sixteen (s .args .h) (s .args .degree + 1) (s .args .t2)) (s .args .out .now) (s .args .at) (l .loop .out) (l .loop .end) (l .loop .g) (l .loop .inv .2) (l .loop .inv .3) (begins-no sixteen (s .args .h) (s .args .degree) (l .loop .g) (s .args .t2) (f .result) (f .ensures) (w .0 .left)) in
     (omega arith, ap length (w .1) ∙ l .loop .inv .1, w .2 ∙ z .0, w .1 ∙ z .1))
     (c .if3 .came)
 
@@ -197,10 +198,10 @@ search-returns-3 : (t : ℕ) → search-lts.Need-returns-3 (claims t) (search-at
 search-returns-3 t c =
     let l = c .before in
     let s = c .before .before .before .before in
-    let r = rows-all (take (s .args .k - s .args .left) (s .args .t5)) (s .args .left) (polynomial sixteen (s .args .h) (s .args .degree + 1) (s .args .t2)) (omega arith) in
+    let r = rows-all sixteen (take (s .args .k - s .args .left) (s .args .t5)) (s .args .left) (polynomial sixteen (s .args .h) (s .args .degree + 1) (s .args .t2)) (omega arith) in
     let e : l .loop .g ≡ sixteen .symbols = omega arith in (
-      l .loop .inv .2 ∙ ap (λ (n : ℕ). s .args .at + length (rowsBefore (take (s .args .k - s .args .left) (s .args .t5)) (s .args .left - 1) (polynomial sixteen (s .args .h) (s .args .degree + 1) (s .args .t2)) n)) e ∙ ap (λ (x : List ℕ). s .args .at + length x) (sym r),
-      l .loop .inv .3 ∙ ap (λ (n : ℕ). laid (s .args .out .now) (s .args .at) (rowsBefore (take (s .args .k - s .args .left) (s .args .t5)) (s .args .left - 1) (polynomial sixteen (s .args .h) (s .args .degree + 1) (s .args .t2)) n)) e ∙ ap (laid (s .args .out .now) (s .args .at)) (sym r),
+      l .loop .inv .2 ∙ ap (λ (n : ℕ). s .args .at + length (rowsBefore sixteen (take (s .args .k - s .args .left) (s .args .t5)) (s .args .left - 1) (polynomial sixteen (s .args .h) (s .args .degree + 1) (s .args .t2)) n)) e ∙ ap (λ (x : List ℕ). s .args .at + length x) (sym r),
+      l .loop .inv .3 ∙ ap (λ (n : ℕ). laid (s .args .out .now) (s .args .at) (rowsBefore sixteen (take (s .args .k - s .args .left) (s .args .t5)) (s .args .left - 1) (polynomial sixteen (s .args .h) (s .args .degree + 1) (s .args .t2)) n)) e ∙ ap (laid (s .args .out .now) (s .args .at)) (sym r),
     )
 
 pub +search-spec : {M : Type 1} → statement M

@@ -32,7 +32,7 @@ loop-holds : tie.Need-loop-holds Inv-loop μ-loop
 unfolding zeros
 loop-holds c =
     let s = c .before in
-    (omega arith, refl, none-lower (s .args .v), load-none (s .args .v) (s .pre .0 .0) (s .args .degree) (s .args .coefficients .now) (s .pre .1) (s .args .degree / s .args .v + 1) (zeros places))
+    (omega arith, refl, none-lower (s .args .v), load-none sixteen (s .args .v) (s .pre .0 .0) (s .args .degree) (s .args .coefficients .now) (s .pre .1) (s .args .degree / s .args .v + 1) (zeros places))
 
 slice-aggregate-load-degree : tie.Need-slice-aggregate-load-degree Inv-loop μ-loop
 slice-aggregate-load-degree c = omega arith
@@ -74,14 +74,14 @@ loop-again c =
     let l = c .before .before .before .before in
     let s = l .before .before in
     let r = c .before .load-degree in
-    let z = load-more (s .args .v) (s .pre .0 .0) (s .args .degree) (s .args .coefficients .now) (s .pre .1) (s .args .degree / s .args .v + 1) (zeros places) (l .loop .d) (l .loop .j) (l .loop .p) (r .last .0) (omega arith) (l .loop .inv .2) (l .loop .inv .3) (r .ensures) in
+    let z = load-more sixteen (s .args .v) (s .pre .0 .0) (s .args .degree) (s .args .coefficients .now) (s .pre .1) (s .args .degree / s .args .v + 1) (zeros places) (l .loop .d) (l .loop .j) (l .loop .p) (r .last .0) (omega arith) (l .loop .inv .2) (l .loop .inv .3) (r .ensures) in
     (omega arith, omega arith, z .0, z .1)
 
 returns : tie.Need-returns Inv-loop μ-loop
 returns c =
     let l = c .before in
     let s = l .before .before in
-    load-all (s .args .v) (s .pre .0 .0) (s .args .degree) (s .args .coefficients .now) (s .pre .1) (s .args .degree / s .args .v + 1) (zeros places) (l .loop .d) (l .loop .j) (l .loop .p) (omega arith) (l .loop .inv .2) (l .loop .inv .3)
+    load-all sixteen (s .args .v) (s .pre .0 .0) (s .args .degree) (s .args .coefficients .now) (s .pre .1) (s .args .degree / s .args .v + 1) (zeros places) (l .loop .d) (l .loop .j) (l .loop .p) (omega arith) (l .loop .inv .2) (l .loop .inv .3)
 
 pub load-spec : {M : Type 1} → statement M
 load-spec =
