@@ -9,7 +9,7 @@ use lib.Dec.{T, eqb, eqb→eq}
 use Rattle.definitions.proofs.Tools.{smallest-found}
 use Rattle.definitions.specs.Field.{Ops, Code, inverseOf}
 use Rattle.algebra.specs.FieldOf.{FieldOf}
-use Rattle.algebra.proofs.RingLaws.{times-comm, times-zero}
+use Rattle.algebra.proofs.RingLaws.{times-assoc, times-comm, one-times, plus-times, times-zero}
 
 module _ (C : Code) (F : FieldOf C) where
   -- the operations on elements
@@ -76,6 +76,28 @@ module _ (C : Code) (F : FieldOf C) where
   -- the product of symbols is commutative
   pub times-turned : (a b : ℕ) → a < C .symbols → b < C .symbols → C .times a b ≡ C .times b a
   times-turned a b ha hb = sym (number-times a b ha hb) ∙ ap φ (times-comm (F .ring) (F .element a) (F .element b)) ∙ number-times b a hb ha
+
+  module _ (a b c : ℕ) (ha : a < C .symbols) (hb : b < C .symbols) (hc : c < C .symbols) where
+    -- and associative
+    pub times-grouped : C .times a (C .times b c) ≡ C .times (C .times a b) c
+    times-grouped =
+        sym (F .number .φ-mul (F .element a) (G .mul (F .element b) (F .element c)) ∙ ap₂ (C .times) (F .number-element a ha) (number-times b c hb hc))
+        ∙ ap φ (sym (times-assoc (F .ring) (F .element a) (F .element b) (F .element c)))
+        ∙ F .number .φ-mul (G .mul (F .element a) (F .element b)) (F .element c) ∙ ap₂ (C .times) (number-times a b ha hb) (F .number-element c hc)
+
+    -- a sum of multiples of a symbol is the multiple by the sum
+    pub times-joined : C .plus (C .times a c) (C .times b c) ≡ C .times (C .plus a b) c
+    times-joined =
+        sym (F .number .φ-add (G .mul (F .element a) (F .element c)) (G .mul (F .element b) (F .element c))
+        ∙ ap₂ (C .plus) (number-times a c ha hc) (number-times b c hb hc))
+        ∙ ap φ (sym (plus-times (F .ring) (F .element a) (F .element b) (F .element c)))
+        ∙ F .number .φ-mul (G .add (F .element a) (F .element b)) (F .element c) ∙ ap₂ (C .times) (number-plus a b ha hb) (F .number-element c hc)
+
+  -- once a symbol is the symbol
+  pub once-times : (a : ℕ) → a < C .symbols → C .times 1 a ≡ a
+  once-times a h =
+      sym (number-times 1 a one-symbol h) ∙ ap (λ (x : G .K). φ (G .mul x (F .element a))) element-one ∙ ap φ (one-times (F .ring) (F .element a))
+      ∙ F .number-element a h
 
   -- a product with 0 is 0
   pub times-none : (a : ℕ) → a < C .symbols → C .times a 0 ≡ 0

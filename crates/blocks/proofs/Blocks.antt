@@ -1,22 +1,17 @@
 -- The loops over one block of a row, and the multiples of a block by doubling and adding.
 -- Assumes nothing.
-use mathlib.Core.Bool.{Bool, cond}
 use mathlib.Core.List.{List, []}
 use mathlib.Core.Path.{_≡_, refl, sym, _∙_, ap, ap₂, subst}
-use Prim.Native.Nat.{ℕ, _+_, _*_, _-_, _^_, _≤_, _<_}
+use Prim.Native.Nat.{ℕ, _+_, _*_, _-_, _<_}
 use native.Mathlib.Decide.{decLt, ℕ-discrete}
 use native.Mathlib.Omega.{arith}
-use borrow.Author.Tests.{lt-ltb, le-ltb}
-use lib.Bits.{bitXor}
-use lib.Dec.{T, eqb, eqb→eq}
 use lib.ListN.{length, getD, set, replicate, length-set, getD-replicate}
 use lib.Seq.{getD-set-same, getD-set-other}
-use Rattle.algebra.proofs.Elements.{plus-symbol, times-symbol, none-times}
-use Rattle.algebra.proofs.Tests.{every, every-at}
+use Rattle.algebra.proofs.Elements.{zero-symbol, plus-symbol, times-symbol, times-grouped, times-joined, once-times, none-times}
+use Rattle.algebra.specs.FieldOf.{FieldOf}
 use Rattle.definitions.proofs.Zeros.{zero-at}
 use Rattle.definitions.specs.Code.{Symbols}
-use Rattle.definitions.specs.Field.{sixteen, sumOf, double, shifted}
-use Rattle.instances.proofs.Codes.{sixteen-field}
+use Rattle.definitions.specs.Field.{Code}
 use Rattle.blocks.specs.Row.{block, Front, SymbolBlock, BlockOf, PutAt, ScaledBlock, SummedBlock, FilledTo, MultiplesBlock}
 
 -- no entry yet
@@ -55,126 +50,78 @@ block-more at n part old new h d = record {
   };
 }
 
--- ---- doubling
-
--- computed of sixteen symbols
-doubled : T (every (sixteen .symbols) (λ x. eqb (double 4 19 x) (sixteen .times 2 x)))
-unfolding every sumOf double shifted
-doubled = tt
-
--- twice a symbol, by shift and sum, is the table's product by 2
-double-is-product : (x : ℕ) → x < sixteen .symbols → double 4 19 x ≡ sixteen .times 2 x
-double-is-product x h = eqb→eq _ _ (every-at (sixteen .symbols) (λ x. eqb (double 4 19 x) (sixteen .times 2 x)) doubled x h)
-
--- below 8 nothing leaves
-pub twice-low : (x : ℕ) → x < 8 → x * 2 ≡ sixteen .times 2 x
-unfolding double
-twice-low x h =
-    sym (ap (λ (b : Bool). cond b (x * 2) (sumOf (x * 2) 19)) (lt-ltb (x * 2) (sixteen .symbols) (omega arith))) ∙ double-is-product x (omega arith)
-
--- from 8 on the highest bit does
-pub twice-high : (x : ℕ) → 8 ≤ x → x < sixteen .symbols → bitXor (x * 2) 19 ≡ sixteen .times 2 x
-unfolding double sumOf
-twice-high x h l =
-    sym (ap (λ (b : Bool). cond b (x * 2) (bitXor (x * 2) 19)) (le-ltb (x * 2) (sixteen .symbols) (omega arith))) ∙ double-is-product x l
-
 -- ---- blocks of symbols
 
 -- a block of a row of symbols is one
-pub block-symbols : (at : ℕ) (row a : List ℕ) → Symbols sixteen row → BlockOf at row a → SymbolBlock a
-block-symbols at row a s e k l = subst (λ (x : ℕ). x < sixteen .symbols) (sym (e k l)) (s (at + k))
+pub block-symbols : (C : Code) (at : ℕ) (row a : List ℕ) → Symbols C row → BlockOf at row a → SymbolBlock C a
+block-symbols C at row a s e k l = subst (λ (x : ℕ). x < C .symbols) (sym (e k l)) (s (at + k))
 
--- so is a sum of such blocks
-pub summed-symbols : (a b r : List ℕ) → SymbolBlock a → SymbolBlock b → SummedBlock a b r → SymbolBlock r
-summed-symbols a b r sa sb e k l =
-    subst (λ (x : ℕ). x < sixteen .symbols) (sym (e k l)) (plus-symbol sixteen sixteen-field (getD a k 0) (getD b k 0) (sa k l) (sb k l))
+module _ (C : Code) (F : FieldOf C) where
+  -- so is a sum of such blocks
+  pub summed-symbols : (a b r : List ℕ) → SymbolBlock C a → SymbolBlock C b → SummedBlock C a b r → SymbolBlock C r
+  summed-symbols a b r sa sb e k l =
+      subst (λ (x : ℕ). x < C .symbols) (sym (e k l)) (plus-symbol C F (getD a k 0) (getD b k 0) (sa k l) (sb k l))
 
--- and a multiple of one
-pub scaled-symbols : (u : ℕ) (a r : List ℕ) → u < sixteen .symbols → SymbolBlock a → ScaledBlock u a r → SymbolBlock r
-scaled-symbols u a r h sa e k l =
-    subst (λ (x : ℕ). x < sixteen .symbols) (sym (e k l)) (times-symbol sixteen sixteen-field u (getD a k 0) h (sa k l))
+  -- and a multiple of one
+  pub scaled-symbols : (u : ℕ) (a r : List ℕ) → u < C .symbols → SymbolBlock C a → ScaledBlock C u a r → SymbolBlock C r
+  scaled-symbols u a r h sa e k l =
+      subst (λ (x : ℕ). x < C .symbols) (sym (e k l)) (times-symbol C F u (getD a k 0) h (sa k l))
 
 -- ---- multiples
 
--- computed of sixteen symbols
-ones : T (every (sixteen .symbols) (λ x. eqb x (sixteen .times 1 x)))
-unfolding every sumOf double shifted
-ones = tt
+-- a number below h, with h added, is h more: so it is of bits, for h a power of two
+abbrev pub Joins : Code → ℕ → Type 0
+Joins C h = (c : ℕ) → c < h → C .plus c h ≡ h + c
 
--- once a block is the block
-pub scaled-once : (a : List ℕ) → SymbolBlock a → ScaledBlock 1 a a
-scaled-once a sa k l = eqb→eq _ _ (every-at (sixteen .symbols) (λ x. eqb x (sixteen .times 1 x)) ones (getD a k 0) (sa k l))
+module _ (C : Code) (F : FieldOf C) where
+  -- once a block is the block
+  pub scaled-once : (a : List ℕ) → SymbolBlock C a → ScaledBlock C 1 a a
+  scaled-once a sa k l = sym (once-times C F (getD a k 0) (sa k l))
 
--- computed of sixteen symbols
-doubles : T (every 8 (λ h. every (sixteen .symbols) (λ x. eqb (sixteen .times 2 (sixteen .times h x)) (sixteen .times (2 * h) x))))
-unfolding every sumOf double shifted
-doubles = tt
+  -- u times the multiple h of a block is its multiple by u times h
+  pub scaled-again : (u h n : ℕ) (a b r : List ℕ) → u < C .symbols → h < C .symbols → C .times u h ≡ n → SymbolBlock C a
+      → ScaledBlock C h a b → ScaledBlock C u b r → ScaledBlock C n a r
+  scaled-again u h n a b r hu hh is sa e f k l =
+      f k l ∙ ap (C .times u) (e k l) ∙ times-grouped C F u h (getD a k 0) hu hh (sa k l) ∙ ap (λ (i : ℕ). C .times i (getD a k 0)) is
 
--- twice the multiple h of a block is its multiple 2h
-pub scaled-twice : (h : ℕ) (a b r : List ℕ) → h < 8 → SymbolBlock a → ScaledBlock h a b → ScaledBlock 2 b r → ScaledBlock (2 * h) a r
-scaled-twice h a b r low sa e f k l =
-    f k l ∙ ap (sixteen .times 2) (e k l)
-    ∙ eqb→eq _ _
-    (every-at (sixteen .symbols) (λ x. eqb (sixteen .times 2 (sixteen .times h x)) (sixteen .times (2 * h) x))
-    (every-at 8 (λ h. every (sixteen .symbols) (λ x. eqb (sixteen .times 2 (sixteen .times h x)) (sixteen .times (2 * h) x))) doubles h low) (getD a k 0) (sa k l))
+  -- the multiple 0 is a block of zeros
+  pub multiples-first : (a : List ℕ) → SymbolBlock C a → MultiplesBlock C 1 a (replicate (C .symbols) (replicate block 0))
+  multiples-first a sa c h k l =
+      let z : c ≡ 0 = omega arith in
+      let some = zero-symbol C F in
+      ap (λ (r : List ℕ). getD r k 0) (getD-replicate (C .symbols) c (replicate block 0) [] (omega arith)) ∙ zero-at block k
+      ∙ sym (ap (λ (n : ℕ). C .times n (getD a k 0)) z ∙ none-times C F (getD a k 0) (sa k l))
 
--- a multiple below h of a symbol, with its multiple h added, is the multiple h more
-abbrev Joins : ℕ → Type 0
-Joins h = (c x : ℕ) → c < h → x < sixteen .symbols → sixteen .plus (sixteen .times c x) (sixteen .times h x) ≡ sixteen .times (h + c) x
+  -- where the multiples below h are there, those below 2h come of them
+  pub multiples-filled : (h : ℕ) (a high : List ℕ) (old new : List (List ℕ)) → h < C .symbols → Joins C h → SymbolBlock C a → MultiplesBlock C h a old
+      → ScaledBlock C h a high → FilledTo C h h high old new → MultiplesBlock C (2 * h) a new
+  multiples-filled h a high old new hh join sa m e f c l k g =
+      elim (decLt c h) [
+        | yes low ↦ ap (λ (r : List ℕ). getD r k 0) (f .below c low) ∙ m c low k g
+        | no n ↦
+            let here : c - h < h = omega arith in
+            let is : h + (c - h) ≡ c = omega arith in
+            let symbol : c - h < C .symbols = omega arith in
+            ap (λ (i : ℕ). getD (getD new i []) k 0) (sym is) ∙ f .sums (c - h) here k g ∙ ap₂ (C .plus) (m (c - h) here k g) (e k g)
+            ∙ times-joined C F (c - h) h (getD a k 0) symbol hh (sa k g) ∙ ap (λ (i : ℕ). C .times i (getD a k 0)) (join (c - h) here ∙ is)
+      ]
 
--- the test of it
-joinsBy : ℕ → ℕ → ℕ → Bool
-joinsBy h c x = eqb (sixteen .plus (sixteen .times c x) (sixteen .times h x)) (sixteen .times (h + c) x)
+module _ (C : Code) where
+  -- nothing is filled yet
+  pub fill-none : (h : ℕ) (high : List ℕ) (m : List (List ℕ)) → FilledTo C h 0 high m m
+  fill-none h high m = record { size = refl; below = λ c l. refl; sums = λ c l. let z : ⊥ = omega arith in absurd z }
 
--- computed of sixteen symbols
-powers-join : T (every 4 (λ e. every (2 ^ e) (λ c. every (sixteen .symbols) (joinsBy (2 ^ e) c))))
-unfolding every joinsBy sumOf double shifted
-powers-join = tt
-
--- so it is for each power of two
-pub joins : (e : ℕ) → e < 4 → Joins (2 ^ e)
-unfolding joinsBy
-joins e h c x hc hx =
-    eqb→eq _ _
-    (every-at (sixteen .symbols) (joinsBy (2 ^ e) c)
-    (every-at (2 ^ e) (λ c. every (sixteen .symbols) (joinsBy (2 ^ e) c))
-    (every-at 4 (λ e. every (2 ^ e) (λ c. every (sixteen .symbols) (joinsBy (2 ^ e) c))) powers-join e h) c hc) x hx)
-
--- the multiple 0 is a block of zeros
-pub multiples-first : (a : List ℕ) → SymbolBlock a → MultiplesBlock 1 a (replicate (sixteen .symbols) (replicate block 0))
-multiples-first a sa c h k l =
-    let z : c ≡ 0 = omega arith in
-    ap (λ (r : List ℕ). getD r k 0) (getD-replicate (sixteen .symbols) c (replicate block 0) [] (omega arith)) ∙ zero-at block k
-    ∙ sym (ap (λ (n : ℕ). sixteen .times n (getD a k 0)) z ∙ none-times sixteen sixteen-field (getD a k 0) (sa k l))
-
--- where the multiples below h are there, those below 2h come of them
-pub multiples-filled : (h : ℕ) (a high : List ℕ) (old new : List (List ℕ)) → Joins h → SymbolBlock a → MultiplesBlock h a old → ScaledBlock h a high
-    → FilledTo h h high old new → MultiplesBlock (2 * h) a new
-multiples-filled h a high old new join sa m e f c l k g =
-    elim (decLt c h) [
-      | yes low ↦ ap (λ (r : List ℕ). getD r k 0) (f .below c low) ∙ m c low k g
-      | no n ↦
-          let here : c - h < h = omega arith in
-          let is : h + (c - h) ≡ c = omega arith in
-          ap (λ (i : ℕ). getD (getD new i []) k 0) (sym is) ∙ f .sums (c - h) here k g ∙ ap₂ (sixteen .plus) (m (c - h) here k g) (e k g)
-          ∙ join (c - h) (getD a k 0) here (sa k g) ∙ ap (λ (i : ℕ). sixteen .times i (getD a k 0)) is
-    ]
-
--- nothing is filled yet
-pub fill-none : (h : ℕ) (high : List ℕ) (m : List (List ℕ)) → FilledTo h 0 high m m
-fill-none h high m = record { size = refl; below = λ c l. refl; sums = λ c l. let z : ⊥ = omega arith in absurd z }
-
--- one multiple more
-pub fill-more : (h n : ℕ) (high sum : List ℕ) (old new : List (List ℕ)) → n < h → h + n < length old → FilledTo h n high old new
-    → SummedBlock (getD new n []) high sum → FilledTo h (n + 1) high old (set new (h + n) sum)
-fill-more h n high sum old new low room f e = record {
-  size = length-set new (h + n) sum ∙ f .size;
-  below = λ c l. getD-set-other new (h + n) c sum [] (λ i. omega arith) ∙ f .below c l;
-  sums = λ c l k g. elim (ℕ-discrete c n) [
-    | yes i ↦
-        ap (λ (j : ℕ). getD (getD (set new (h + n) sum) (h + j) []) k 0) i
-        ∙ ap (λ (r : List ℕ). getD r k 0) (getD-set-same new (h + n) sum [] (let s = f .size in omega arith)) ∙ e k g
-        ∙ ap (λ (r : List ℕ). sixteen .plus (getD r k 0) (getD high k 0)) (f .below n low ∙ ap (λ (j : ℕ). getD old j []) (sym i))
-    | no i ↦ ap (λ (r : List ℕ). getD r k 0) (getD-set-other new (h + n) (h + c) sum [] (λ j. omega arith)) ∙ f .sums c (omega arith) k g
-  ];
-}
+  -- one multiple more
+  pub fill-more : (h n : ℕ) (high sum : List ℕ) (old new : List (List ℕ)) → n < h → h + n < length old → FilledTo C h n high old new
+      → SummedBlock C (getD new n []) high sum → FilledTo C h (n + 1) high old (set new (h + n) sum)
+  fill-more h n high sum old new low room f e = record {
+    size = length-set new (h + n) sum ∙ f .size;
+    below = λ c l. getD-set-other new (h + n) c sum [] (λ i. omega arith) ∙ f .below c l;
+    sums = λ c l k g. elim (ℕ-discrete c n) [
+      | yes i ↦
+          ap (λ (j : ℕ). getD (getD (set new (h + n) sum) (h + j) []) k 0) i
+          ∙ ap (λ (r : List ℕ). getD r k 0) (getD-set-same new (h + n) sum [] (let s = f .size in omega arith)) ∙ e k g
+          ∙ ap (λ (r : List ℕ). C .plus (getD r k 0) (getD high k 0)) (f .below n low ∙ ap (λ (j : ℕ). getD old j []) (sym i))
+      | no i ↦ ap (λ (r : List ℕ). getD r k 0) (getD-set-other new (h + n) (h + c) sum [] (λ j. omega arith)) ∙ f .sums c (omega arith) k g
+    ];
+  }

@@ -7,11 +7,13 @@ use native.Mathlib.Decide.{decLt}
 use native.Mathlib.Omega.{arith}
 use lib.ListN.{length, drop, getD, set, replicate, length-append, length-drop, List·getD-append}
 use lib.Seq.{getD-append-add, getD-drop}
+use Rattle.algebra.proofs.Elements.{zero-symbol}
+use Rattle.algebra.specs.FieldOf.{FieldOf}
 use Rattle.definitions.proofs.Loops.{map-more}
 use Rattle.definitions.proofs.Tools.{below-zero, length-map-below, map-below-at}
 use Rattle.definitions.proofs.Zeros.{zero-at}
 use Rattle.definitions.specs.Code.{Symbols}
-use Rattle.definitions.specs.Field.{sixteen}
+use Rattle.definitions.specs.Field.{Code}
 use Rattle.definitions.specs.Tools.{below}
 use Rattle.blocks.specs.Row.{width, filled}
 
@@ -51,10 +53,10 @@ module _ (f : ℕ → ℕ) where
       ∙ getD-append-add (map f (below n)) (drop n (replicate width 0)) (k - n) 0 ∙ getD-drop n (replicate width 0) (k - n) 0
       ∙ ap (λ (j : ℕ). getD (replicate width 0) j 0) g ∙ zero-at width k
 
-  -- of symbols it is a row of symbols
-  pub filled-symbols : (n : ℕ) → ((k : ℕ) → k < n → f k < sixteen .symbols) → Symbols sixteen (filled n f)
-  filled-symbols n s k =
-      elim (decLt k n) [
-        | yes h ↦ rw (filled-at n k h) (s k h)
-        | no l ↦ rw (filled-rest n k (omega arith)) (omega arith)
-      ]
+-- of symbols it is a row of symbols
+pub filled-symbols : (C : Code) → FieldOf C → (f : ℕ → ℕ) (n : ℕ) → ((k : ℕ) → k < n → f k < C .symbols) → Symbols C (filled n f)
+filled-symbols C F f n s k =
+    elim (decLt k n) [
+      | yes h ↦ rw (filled-at f n k h) (s k h)
+      | no l ↦ rw (filled-rest f n k (omega arith)) (zero-symbol C F)
+    ]

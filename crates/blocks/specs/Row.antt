@@ -5,7 +5,7 @@ use mathlib.Core.Path.{_≡_}
 use Prim.Native.Nat.{ℕ, _+_, _-_, _≤_, _<_}
 use lib.ListN.{length, drop, getD, replicate}
 use Rattle.algebra.specs.Grid.{Patched}
-use Rattle.definitions.specs.Field.{sixteen}
+use Rattle.definitions.specs.Field.{Code}
 use Rattle.definitions.specs.Tools.{below}
 
 -- the entries of a row: for a cost within the greatest limit there are at most so many monomials up to the bound
@@ -25,8 +25,8 @@ abbrev pub Front : ℕ → (ℕ → ℕ) → List ℕ → Type 0
 Front n f l = (k : ℕ) → k < n → getD l k 0 ≡ f k
 
 -- a block of symbols
-abbrev pub SymbolBlock : List ℕ → Type 0
-SymbolBlock a = (k : ℕ) → k < block → getD a k 0 < sixteen .symbols
+abbrev pub SymbolBlock : Code → List ℕ → Type 0
+SymbolBlock C a = (k : ℕ) → k < block → getD a k 0 < C .symbols
 
 -- a block from a place on lies within a row
 abbrev pub InRow : ℕ → Type 0
@@ -45,20 +45,21 @@ pub record PutAt (at n : ℕ) (part old new : List ℕ) : Type 0 where
 abbrev pub PutBlock : ℕ → List ℕ → List ℕ → List ℕ → Type 0
 PutBlock at part old new = PutAt at block part old new
 
--- a sum of blocks
-abbrev pub SummedBlock : List ℕ → List ℕ → List ℕ → Type 0
-SummedBlock a b r = Front block (λ (k : ℕ). sixteen .plus (getD a k 0) (getD b k 0)) r
+module _ (C : Code) where
+  -- a sum of blocks
+  abbrev pub SummedBlock : List ℕ → List ℕ → List ℕ → Type 0
+  SummedBlock a b r = Front block (λ (k : ℕ). C .plus (getD a k 0) (getD b k 0)) r
 
--- u times a block
-abbrev pub ScaledBlock : ℕ → List ℕ → List ℕ → Type 0
-ScaledBlock u a r = Front block (λ (k : ℕ). sixteen .times u (getD a k 0)) r
+  -- u times a block
+  abbrev pub ScaledBlock : ℕ → List ℕ → List ℕ → Type 0
+  ScaledBlock u a r = Front block (λ (k : ℕ). C .times u (getD a k 0)) r
 
--- the n blocks from place h on are those from the first on, each with `high` added; those below h stay
-pub record FilledTo (h n : ℕ) (high : List ℕ) (old new : List (List ℕ)) : Type 0 where
-  pub size : length new ≡ length old
-  pub below : (c : ℕ) → c < h → getD new c [] ≡ getD old c []
-  pub sums : (c : ℕ) → c < n → SummedBlock (getD old c []) high (getD new (h + c) [])
+  -- the n blocks from place h on are those from the first on, each with `high` added; those below h stay
+  pub record FilledTo (h n : ℕ) (high : List ℕ) (old new : List (List ℕ)) : Type 0 where
+    pub size : length new ≡ length old
+    pub below : (c : ℕ) → c < h → getD new c [] ≡ getD old c []
+    pub sums : (c : ℕ) → c < n → SummedBlock (getD old c []) high (getD new (h + c) [])
 
--- the first n of many blocks are the multiples of a block, in order
-abbrev pub MultiplesBlock : ℕ → List ℕ → List (List ℕ) → Type 0
-MultiplesBlock n a times = (c : ℕ) → c < n → ScaledBlock c a (getD times c [])
+  -- the first n of many blocks are the multiples of a block, in order
+  abbrev pub MultiplesBlock : ℕ → List ℕ → List (List ℕ) → Type 0
+  MultiplesBlock n a times = (c : ℕ) → c < n → ScaledBlock c a (getD times c [])

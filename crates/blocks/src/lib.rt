@@ -40,7 +40,7 @@ pub fn put(row: &mut [u8; WIDTH], at: usize, part: &[u8; BLOCK])
 }
 
 pub fn summed(a: &[u8; BLOCK], b: &[u8; BLOCK]) -> [u8; BLOCK]
-    ensures { λ r. ⌜ SummedBlock (now (a .entry)) (now (b .entry)) r ⌝ }
+    ensures { λ r. ⌜ SummedBlock sixteen (now (a .entry)) (now (b .entry)) r ⌝ }
 {
     let mut sum = [0u8; BLOCK];
     let mut i = 0;
@@ -54,8 +54,8 @@ pub fn summed(a: &[u8; BLOCK], b: &[u8; BLOCK]) -> [u8; BLOCK]
 // u times a block, by the table.
 pub fn scaled(table: &[u8; 256], a: &[u8; BLOCK], u: u8) -> [u8; BLOCK]
     requires { ⌜ Products (now table) ⌝ }
-    requires { ⌜ (u < sixteen .symbols) × SymbolBlock (now a) ⌝ }
-    ensures { λ r. ⌜ ScaledBlock u (now (a .entry)) r ⌝ }
+    requires { ⌜ (u < sixteen .symbols) × SymbolBlock sixteen (now a) ⌝ }
+    ensures { λ r. ⌜ ScaledBlock sixteen u (now (a .entry)) r ⌝ }
 {
     let mut times = [0u8; BLOCK];
     let mut i = 0;
@@ -78,8 +78,8 @@ fn twice(x: u8) -> u8
 }
 
 fn doubled(a: &[u8; BLOCK]) -> [u8; BLOCK]
-    requires { ⌜ SymbolBlock (now a) ⌝ }
-    ensures { λ r. ⌜ ScaledBlock 2 (now (a .entry)) r ⌝ }
+    requires { ⌜ SymbolBlock sixteen (now a) ⌝ }
+    ensures { λ r. ⌜ ScaledBlock sixteen 2 (now (a .entry)) r ⌝ }
 {
     let mut times = [0u8; BLOCK];
     let mut i = 0;
@@ -93,7 +93,7 @@ fn doubled(a: &[u8; BLOCK]) -> [u8; BLOCK]
 // The multiples from h on: those below h, each with the multiple h added.
 fn fill(times: &mut [[u8; BLOCK]; SYMBOLS], high: &[u8; BLOCK], h: usize)
     requires { ⌜ (length (now times) ≡ sixteen .symbols) × (2 * h ≤ sixteen .symbols) ⌝ }
-    ensures { λ _. ⌜ FilledTo h h (now (high .entry)) (now (times .entry)) (now (times .exit)) ⌝ }
+    ensures { λ _. ⌜ FilledTo sixteen h h (now (high .entry)) (now (times .entry)) (now (times .exit)) ⌝ }
 {
     let mut c = 0;
     while c < h {
@@ -105,8 +105,8 @@ fn fill(times: &mut [[u8; BLOCK]; SYMBOLS], high: &[u8; BLOCK], h: usize)
 
 // Block c is c times the block.
 pub fn multiples(a: &[u8; BLOCK]) -> [[u8; BLOCK]; SYMBOLS]
-    requires { ⌜ SymbolBlock (now a) ⌝ }
-    ensures { λ r. ⌜ MultiplesBlock (sixteen .symbols) (now (a .entry)) r ⌝ }
+    requires { ⌜ SymbolBlock sixteen (now a) ⌝ }
+    ensures { λ r. ⌜ MultiplesBlock sixteen (sixteen .symbols) (now (a .entry)) r ⌝ }
 {
     let two = doubled(a);
     let four = doubled(&two);

@@ -42,7 +42,7 @@ orders-none row es b m e =
 
 -- a row of powers of a symbol is a row of symbols
 pub powers-symbols : (n x : ℕ) → x < sixteen .symbols → Symbols sixteen (powersRow n x)
-powers-symbols n x h = filled-symbols (power (numbers sixteen) x) n (λ e _. power-symbol sixteen sixteen-field x h e)
+powers-symbols n x h = filled-symbols sixteen sixteen-field (power (numbers sixteen) x) n (λ e _. power-symbol sixteen sixteen-field x h e)
 
 -- the powers of y are taken of a symbol
 pub base-symbol : (b : ℕ) → b < sixteen .symbols → baseAt b < sixteen .symbols

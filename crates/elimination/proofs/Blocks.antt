@@ -34,7 +34,7 @@ system-set m t row s h e sr = record {
 }
 
 -- a block of symbols is put into a row
-put-system : (m : List (List ℕ)) (t at : ℕ) (part row : List ℕ) → System m → t < length m → SymbolBlock part → PutBlock at part (getD m t []) row
+put-system : (m : List (List ℕ)) (t at : ℕ) (part row : List ℕ) → System m → t < length m → SymbolBlock sixteen part → PutBlock at part (getD m t []) row
     → System (set m t row)
 put-system m t at part row s h sp p =
     system-set m t row s h (p .size ∙ s .wide t h)
@@ -47,18 +47,18 @@ place at k l = omega arith
 -- ---- two rows change places
 
 module _ (at r j u : ℕ) (m : List (List ℕ)) (part other first one two : List ℕ) (s : System m) (hr : r < length m) (hj : j < length m) (hu : u < sixteen .symbols)
-    (is-part : BlockOf at (getD m r []) part) (is-other : BlockOf at (getD m j []) other) (is-first : ScaledBlock u part first)
+    (is-part : BlockOf at (getD m r []) part) (is-other : BlockOf at (getD m j []) other) (is-first : ScaledBlock sixteen u part first)
     (put-one : PutBlock at other (getD m r []) one) where
   -- row j is put in place of row r
   pub exchanged-once : System (set m r one)
-  exchanged-once = put-system m r at other one s hr (block-symbols at (getD m j []) other (s .symbols j) is-other) put-one
+  exchanged-once = put-system m r at other one s hr (block-symbols sixteen at (getD m j []) other (s .symbols j) is-other) put-one
 
   -- and row r, scaled, in place of row j
   pub exchanged-in : PutBlock at first (getD (set m r one) j []) two → ExchangedIn at (at + block) r j u m (set (set m r one) j two)
   exchanged-in put-two = record {
     size = length-set (set m r one) j two ∙ length-set m r one;
     system = put-system (set m r one) j at first two exchanged-once (let e = length-set m r one in omega arith)
-        (scaled-symbols u part first hu (block-symbols at (getD m r []) part (s .symbols r) is-part) is-first) put-two;
+        (scaled-symbols sixteen sixteen-field u part first hu (block-symbols sixteen at (getD m r []) part (s .symbols r) is-part) is-first) put-two;
     columns = exchanged-block sixteen at (at + block) m r j u one two hr hj
         (record {
           inside = λ k l h. put-one .patched .inside k l h ∙ is-other (k - at) (omega arith) ∙ ap (entryOf m j) (place at k l);
@@ -100,13 +100,13 @@ module _ (at j : ℕ) (places c : List ℕ) where
   -- one more is done
   pub rows-done : (n total : ℕ) (o m : List (List ℕ)) (t x : ℕ) (first part sum row : List ℕ) (times : List (List ℕ)) → n < total → System o
       → TargetRows (length o) j total places → DoneIn at (at + block) j n places c o m → t ≡ getD places n 0 → x ≡ getD c n 0 → x < sixteen .symbols
-      → BlockOf at (getD o j []) first → MultiplesBlock (sixteen .symbols) first times → BlockOf at (getD m t []) part
-      → SummedBlock part (getD times x []) sum → PutBlock at sum (getD m t []) row → DoneIn at (at + block) j (n + 1) places c o (set m t row)
+      → BlockOf at (getD o j []) first → MultiplesBlock sixteen (sixteen .symbols) first times → BlockOf at (getD m t []) part
+      → SummedBlock sixteen part (getD times x []) sum → PutBlock at sum (getD m t []) row → DoneIn at (at + block) j (n + 1) places c o (set m t row)
   rows-done n total o m t x first part sum row times h so targets d et ex hx is-first is-times is-part is-sum put = record {
     size = length-set m t row ∙ d .size;
     system = put-system m t at sum row (d .system) room
-        (summed-symbols part (getD times x []) sum (block-symbols at (getD m t []) part (d .system .symbols t) is-part)
-        (scaled-symbols x first (getD times x []) hx (block-symbols at (getD o j []) first (so .symbols j) is-first) (is-times x hx)) is-sum)
+        (summed-symbols sixteen sixteen-field part (getD times x []) sum (block-symbols sixteen at (getD m t []) part (d .system .symbols t) is-part)
+        (scaled-symbols sixteen sixteen-field x first (getD times x []) hx (block-symbols sixteen at (getD o j []) first (so .symbols j) is-first) (is-times x hx)) is-sum)
         put;
     done = done-row sixteen at (at + block) j (λ (i : ℕ). getD places i 0) (λ (i : ℕ). getD c i 0) (length o) n total o m t row targets h (d .done) et room
         (record {

@@ -1,5 +1,5 @@
 -- Where the highest bit does not leave, twice is the double; where it does, the modulus is added.
-use Rattle.blocks.proofs.Blocks.{twice-low, twice-high}
+use Rattle.blocks.proofs.Doubling.{twice-low, twice-high}
 use borrow.Author.Needs.{needs}
 use Rattle.blocks.proofs.twice.Statement.{statement}
 use Rattle.blocks.proofs.twice.Tie as tie

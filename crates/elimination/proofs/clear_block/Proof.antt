@@ -23,7 +23,7 @@ multiples-requires : tie.Need-multiples-requires Inv-loop μ-loop
 multiples-requires c κs =
     let k = c .before in
     let s = k .before .before in
-    block-symbols (s .args .at) (getD (s .args .system .now) (s .args .j) []) (k .block .result) (s .pre .0 .symbols (s .args .j)) (k .block .ensures)
+    block-symbols sixteen (s .args .at) (getD (s .args .system .now) (s .args .j) []) (k .block .result) (s .pre .0 .symbols (s .args .j)) (k .block .ensures)
 
 loop-holds : tie.Need-loop-holds Inv-loop μ-loop
 loop-holds c =

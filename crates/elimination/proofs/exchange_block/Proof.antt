@@ -3,6 +3,7 @@ use mathlib.Core.List.{[]}
 use Prim.Native.Nat.{_<_}
 use native.Mathlib.Omega.{arith}
 use lib.ListN.{length, getD, set, length-set}
+use Rattle.definitions.specs.Field.{sixteen}
 use Rattle.elimination.proofs.Blocks.{exchanged-once, exchanged-in}
 use Rattle.elimination.specs.System.{System}
 use Rattle.blocks.proofs.Blocks.{block-symbols}
@@ -17,7 +18,7 @@ scaled-requires : tie.Need-scaled-requires
 scaled-requires c κs =
     let k = c .before .before .before in
     let s = k .before .before in
-    (s .pre .1 .0, (omega arith, block-symbols (s .args .at) (getD (s .args .system .now) (s .args .r) []) (k .block .result) (s .pre .0 .symbols (s .args .r)) (k .block .ensures)))
+    (s .pre .1 .0, (omega arith, block-symbols sixteen (s .args .at) (getD (s .args .system .now) (s .args .r) []) (k .block .result) (s .pre .0 .symbols (s .args .r)) (k .block .ensures)))
 
 put-requires : tie.Need-put-requires
 put-requires c κs =
