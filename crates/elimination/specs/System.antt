@@ -7,16 +7,16 @@ use Prim.Native.Nat.{ℕ, _*_, _≤_, _<_}
 use lib.Dec.{eqb}
 use lib.ListN.{length, getD}
 use Rattle.algebra.specs.Grid.{entryOf}
-use Rattle.definitions.specs.Field.{sixteen, numbers}
+use Rattle.definitions.specs.Field.{Code, numbers}
 use Rattle.definitions.specs.Limits.{greatestLimit}
 use Rattle.linear.specs.Columns.{Between, Exchanged, Lowered, Targets, Listed, Done}
 use Rattle.linear.specs.Rows.{SymbolRows, SameSolutions, Triangle}
 use Rattle.blocks.specs.Row.{width, block}
 
 -- rows of symbols, each of its width
-pub record System (m : List (List ℕ)) : Type 0 where
+pub record System (C : Code) (m : List (List ℕ)) : Type 0 where
   pub wide : (t : ℕ) → t < length m → length (getD m t []) ≡ width
-  pub symbols : SymbolRows sixteen m
+  pub symbols : SymbolRows C m
 
 -- the rows that count are there, and are fewer than the columns of the blocks, which lie within a row
 pub record Within (rows blocks : ℕ) (m : List (List ℕ)) : Type 0 where
@@ -26,10 +26,10 @@ pub record Within (rows blocks : ℕ) (m : List (List ℕ)) : Type 0 where
   pub inside : blocks * block ≤ width
 
 -- rows r and j change places in some columns, and the one that comes to j is scaled by u
-pub record ExchangedIn (from to r j u : ℕ) (m b : List (List ℕ)) : Type 0 where
+pub record ExchangedIn (C : Code) (from to r j u : ℕ) (m b : List (List ℕ)) : Type 0 where
   pub size : length b ≡ length m
-  pub system : System b
-  pub columns : Between (Exchanged (numbers sixteen) r j u) from to (entryOf m) (entryOf b)
+  pub system : System C b
+  pub columns : Between (Exchanged (numbers C) r j u) from to (entryOf m) (entryOf b)
 
 -- 0 of zero, else 1
 abbrev pub oneOf : ℕ → ℕ
@@ -48,28 +48,28 @@ abbrev pub TargetRows : ℕ → ℕ → ℕ → List ℕ → Type 0
 TargetRows R j n places = Targets R j n (λ (i : ℕ). getD places i 0)
 
 -- the first n factors are symbols
-abbrev pub Factors : ℕ → List ℕ → Type 0
-Factors n c = (i : ℕ) → i < n → getD c i 0 < sixteen .symbols
+abbrev pub Factors : Code → ℕ → List ℕ → Type 0
+Factors C n c = (i : ℕ) → i < n → getD c i 0 < C .symbols
 
 -- the first n places have lost their factors times row j in some columns
-pub record DoneIn (from to j n : ℕ) (places c : List ℕ) (m b : List (List ℕ)) : Type 0 where
+pub record DoneIn (C : Code) (from to j n : ℕ) (places c : List ℕ) (m b : List (List ℕ)) : Type 0 where
   pub size : length b ≡ length m
-  pub system : System b
-  pub done : Done sixteen from to j n (λ (i : ℕ). getD places i 0) (λ (i : ℕ). getD c i 0) (entryOf m) (entryOf b)
+  pub system : System C b
+  pub done : Done C from to j n (λ (i : ℕ). getD places i 0) (λ (i : ℕ). getD c i 0) (entryOf m) (entryOf b)
 
 -- the rows behind j have lost x t times row j in some columns
-pub record LoweredIn (from to R j : ℕ) (x : ℕ → ℕ) (m b : List (List ℕ)) : Type 0 where
+pub record LoweredIn (C : Code) (from to R j : ℕ) (x : ℕ → ℕ) (m b : List (List ℕ)) : Type 0 where
   pub size : length b ≡ length m
-  pub system : System b
-  pub columns : Between (Lowered (numbers sixteen) R j x) from to (entryOf m) (entryOf b)
+  pub system : System C b
+  pub columns : Between (Lowered (numbers C) R j x) from to (entryOf m) (entryOf b)
 
 -- the columns before j are a triangle, and the solutions are those of o
-pub record Eliminated (rows w j : ℕ) (o m : List (List ℕ)) : Type 0 where
+pub record Eliminated (C : Code) (rows w j : ℕ) (o m : List (List ℕ)) : Type 0 where
   pub size : length m ≡ length o
-  pub system : System m
-  pub same : SameSolutions sixteen rows w o m
+  pub system : System C m
+  pub same : SameSolutions C rows w o m
   pub triangle : Triangle rows j m
 
 -- the entries behind s and before j are symbols
-abbrev pub SymbolsBetween : ℕ → ℕ → List ℕ → Type 0
-SymbolsBetween s j q = (k : ℕ) → s < k → k < j → getD q k 0 < sixteen .symbols
+abbrev pub SymbolsBetween : Code → ℕ → ℕ → List ℕ → Type 0
+SymbolsBetween C s j q = (k : ℕ) → s < k → k < j → getD q k 0 < C .symbols

@@ -25,10 +25,10 @@ fn exchange_block(
     j: usize,
     u: u8,
 )
-    requires { ⌜ System (now system) ⌝ }
+    requires { ⌜ System sixteen (now system) ⌝ }
     requires { ⌜ Products (now table) ⌝ }
     requires { ⌜ InRow at × (r < length (now system)) × (j < length (now system)) × (u < sixteen .symbols) ⌝ }
-    ensures { λ _. ⌜ ExchangedIn at (at + block) r j u (now (system .entry)) (now (system .exit)) ⌝ }
+    ensures { λ _. ⌜ ExchangedIn sixteen at (at + block) r j u (now (system .entry)) (now (system .exit)) ⌝ }
 {
     let part = blocks::block(&system[r], at);
     let other = blocks::block(&system[j], at);
@@ -39,11 +39,11 @@ fn exchange_block(
 
 // The same in each block from that of column j on.
 fn exchange(system: &mut [[u8; WIDTH]], table: &[u8; 256], r: usize, j: usize, u: u8, blocks: usize)
-    requires { ⌜ System (now system) ⌝ }
+    requires { ⌜ System sixteen (now system) ⌝ }
     requires { ⌜ Products (now table) ⌝ }
     requires { ⌜ (r < length (now system)) × (j < length (now system)) × (u < sixteen .symbols) ⌝ }
     requires { ⌜ (j < blocks * block) × (blocks * block ≤ width) ⌝ }
-    ensures { λ _. ⌜ ExchangedIn (j / block * block) (blocks * block) r j u (now (system .entry)) (now (system .exit)) ⌝ }
+    ensures { λ _. ⌜ ExchangedIn sixteen (j / block * block) (blocks * block) r j u (now (system .entry)) (now (system .exit)) ⌝ }
 {
     let mut p = j / BLOCK;
     while p < blocks {
@@ -101,10 +101,10 @@ fn clear_block(
     c: &[u8; GREATEST_LIMIT],
     n: usize,
 )
-    requires { ⌜ System (now system) ⌝ }
+    requires { ⌜ System sixteen (now system) ⌝ }
     requires { ⌜ InRow at × (j < length (now system)) × (n ≤ greatestLimit) ⌝ }
-    requires { ⌜ TargetRows (length (now system)) j n (now places) × Factors n (now c) ⌝ }
-    ensures { λ _. ⌜ DoneIn at (at + block) j n (now (places .entry)) (now (c .entry)) (now (system .entry)) (now (system .exit)) ⌝ }
+    requires { ⌜ TargetRows (length (now system)) j n (now places) × Factors sixteen n (now c) ⌝ }
+    ensures { λ _. ⌜ DoneIn sixteen at (at + block) j n (now (places .entry)) (now (c .entry)) (now (system .entry)) (now (system .exit)) ⌝ }
 {
     let first = blocks::block(&system[j], at);
     let times = blocks::multiples(&first);
@@ -121,10 +121,10 @@ fn clear_block(
 
 // Clears column j in the rows below row j, in each block from that of column j on.
 fn clear(system: &mut [[u8; WIDTH]], j: usize, rows: usize, blocks: usize)
-    requires { ⌜ System (now system) ⌝ }
+    requires { ⌜ System sixteen (now system) ⌝ }
     requires { ⌜ Within rows blocks (now system) ⌝ }
     requires { ⌜ j < rows ⌝ }
-    ensures { λ _. ⌜ LoweredIn (j / block * block) (blocks * block) rows j (columnOf (now (system .entry)) j) (now (system .entry)) (now (system .exit)) ⌝ }
+    ensures { λ _. ⌜ LoweredIn sixteen (j / block * block) (blocks * block) rows j (columnOf (now (system .entry)) j) (now (system .entry)) (now (system .exit)) ⌝ }
 {
     let mut places = [0u8; GREATEST_LIMIT];
     let mut c = [0u8; GREATEST_LIMIT];
@@ -145,13 +145,13 @@ fn pivot(
     rows: usize,
     blocks: usize,
 )
-    requires { ⌜ System (now system) ⌝ }
+    requires { ⌜ System sixteen (now system) ⌝ }
     requires { ⌜ Products (now table) ⌝ }
     requires { ⌜ Within rows blocks (now system) ⌝ }
     requires { ⌜ (j ≤ r) × (r < rows) ⌝ }
     requires { ⌜ Triangle rows j (now system) ⌝ }
     requires { ⌜ entryOf (now system) r j ≢ 0 ⌝ }
-    ensures { λ _. ⌜ Eliminated rows (blocks * block) (j + 1) (now (system .entry)) (now (system .exit)) ⌝ }
+    ensures { λ _. ⌜ Eliminated sixteen rows (blocks * block) (j + 1) (now (system .entry)) (now (system .exit)) ⌝ }
 {
     let Element::Of(u) = field::inverse(system[r][j]) else {
         return;
@@ -167,11 +167,11 @@ pub fn first_dependent(
     rows: usize,
     blocks: usize,
 ) -> usize
-    requires { ⌜ System (now system) ⌝ }
+    requires { ⌜ System sixteen (now system) ⌝ }
     requires { ⌜ Products (now table) ⌝ }
     requires { ⌜ Within rows blocks (now system) ⌝ }
     ensures { λ j. ⌜ j ≤ rows ⌝ }
-    ensures { λ j. ⌜ Eliminated rows (blocks * block) j (now (system .entry)) (now (system .exit)) ⌝ }
+    ensures { λ j. ⌜ Eliminated sixteen rows (blocks * block) j (now (system .entry)) (now (system .exit)) ⌝ }
     ensures { λ j. ⌜ Reduced rows j (now (system .exit)) ⌝ }
 {
     let mut j = 0;
@@ -197,7 +197,7 @@ fn back(table: &[u8; 256], row: &[u8; WIDTH], s: usize, j: usize, out: &[u8]) ->
     requires { ⌜ Products (now table) ⌝ }
     requires { ⌜ (s < j) × (j < width) × (j ≤ length (now out)) ⌝ }
     requires { ⌜ Symbols sixteen (now row) ⌝ }
-    requires { ⌜ SymbolsBetween s j (now out) ⌝ }
+    requires { ⌜ SymbolsBetween sixteen s j (now out) ⌝ }
     ensures { λ r. ⌜ r ≡ behind (numbers sixteen) (getD (now (row .entry)) j 0) s j (λ (k : ℕ). getD (now (row .entry)) k 0) (λ (k : ℕ). getD (now (out .entry)) k 0) ⌝ }
 {
     let mut y = row[j];

@@ -90,13 +90,13 @@ module _ (a : List (List ℕ)) (v D w cost : ℕ) (out : List ℕ) (g : Given a 
       let e = g .counted in let p = g .priced in omega arith
 
   -- the rows of the system that holds them
-  module _ (o start : List (List ℕ)) (so : System o) (room : cost ≤ length o) (is-start : start ≡ sets o 0 (maskedRows v D w a)) where
+  module _ (o start : List (List ℕ)) (so : System sixteen o) (room : cost ≤ length o) (is-start : start ≡ sets o 0 (maskedRows v D w a)) where
     -- the conditions are a system
-    pub start-system : System start
+    pub start-system : System sixteen start
     start-system =
         let there : length (maskedRows v D (count v D) a) ≤ length o = (let e = rows-priced in let p = ap (λ (n : ℕ). length (maskedRows v D n a)) (g .counted) in omega arith) in
         let fits : count v D ≤ width = (let f = row-fits in let c = g .counted in omega arith) in
-        subst System (sym (is-start ∙ ap (λ (n : ℕ). sets o 0 (maskedRows v D n a)) (g .counted))) (record {
+        subst (System sixteen) (sym (is-start ∙ ap (λ (n : ℕ). sets o 0 (maskedRows v D n a)) (g .counted))) (record {
           wide = λ t h. conditions-wide v D (g .weighted) fits a o there t (so .wide t (let e = length-sets o 0 (maskedRows v D (count v D) a) in omega arith));
           symbols = λ r. conditions-symbols v D (g .weighted) fits a o there r (so .symbols r);
         })
@@ -110,9 +110,9 @@ module _ (a : List (List ℕ)) (v D w cost : ℕ) (out : List ℕ) (g : Given a 
 
 -- ---- the coefficients
 
-module _ (a : List (List ℕ)) (v D cost : ℕ) (out : List ℕ) (g : Given a v D (count v D) cost out) (o start b : List (List ℕ)) (so : System o) (room : cost ≤ length o)
+module _ (a : List (List ℕ)) (v D cost : ℕ) (out : List ℕ) (g : Given a v D (count v D) cost out) (o start b : List (List ℕ)) (so : System sixteen o) (room : cost ≤ length o)
     (is-start : start ≡ sets o 0 (maskedRows v D (count v D) a)) (rows j : ℕ) (is-rows : rows ≡ length (maskedRows v D (count v D) a)) (low : j ≤ rows)
-    (e : Eliminated rows ((cost / block + 1) * block) j start b) (reduced : Reduced rows j b) (led after : List ℕ) (l : Led j (count v D) out led)
+    (e : Eliminated sixteen rows ((cost / block + 1) * block) j start b) (reduced : Reduced rows j b) (led after : List ℕ) (l : Led j (count v D) out led)
     (s : Solved sixteen j 0 b led after) where
   -- those that are written
   q : List ℕ
@@ -152,7 +152,7 @@ module _ (a : List (List ℕ)) (v D cost : ℕ) (out : List ℕ) (g : Given a v 
   leads-at = leading-is q j nonzero-at ends
 
   -- the rows that were reduced
-  begun : System start
+  begun : System sixteen start
   begun = start-system a v D (count v D) cost out g o start so room is-start
 
   -- and the columns that were
@@ -220,8 +220,9 @@ module _ (a : List (List ℕ)) (v D cost : ℕ) (out : List ℕ) (g : Given a v 
   }
 
 -- the function's answer
-pub polynomial-found : (a : List (List ℕ)) (v D w cost : ℕ) (out : List ℕ) → Given a v D w cost out → (o start b : List (List ℕ)) → System o → cost ≤ length o
-    → start ≡ sets o 0 (maskedRows v D w a) → (rows j : ℕ) → rows ≡ length (maskedRows v D w a) → j ≤ rows → Eliminated rows ((cost / block + 1) * block) j start b → Reduced rows j b
+pub polynomial-found : (a : List (List ℕ)) (v D w cost : ℕ) (out : List ℕ) → Given a v D w cost out → (o start b : List (List ℕ)) → System sixteen o → cost ≤ length o
+    → start ≡ sets o 0 (maskedRows v D w a) → (rows j : ℕ) → rows ≡ length (maskedRows v D w a) → j ≤ rows
+    → Eliminated sixteen rows ((cost / block + 1) * block) j start b → Reduced rows j b
     → (led after : List ℕ) → Led j w out led → Solved sixteen j 0 b led after → Found a v D out j after
 polynomial-found a v D w cost out g o start b so room is-start rows j is-rows low e reduced led after =
     subst

@@ -21,7 +21,7 @@ zero-rows n c r k =
     ]
 
 -- a system of zeros
-pub empty-system : (n : ℕ) → System (replicate n (replicate width 0))
+pub empty-system : (n : ℕ) → System sixteen (replicate n (replicate width 0))
 empty-system n = record {
   wide = λ t h. ap length (getD-replicate n t (replicate width 0) [] (let e = length-replicate n (replicate {A = ℕ} width 0) in omega arith)) ∙ length-replicate {A = ℕ} width 0;
   symbols = zero-rows n width;

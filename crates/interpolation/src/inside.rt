@@ -40,7 +40,7 @@ fn polynomial_in(
     out: &mut [u8],
 ) -> usize
     requires { ⌜ Given (now matrix) v d count cost (now out) ⌝ }
-    requires { ⌜ System (now system) × (cost ≤ length (now system)) ⌝ }
+    requires { ⌜ System sixteen (now system) × (cost ≤ length (now system)) ⌝ }
     ensures { λ r. ⌜ Found (now (matrix .entry)) v d (now (out .entry)) r (now (out .exit)) ⌝ }
 {
     let table = field::inside::products();

@@ -19,7 +19,7 @@ abbrev μ-loop : tie.MeasureT-loop
 loop-holds : tie.Need-loop-holds Inv-loop μ-loop
 loop-holds c =
     let a = c .before .before .args in
-    (omega arith, omega arith, back-none (getD (a .row .now) (a .j) 0) (a .s) (λ k. getD (a .row .now) k 0) (λ k. getD (a .out .now) k 0))
+    (omega arith, omega arith, back-none sixteen (getD (a .row .now) (a .j) 0) (a .s) (λ k. getD (a .row .now) k 0) (λ k. getD (a .out .now) k 0))
 
 look-requires : tie.Need-look-requires Inv-loop μ-loop
 look-requires c κs =
@@ -34,8 +34,8 @@ loop-again c =
     let a = l .before .before .before .args in (
       omega arith,
       omega arith,
-      back-more (getD (a .row .now) (a .j) 0) (a .s) (l .loop .i) (l .loop .y) (c .look .result) (λ k. getD (a .row .now) k 0) (λ k. getD (a .out .now) k 0) (l .loop .inv .0)
-          (l .loop .inv .2) (c .look .ensures),
+      back-more sixteen (getD (a .row .now) (a .j) 0) (a .s) (l .loop .i) (l .loop .y) (c .look .result) (λ k. getD (a .row .now) k 0) (λ k. getD (a .out .now) k 0)
+          (l .loop .inv .0) (l .loop .inv .2) (c .look .ensures),
     )
 
 returns : tie.Need-returns Inv-loop μ-loop

@@ -3,9 +3,11 @@ use mathlib.Core.Path.{_≡_, refl, subst}
 use Prim.Native.Nat.{ℕ, _+_, _*_, _/_, _-_, _≤_}
 use native.Mathlib.Omega.{arith}
 use lib.ListN.{length}
+use Rattle.definitions.specs.Field.{sixteen}
 use Rattle.definitions.specs.Limits.{greatestLimit}
 use Rattle.elimination.proofs.Blocks.{lower-none, lower-more, listed-rows}
 use Rattle.elimination.specs.System.{LoweredIn, columnOf}
+use Rattle.instances.proofs.Codes.{sixteen-field}
 use Rattle.blocks.specs.Row.{block, InRow}
 use borrow.Author.Needs.{needs}
 use Rattle.elimination.proofs.clear.Statement.{statement}
@@ -13,7 +15,7 @@ use Rattle.elimination.proofs.clear.Tie as tie
 
 abbrev Inv-loop : tie.InvT-loop
 Inv-loop system₀ j rows blocks places c n next₀ system next =
-    (j / block ≤ next) × (next ≤ blocks) × LoweredIn (j / block * block) (next * block) rows j (columnOf system₀ j) system₀ system
+    (j / block ≤ next) × (next ≤ blocks) × LoweredIn sixteen (j / block * block) (next * block) rows j (columnOf system₀ j) system₀ system
 
 abbrev μ-loop : tie.MeasureT-loop
 μ-loop system₀ j rows blocks places c n next₀ system next = blocks - next
@@ -30,7 +32,7 @@ loop-holds c =
     let a = s .args in
     let w = s .pre .1 .0 in
     let h : a .j / block ≤ a .blocks = omega arith in
-    (omega arith, h, lower-none (a .j / block * block) (a .rows) (a .j) (columnOf (a .system .now) (a .j)) (a .system .now) (s .pre .0))
+    (omega arith, h, lower-none sixteen (a .j / block * block) (a .rows) (a .j) (columnOf (a .system .now) (a .j)) (a .system .now) (s .pre .0))
 
 clear-block-requires : tie.Need-clear-block-requires Inv-loop μ-loop
 clear-block-requires c κs =
@@ -48,8 +50,8 @@ clear-block-requires c κs =
       d .system,
       (
         (inside, omega arith, few),
-        listed-rows (a .rows) (length (l .loop .system)) (a .j) (f .factors .result) (a .system .now) (f .factors .last .1 .1 .1 .0) (f .factors .last .1 .1 .1 .1 .0) room (s .pre .0)
-            (f .factors .ensures .1),
+        listed-rows sixteen (a .rows) (length (l .loop .system)) (a .j) (f .factors .result) (a .system .now) (f .factors .last .1 .1 .1 .0)
+            (f .factors .last .1 .1 .1 .1 .0) room (s .pre .0) (f .factors .ensures .1),
       ),
     )
 
@@ -63,8 +65,8 @@ loop-again c =
     let g : l .loop .next + 1 ≤ a .blocks = omega arith in (
       h,
       g,
-      lower-more (l .loop .next) (a .j / block) (a .rows) (a .j) (f .factors .result) (columnOf (a .system .now) (a .j)) (f .factors .last .1 .1 .1 .0) (f .factors .last .1 .1 .1 .1 .0)
-          (a .system .now) (l .loop .system) (x .last .0) (l .loop .inv .0) (f .factors .ensures .1) (l .loop .inv .2) (x .ensures),
+      lower-more sixteen sixteen-field (l .loop .next) (a .j / block) (a .rows) (a .j) (f .factors .result) (columnOf (a .system .now) (a .j)) (f .factors .last .1 .1 .1 .0)
+          (f .factors .last .1 .1 .1 .1 .0) (a .system .now) (l .loop .system) (x .last .0) (l .loop .inv .0) (f .factors .ensures .1) (l .loop .inv .2) (x .ensures),
     )
 
 same-length : tie.Need-same-length Inv-loop μ-loop
@@ -75,7 +77,7 @@ returns c =
     let l = c .before in
     let a = l .before .before .before .before .before .args in
     let e : l .loop .next ≡ a .blocks = omega arith in
-    subst (λ (n : ℕ). LoweredIn (a .j / block * block) (n * block) (a .rows) (a .j) (columnOf (a .system .now) (a .j)) (a .system .now) (l .loop .system)) e (l .loop .inv .2)
+    subst (λ (n : ℕ). LoweredIn sixteen (a .j / block * block) (n * block) (a .rows) (a .j) (columnOf (a .system .now) (a .j)) (a .system .now) (l .loop .system)) e (l .loop .inv .2)
 
 pub clear-spec : {M : Type 1} → statement M
 clear-spec =

@@ -7,6 +7,7 @@ use lib.ListN.{length, getD}
 use Rattle.definitions.specs.Field.{sixteen}
 use Rattle.elimination.proofs.Blocks.{rows-undone, rows-done}
 use Rattle.elimination.specs.System.{DoneIn}
+use Rattle.instances.proofs.Codes.{sixteen-field}
 use Rattle.blocks.proofs.Blocks.{block-symbols}
 use Rattle.blocks.specs.Row.{block}
 use borrow.Author.Needs.{needs}
@@ -14,7 +15,7 @@ use Rattle.elimination.proofs.clear_block.Statement.{statement}
 use Rattle.elimination.proofs.clear_block.Tie as tie
 
 abbrev Inv-loop : tie.InvT-loop
-Inv-loop system₀ at j places c n times i₀ system i = (i ≤ n) × DoneIn at (at + block) j i places c system₀ system
+Inv-loop system₀ at j places c n times i₀ system i = (i ≤ n) × DoneIn sixteen at (at + block) j i places c system₀ system
 
 abbrev μ-loop : tie.MeasureT-loop
 μ-loop system₀ at j places c n times i₀ system i = n - i
@@ -29,7 +30,7 @@ loop-holds : tie.Need-loop-holds Inv-loop μ-loop
 loop-holds c =
     let s = c .before .before .before .before in
     let a = s .args in
-    (omega arith, rows-undone (a .at) (a .j) (a .places .now) (a .c .now) (a .system .now) (s .pre .0))
+    (omega arith, rows-undone sixteen (a .at) (a .j) (a .places .now) (a .c .now) (a .system .now) (s .pre .0))
 
 abbrev entry : tie.In-loop Inv-loop μ-loop → tie.Start Inv-loop μ-loop
 entry c = c .before .before .before .before .before .before
@@ -84,9 +85,9 @@ loop-again c =
     let a = s .args in
     let low = n .loop-test .taken in (
       omega arith,
-      rows-done (a .at) (a .j) (a .places .now) (a .c .now) (l .loop .i) (a .n) (a .system .now) (l .loop .system) (w .wide .result) (x .wide2 .result) (f .block .result) (k .block2 .result)
-          (m .summed .result) (c .put .last .0) (t .multiples .result) low (s .pre .0) (s .pre .1 .1 .0) (l .loop .inv .1) (w .wide .ensures .0) (x .wide2 .ensures .0) (factor x)
-          (f .block .ensures) (t .multiples .ensures) (k .block2 .ensures) (m .summed .ensures) (c .put .ensures),
+      rows-done sixteen sixteen-field (a .at) (a .j) (a .places .now) (a .c .now) (l .loop .i) (a .n) (a .system .now) (l .loop .system) (w .wide .result) (x .wide2 .result)
+          (f .block .result) (k .block2 .result) (m .summed .result) (c .put .last .0) (t .multiples .result) low (s .pre .0) (s .pre .1 .1 .0) (l .loop .inv .1)
+          (w .wide .ensures .0) (x .wide2 .ensures .0) (factor x) (f .block .ensures) (t .multiples .ensures) (k .block2 .ensures) (m .summed .ensures) (c .put .ensures),
     )
 
 same-length : tie.Need-same-length Inv-loop μ-loop
@@ -97,7 +98,7 @@ returns c =
     let l = c .before in
     let a = l .before .before .before .before .before .args in
     let e : l .loop .i ≡ a .n = omega arith in
-    subst (λ (n : ℕ). DoneIn (a .at) (a .at + block) (a .j) n (a .places .now) (a .c .now) (a .system .now) (l .loop .system)) e (l .loop .inv .1)
+    subst (λ (n : ℕ). DoneIn sixteen (a .at) (a .at + block) (a .j) n (a .places .now) (a .c .now) (a .system .now) (l .loop .system)) e (l .loop .inv .1)
 
 pub clear-block-spec : {M : Type 1} → statement M
 clear-block-spec =

@@ -6,6 +6,7 @@ use lib.ListN.{length, getD, set, length-set}
 use Rattle.definitions.specs.Field.{sixteen}
 use Rattle.elimination.proofs.Blocks.{exchanged-once, exchanged-in}
 use Rattle.elimination.specs.System.{System}
+use Rattle.instances.proofs.Codes.{sixteen-field}
 use Rattle.blocks.proofs.Blocks.{block-symbols}
 use borrow.Author.Needs.{needs}
 use Rattle.elimination.proofs.exchange_block.Statement.{statement}
@@ -26,15 +27,13 @@ put-requires c κs =
     (s .pre .1 .1 .0, s .pre .0 .wide (s .args .r) (s .pre .1 .1 .1))
 
 -- with row r changed the rows are a system still
-once : (c : tie.After-put) → (let a = entry (c .before .before .before) .args in System (set (a .system .now) (a .r) (c .put .last .0)))
+once : (c : tie.After-put) → (let a = entry (c .before .before .before) .args in System sixteen (set (a .system .now) (a .r) (c .put .last .0)))
 once c =
     let x = c .before .before .before in
     let k = x .before .before in
-    let f = k .before .before in
     let s = entry x in
     let a = s .args in
-    exchanged-once (a .at) (a .r) (a .j) (a .u) (a .system .now) (f .block .result) (k .block2 .result) (x .scaled .result) (c .put .last .0) [] (s .pre .0) (s .pre .1 .1 .1) (s .pre .1 .1 .2)
-    (s .pre .1 .1 .3) (f .block .ensures) (k .block2 .ensures) (x .scaled .ensures) (c .put .ensures)
+    exchanged-once sixteen (a .at) (a .r) (a .j) (a .system .now) (k .block2 .result) (c .put .last .0) (s .pre .0) (s .pre .1 .1 .1) (k .block2 .ensures) (c .put .ensures)
 
 put-requires-2 : tie.Need-put-requires-2
 put-requires-2 c κs =
@@ -52,8 +51,8 @@ returns c =
     let f = k .before .before in
     let s = entry x in
     let a = s .args in
-    exchanged-in (a .at) (a .r) (a .j) (a .u) (a .system .now) (f .block .result) (k .block2 .result) (x .scaled .result) (p .put .last .0) (c .put2 .last .0) (s .pre .0) (s .pre .1 .1 .1) (s .pre .1 .1 .2)
-    (s .pre .1 .1 .3) (f .block .ensures) (k .block2 .ensures) (x .scaled .ensures) (p .put .ensures) (c .put2 .ensures)
+    exchanged-in sixteen sixteen-field (a .at) (a .r) (a .j) (a .u) (a .system .now) (f .block .result) (k .block2 .result) (x .scaled .result) (p .put .last .0)
+    (c .put2 .last .0) (s .pre .0) (s .pre .1 .1 .1) (s .pre .1 .1 .2) (s .pre .1 .1 .3) (f .block .ensures) (k .block2 .ensures) (x .scaled .ensures) (p .put .ensures) (c .put2 .ensures)
 
 pub exchange-block-spec : {M : Type 1} → statement M
 exchange-block-spec =

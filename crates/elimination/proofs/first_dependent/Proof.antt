@@ -2,6 +2,7 @@
 use mathlib.Core.Path.{_≡_}
 use Prim.Native.Nat.{_+_, _*_, _-_, _≤_, _<_}
 use native.Mathlib.Omega.{arith}
+use Rattle.definitions.specs.Field.{sixteen}
 use Rattle.elimination.proofs.Steps.{ZeroFrom, none-zero, zero-more, eliminated-none, eliminated-more}
 use Rattle.elimination.specs.System.{Eliminated, Within}
 use Rattle.blocks.specs.Row.{block}
@@ -16,7 +17,7 @@ abbrev μ-down : tie.MeasureT-down
 μ-down system table rows blocks j r₀ r = rows - r
 
 abbrev Inv-search : tie.InvT-search
-Inv-search system₀ table rows blocks j₀ system j = (j ≤ rows) × Eliminated rows (blocks * block) j system₀ system
+Inv-search system₀ table rows blocks j₀ system j = (j ≤ rows) × Eliminated sixteen rows (blocks * block) j system₀ system
 
 abbrev μ-search : tie.MeasureT-search
 μ-search system₀ table rows blocks j₀ system j = rows - j
@@ -24,7 +25,7 @@ abbrev μ-search : tie.MeasureT-search
 search-holds : tie.Need-search-holds Inv-down μ-down Inv-search μ-search
 search-holds c =
     let a = c .args in
-    (omega arith, eliminated-none (a .rows) (a .blocks * block) (a .system .now) (c .pre .0))
+    (omega arith, eliminated-none sixteen (a .rows) (a .blocks * block) (a .system .now) (c .pre .0))
 
 down-holds : tie.Need-down-holds Inv-down μ-down Inv-search μ-search
 down-holds c =
@@ -59,7 +60,7 @@ search-again c =
     let l = d .before .search in
     let a = d .before .before .args in
     let h : l .j + 1 ≤ a .rows = omega arith in
-    (h, eliminated-more (a .rows) (a .blocks * block) (l .j) (l .j + 1) (a .system .now) (l .system) (p .pivot .last .0) (l .inv .1) (p .pivot .ensures))
+    (h, eliminated-more sixteen (a .rows) (a .blocks * block) (l .j) (l .j + 1) (a .system .now) (l .system) (p .pivot .last .0) (l .inv .1) (p .pivot .ensures))
 
 same-length : tie.Need-same-length Inv-down μ-down Inv-search μ-search
 same-length c = c .before .before .search .inv .1 .size

@@ -5,8 +5,10 @@ use native.Mathlib.Omega.{arith}
 use lib.ListN.{length}
 use Rattle.algebra.specs.Grid.{entryOf}
 use Rattle.definitions.specs.Field.{sixteen}
+use Rattle.elimination.proofs.Answered.{answered, not-refused}
 use Rattle.elimination.proofs.Blocks.{block-step}
-use Rattle.elimination.proofs.Steps.{inverse-law, not-refused}
+use Rattle.elimination.proofs.Steps.{inverse-law}
+use Rattle.instances.proofs.Codes.{sixteen-field}
 use Rattle.field.specs.Element.{toldElement}
 use Rattle.blocks.specs.Row.{block}
 use borrow.Author.Needs.{needs}
@@ -22,7 +24,7 @@ returns c =
     let s = entry i in
     let a = s .args in
     absurd
-    (not-refused (entryOf (a .system .now) (a .r) (a .j)) (c .enum-told .given .0 .0) (s .pre .0 .symbols (a .r) (a .j)) (s .pre .1 .1 .1 .1 .1)
+    (not-refused (entryOf (a .system .now) (a .r) (a .j)) (s .pre .0 .symbols (a .r) (a .j)) (s .pre .1 .1 .1 .1 .1) (c .enum-told .given .0 .0)
     (sym (ap toldElement (c .enum-told .given .1)) ∙ i .inverse .ensures))
 
 -- u is a symbol, and u times the entry is 1
@@ -33,7 +35,10 @@ inverts c =
     let s = entry i in
     let a = s .args in
     let u = c .u .given in
-    inverse-law (entryOf (a .system .now) (a .r) (a .j)) (u .0 .0) (s .pre .0 .symbols (a .r) (a .j)) (s .pre .1 .1 .1 .1 .1) (sym (ap toldElement (u .1)) ∙ i .inverse .ensures)
+    let x = entryOf (a .system .now) (a .r) (a .j) in
+    let h = s .pre .0 .symbols (a .r) (a .j) in
+    let n = s .pre .1 .1 .1 .1 .1 in
+    inverse-law sixteen sixteen-field x (u .0 .0) h n (answered x h n (u .0 .0) (sym (ap toldElement (u .1)) ∙ i .inverse .ensures))
 
 exchange-requires : tie.Need-exchange-requires
 exchange-requires c κs =
@@ -55,8 +60,8 @@ returns-2 c =
     let p = s .pre .1 .1 in
     let i = inverts u in
     let room : a .j < a .blocks * block = let w = p .0 .fewer in let l = p .1 .0 in omega arith in
-    block-step (a .rows) (a .blocks) (u .u .given .0 .0) (a .r) (a .j) (a .system .now) (x .exchange .last .0) (c .before .clear .last .0) (s .pre .0) (i .0) (i .1) (p .1 .0 .0) (p .1 .0 .1) room
-    (p .1 .1 .0) (x .exchange .ensures) (c .before .clear .ensures)
+    block-step sixteen sixteen-field (a .rows) (a .blocks) (u .u .given .0 .0) (a .r) (a .j) (a .system .now) (x .exchange .last .0) (c .before .clear .last .0)
+    (s .pre .0) (i .0) (i .1) (p .1 .0 .0) (p .1 .0 .1) room (p .1 .1 .0) (x .exchange .ensures) (c .before .clear .ensures)
 
 pub pivot-spec : {M : Type 1} → statement M
 pivot-spec =

@@ -6,12 +6,13 @@ use lib.ListN.{length}
 use Rattle.definitions.specs.Field.{sixteen}
 use Rattle.elimination.proofs.Solving.{SymbolsFrom, solve-none, solve-more}
 use Rattle.linear.specs.Rows.{Solved}
+use Rattle.instances.proofs.Codes.{sixteen-field}
 use borrow.Author.Needs.{needs}
 use Rattle.elimination.proofs.solve.Statement.{statement}
 use Rattle.elimination.proofs.solve.Tie as tie
 
 abbrev Inv-loop : tie.InvT-loop
-Inv-loop system table j out₀ s₀ out s = (s ≤ j) × (length out ≡ length out₀) × (Solved sixteen j s system out₀ out × SymbolsFrom s j out)
+Inv-loop system table j out₀ s₀ out s = (s ≤ j) × (length out ≡ length out₀) × (Solved sixteen j s system out₀ out × SymbolsFrom sixteen s j out)
 
 abbrev μ-loop : tie.MeasureT-loop
 μ-loop system table j out₀ s₀ out s = s
@@ -19,7 +20,7 @@ abbrev μ-loop : tie.MeasureT-loop
 loop-holds : tie.Need-loop-holds Inv-loop μ-loop
 loop-holds c =
     let a = c .before .args in
-    (omega arith, refl, solve-none (a .j) (a .system .now) (a .out .now))
+    (omega arith, refl, solve-none sixteen (a .j) (a .system .now) (a .out .now))
 
 back-requires : tie.Need-back-requires Inv-loop μ-loop
 back-requires c κs =
@@ -32,7 +33,8 @@ loop-again c =
     let l = c .before .before .before .before in
     let s = l .before .before in
     let a = s .args in
-    let d = solve-more (a .j) (l .loop .s) (c .back .result) (a .system .now) (a .out .now) (l .loop .out) (s .pre .1 .0) (omega arith) (omega arith) (omega arith) (l .loop .inv .2 .0) (l .loop .inv .2 .1) (c .back .ensures) in
+    let d = solve-more sixteen sixteen-field (a .j) (l .loop .s) (c .back .result) (a .system .now) (a .out .now) (l .loop .out) (s .pre .1 .0) (omega arith) (omega arith)
+    (omega arith) (l .loop .inv .2 .0) (l .loop .inv .2 .1) (c .back .ensures) in
     (omega arith, d .0 .size, d)
 
 same-length : tie.Need-same-length Inv-loop μ-loop

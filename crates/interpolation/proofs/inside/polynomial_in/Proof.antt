@@ -2,6 +2,7 @@
 use Prim.Native.Nat.{_+_, _/_, _≤_, _<_}
 use native.Mathlib.Omega.{arith}
 use lib.ListN.{length}
+use Rattle.definitions.specs.Field.{sixteen}
 use Rattle.elimination.specs.System.{System, Within}
 use Rattle.interpolation.proofs.Coefficients.{degree-small, row-fits, rows-priced, more, start-system, start-within, polynomial-found}
 use Rattle.blocks.specs.Row.{block, width}
@@ -31,7 +32,7 @@ matrix-rows-requires c κs =
     )
 
 -- the conditions are a system
-start : (c : tie.After-matrix-rows) → System (c .matrix-rows .last .0)
+start : (c : tie.After-matrix-rows) → System sixteen (c .matrix-rows .last .0)
 start c =
     let s = entry c in
     let a = s .args in
