@@ -9,7 +9,7 @@ use lib.Dec.{T, eqb, eqb→eq}
 use Rattle.definitions.proofs.Tools.{smallest-found}
 use Rattle.definitions.specs.Field.{Ops, Code, inverseOf}
 use Rattle.algebra.specs.FieldOf.{FieldOf}
-use Rattle.algebra.proofs.RingLaws.{times-assoc, times-comm, one-times, plus-times, times-zero}
+use Rattle.algebra.proofs.RingLaws.{plus-zero, times-assoc, times-comm, one-times, plus-times, times-zero}
 
 module _ (C : Code) (F : FieldOf C) where
   -- the operations on elements
@@ -97,6 +97,12 @@ module _ (C : Code) (F : FieldOf C) where
   pub once-times : (a : ℕ) → a < C .symbols → C .times 1 a ≡ a
   once-times a h =
       sym (number-times 1 a one-symbol h) ∙ ap (λ (x : G .K). φ (G .mul x (F .element a))) element-one ∙ ap φ (one-times (F .ring) (F .element a))
+      ∙ F .number-element a h
+
+  -- a sum with 0 is the other summand
+  pub plus-none : (a : ℕ) → a < C .symbols → C .plus a 0 ≡ a
+  plus-none a h =
+      sym (number-plus a 0 h zero-symbol) ∙ ap (λ (x : G .K). φ (G .add (F .element a) x)) element-zero ∙ ap φ (plus-zero (F .ring) (F .element a))
       ∙ F .number-element a h
 
   -- a product with 0 is 0

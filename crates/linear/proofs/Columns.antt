@@ -9,11 +9,11 @@ use native.Mathlib.Decide.{ℕ-discrete, decLt}
 use native.Mathlib.Omega.{arith}
 use lib.ListN.{length, getD, set, length-set}
 use lib.Seq.{getD-set-same, getD-set-other}
-use Rattle.algebra.proofs.Elements.{times-none}
+use Rattle.algebra.proofs.Elements.{plus-none, times-none}
 use Rattle.algebra.specs.FieldOf.{FieldOf}
 use Rattle.algebra.specs.Grid.{entryOf, Patched}
 use Rattle.definitions.specs.Field.{Ops, Code, numbers}
-use Rattle.linear.proofs.Symbols.{plus-none, step-solutions, step-triangle}
+use Rattle.linear.proofs.Symbols.{step-solutions, step-triangle}
 use Rattle.linear.proofs.Triangle.{TriangleColumns, Stepped}
 use Rattle.linear.specs.Columns.{Between, Exchanged, Lowered}
 use Rattle.linear.specs.Rows.{SymbolRows, SameSolutions, Triangle}

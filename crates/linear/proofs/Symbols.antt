@@ -8,10 +8,10 @@ use Prim.Native.Nat.{ℕ, zero, suc, _+_, _≤_, _<_}
 use native.Mathlib.Decide.{ℕ-discrete, decLt}
 use native.Mathlib.Omega.{arith}
 use lib.ListN.{getD}
-use Rattle.algebra.proofs.Elements.{number-injective, symbol-injective, zero-element, zero-symbol, one-symbol, plus-symbol, times-symbol, element-zero, element-one, element-plus, element-times, none-times}
+use Rattle.algebra.proofs.Elements.{number-injective, symbol-injective, zero-element, zero-symbol, one-symbol, plus-symbol, times-symbol, element-zero, element-one, element-plus, element-times, plus-none, none-times}
 use Rattle.algebra.proofs.Linear.{dot-equal, carry-dot}
 use Rattle.algebra.specs.Dot.{dot}
-use Rattle.algebra.proofs.RingLaws.{plus-self, plus-zero, zero-times, equal-of-sum}
+use Rattle.algebra.proofs.RingLaws.{plus-self, zero-times, equal-of-sum}
 use Rattle.algebra.specs.FieldOf.{FieldOf}
 use Rattle.algebra.specs.Grid.{entryOf}
 use Rattle.definitions.specs.Code.{Symbols}
@@ -40,15 +40,9 @@ module _ (C : Code) (F : FieldOf C) where
       symbol-injective C F a b ha hb
       (equal-of-sum (F .ring) (F .element a) (F .element b) (sym (element-plus C F a b ha hb) ∙ ap (F .element) e ∙ element-zero C F))
 
-  -- 0 adds nothing
-  pub plus-none : (a : ℕ) → a < C .symbols → C .plus a 0 ≡ a
-  plus-none a h =
-      symbol-injective C F (C .plus a 0) a (plus-symbol C F a 0 h (zero-symbol C F)) h
-      (element-plus C F a 0 h (zero-symbol C F) ∙ ap (G .add (F .element a)) (element-zero C F) ∙ plus-zero (F .ring) (F .element a))
-
-  -- nor does a multiple by 0
+  -- a multiple by 0 adds nothing
   pub plus-nothing : (a b : ℕ) → a < C .symbols → b < C .symbols → a ≡ C .plus a (C .times 0 b)
-  plus-nothing a b ha hb = sym (ap (C .plus a) (none-times C F b hb) ∙ plus-none a ha)
+  plus-nothing a b ha hb = sym (ap (C .plus a) (none-times C F b hb) ∙ plus-none C F a ha)
 
   -- what lies behind is a symbol, of symbols
   pub behind-symbol : (y s n : ℕ) (r q : ℕ → ℕ) → y < C .symbols → ((k : ℕ) → r k < C .symbols) → ((k : ℕ) → s < k → k < n → q k < C .symbols)

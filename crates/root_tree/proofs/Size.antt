@@ -2,13 +2,11 @@
 -- Assumes nothing.
 use mathlib.Core.Path.{_≡_}
 use Prim.Native.Nat.{ℕ, zero, suc, _+_, _-_, _*_, _/_, _≤_, _<_}
-use native.Mathlib.Decide.{decLt}
-use native.Mathlib.Nat.{mul-div-le, mul-add, suc-mul, mul-suc, mul-le-mul-left, mul-le-mul-right}
+use native.Mathlib.Nat.{mul-div-le, mul-add, suc-mul, mul-suc, mul-le-mul-left}
 use native.Mathlib.Numerals.{add-one}
 use native.Mathlib.Omega.{arith}
 use Rattle.definitions.proofs.Tools.{sum-zero, sum-suc}
 use Rattle.definitions.specs.Bound.{count}
-use Rattle.definitions.specs.Limits.{greatestCount}
 use Rattle.definitions.specs.Tools.{sum}
 
 module _ (v : ℕ) where
@@ -40,18 +38,3 @@ module _ (v : ℕ) where
       let g : 2 * sum (m + 1) (λ (b : ℕ). v * b) ≡ (m + 1) * (v * m) = rw (add-one m) (gauss m) in
       let t : (m + 1) * (v * m) ≤ (m + 1) * (D + 1) = mul-le-mul-left (m + 1) (omega arith) in
       omega arith
-
--- an array of at most twice the greatest count has columns of at most 22
-pub column-height : (v D : ℕ) → 1 ≤ v → (D + 1) * (D / v + 1) ≤ 2 * greatestCount → D / v < 22
-column-height v D pos h =
-    elim (decLt (D / v) 22) [
-      | yes l ↦ l
-      | no n ↦
-          let q = mul-div-le D v in
-          let w : 1 * (D / v) ≤ v * (D / v) = mul-le-mul-right (D / v) pos in
-          let c : 23 ≤ D + 1 = omega arith in
-          let a : 23 * 23 ≤ (D + 1) * 23 = mul-le-mul-right 23 c in
-          let b : (D + 1) * 23 ≤ (D + 1) * (D / v + 1) = mul-le-mul-left (D + 1) (omega arith) in
-          let z : ⊥ = omega arith in
-          absurd z
-    ]

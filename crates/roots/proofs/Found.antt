@@ -23,10 +23,10 @@ use Rattle.root_tree.proofs.Levels.{search-same, under-strip}
 use Rattle.root_tree.proofs.Once.{roots-in-order}
 use Rattle.root_tree.proofs.Roots.{length-zeros, loaded-symbols, columns-symbols, under-grid, search-is-roots, roots-at-most}
 use Rattle.root_tree.proofs.Search.{strip-symbols}
-use Rattle.root_tree.proofs.Size.{array-size, column-height}
+use Rattle.root_tree.proofs.Size.{array-size}
 use Rattle.root_tree.specs.Columns.{loaded}
 use Rattle.root_tree.specs.Tree.{zeros, strip, search}
-use Rattle.substitution.specs.Array.{places, height, polynomial, Freed}
+use Rattle.substitution.specs.Array.{places, polynomial, Freed}
 use Rattle.memory.proofs.Laid.{laid-front}
 use Rattle.memory.specs.Laid.{laid}
 use Rattle.roots.specs.Rows.{DegreeWithin, rowsAfter}
@@ -46,10 +46,6 @@ module _ (D k : ℕ) (two : 2 ≤ k) (small : count (k - 1) D ≤ greatestCount)
   -- the array holds every accepted polynomial
   pub array-fits : (D + 1) * (D / (k - 1) + 1) ≤ places
   array-fits = let a = array-size (k - 1) (omega arith) D in omega arith
-
-  -- and its columns are low
-  pub columns-low : D / (k - 1) + 1 ≤ height
-  columns-low = let a = column-height (k - 1) D (omega arith) array-fits in omega arith
 
 -- the loaded array has as many entries as there are places
 pub loaded-length : (C : Code) (D k : ℕ) (q l : List ℕ) → l ≡ loaded (numbers C) (D / (k - 1) + 1) q (monomials (k - 1) D) (zeros places) → length l ≡ places

@@ -5,7 +5,7 @@ use mathlib.Core.List.{List, [], _∷_, _++_, map, flatMap, append-assoc, append
 use mathlib.Core.Path.{_≡_, refl, sym, _∙_, ap, ap₂, subst}
 use Prim.Native.Nat.{ℕ, zero, suc, _+_, _-_, _*_, _≤_, _<_}
 use native.Mathlib.Decide.{decLt}
-use native.Mathlib.Nat.{add-zero, mul-le-mul-left}
+use native.Mathlib.Nat.{add-zero, mul-le-mul-left, mul-le-mul-right}
 use native.Mathlib.Numerals.{add-one}
 use native.Mathlib.Omega.{arith}
 use borrow.Author.Tests.{eq-eqb, ne-eqb}
@@ -142,6 +142,10 @@ row-holds C row k e h = omega arith
 -- there are no more columns than places
 pub columns-fit : (h w : ℕ) → 0 < h → w * h ≤ places → w ≤ places
 columns-fit h w pos l = let m : w * 1 ≤ w * h = mul-le-mul-left w pos in omega arith
+
+-- and none of them is higher
+pub height-fits : (h w : ℕ) → 0 < w → w * h ≤ places → h ≤ places
+height-fits h w pos l = let m : 1 * h ≤ w * h = mul-le-mul-right h pos in omega arith
 
 -- ---- one symbol tried
 

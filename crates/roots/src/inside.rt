@@ -13,7 +13,7 @@ ghost use Rattle.definitions.specs.Roots.{rootsOf};
 ghost use Rattle.field.specs.Table.{Products};
 ghost use Rattle.root_tree.specs.Columns.{loaded};
 ghost use Rattle.root_tree.specs.Tree.{zeros, search};
-ghost use Rattle.substitution.specs.Array.{places, height, polynomial};
+ghost use Rattle.substitution.specs.Array.{places, polynomial};
 ghost use Rattle.memory.specs.Laid.{laid};
 ghost use Rattle.roots.specs.Rows.{DegreeWithin, rowsAfter};
 use refusals::limits::GREATEST_SYMBOL;
@@ -78,7 +78,7 @@ fn search(
 ) -> usize
     requires { ⌜ Products (now table) ⌝ }
     requires { ⌜ Symbols sixteen p ⌝ }
-    requires { ⌜ (0 < h) × (h ≤ height) × ((degree + 1) * h ≤ places) × (left ≤ k) × (k ≤ sixteen .positions) ⌝ }
+    requires { ⌜ (0 < h) × ((degree + 1) * h ≤ places) × (left ≤ k) × (k ≤ sixteen .positions) ⌝ }
     requires { ⌜ DegreeWithin sixteen (left - 1) degree h p × (at + length (rowsAfter (take (k - left) row) (search sixteen left (polynomial sixteen h (degree + 1) p))) ≤ length (now out)) ⌝ }
     ensures count { λ r. ⌜ r ≡ at + length (rowsAfter (take (k - left) row) (search sixteen left (polynomial sixteen h (degree + 1) p))) ⌝ }
     ensures memory { λ _. ⌜ now (out .exit) ≡ laid (now (out .entry)) at (rowsAfter (take (k - left) row) (search sixteen left (polynomial sixteen h (degree + 1) p))) ⌝ }
@@ -96,7 +96,7 @@ fn search(
         if substitution::first_value(table, &p, h, g) == 0 {
             let mut next = row;
             next[k - left] = g;
-            let rest = substitution::handed(table, &p, h, degree + 1, g);
+            let rest = substitution::handed(table, p, h, degree + 1, g);
             end = search(table, rest, degree, h, next, k, left - 1, out, end);
         }
         g += 1;

@@ -1,2 +1,3 @@
 pub mod Columns
+pub mod Shifting
 pub mod Substitution

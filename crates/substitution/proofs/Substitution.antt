@@ -22,13 +22,13 @@ use Rattle.definitions.specs.Code.{Symbols}
 use Rattle.definitions.specs.Field.{Code, numbers}
 use Rattle.definitions.specs.Polynomial.{isZero}
 use Rattle.definitions.specs.Tools.{smallest}
-use Rattle.root_tree.proofs.Arrays.{place-once, place-within, columns-within, columns-beyond, columns-above, columns-at}
+use Rattle.root_tree.proofs.Arrays.{place-once, place-within, columns-within, columns-beyond, columns-above}
 use Rattle.root_tree.proofs.Columns.{substitute-above}
 use Rattle.root_tree.proofs.Levels.{strip-at, substitute-cell}
 use Rattle.root_tree.proofs.Roots.{zeros-at, columns-symbols}
-use Rattle.root_tree.specs.Columns.{shift, columns}
+use Rattle.root_tree.specs.Columns.{columns}
 use Rattle.root_tree.specs.Tree.{zeros}
-use Rattle.substitution.specs.Array.{places, polynomial, Laid, Substituted, Freed, isOther}
+use Rattle.substitution.specs.Array.{places, polynomial, Shifted, Laid, Spread, Substituted, Freed, isOther}
 
 -- ---- a column laid
 
@@ -66,45 +66,37 @@ module _ (h w a : ℕ) (col l : List ℕ) where
         miss = λ s t p q n. d .miss s t p q (λ x e. n q e);
       }
 
--- ---- substitution, column by column
+-- ---- x y for y, column by column
 
-module _ (C : Code) (h w c : ℕ) (p : List ℕ) where
-  -- the columns before the a-th are done
-  pub record Partly (a : ℕ) (q : List ℕ) : Type 0 where
-    -- what they give
-    pub done : (s t : ℕ) → s < w → t < h → t ≤ s → s - t < a → getD q (s * h + t) 0 ≡ getD (shift (numbers C) c (take h (drop ((s - t) * h) p))) t 0
-    -- what they do not give is zero
-    pub rest : (s t : ℕ) → s < w → t < h → (t ≤ s → s - t < a → ⊥) → getD q (s * h + t) 0 ≡ 0
-
+module _ (h w : ℕ) (p : List ℕ) where
   -- before the first column
-  pub partly-none : (n : ℕ) → Partly 0 (zeros n)
-  partly-none n = record { done = λ s t _ _ _ k. absurd (not-suc-le-zero k); rest = λ s t _ _ _. zeros-at n (s * h + t) }
+  pub spread-none : (n : ℕ) → Spread h w 0 p (zeros n)
+  spread-none n = record { there = λ s t _ _ _ k. absurd (not-suc-le-zero k); rest = λ s t _ _ _. zeros-at n (s * h + t) }
 
   -- one column more
-  pub partly-more : (a : ℕ) (q r col : List ℕ) → Partly a q → take h col ≡ shift (numbers C) c (take h (drop (a * h) p)) → Laid h w a h col q r → Partly (a + 1) r
-  partly-more a q r col d e k =
+  pub spread-more : (a : ℕ) (q r : List ℕ) → Spread h w a p q → Laid h w a h (take h (drop (a * h) p)) q r → Spread h w (a + 1) p r
+  spread-more a q r d k =
       record {
-        done = λ s t hs ht l m. elim (ℕ-discrete (s - t) a) [
+        there = λ s t hs ht l m. elim (ℕ-discrete (s - t) a) [
           | yes f ↦
               let g : s ≡ a + t = omega arith in
-              subst (λ (j : ℕ). getD r (j * h + t) 0 ≡ getD (shift (numbers C) c (take h (drop ((s - t) * h) p))) t 0) (sym g)
-              (k .hit t ht (omega arith) ∙ sym (getD-take h col t 0 ht) ∙ ap (λ (x : List ℕ). getD x t 0) e
-              ∙ ap (λ (j : ℕ). getD (shift (numbers C) c (take h (drop (j * h) p))) t 0) (sym f))
-          | no n ↦ k .miss s t hs ht (λ _ g. n (omega arith)) ∙ d .done s t hs ht l (omega arith)
+              subst (λ (j : ℕ). getD r (j * h + t) 0 ≡ getD p ((s - t) * h + t) 0) (sym g)
+              (k .hit t ht (omega arith) ∙ getD-take h (drop (a * h) p) t 0 ht ∙ getD-drop (a * h) p t 0 ∙ ap (λ (j : ℕ). getD p (j * h + t) 0) (sym f))
+          | no n ↦ k .miss s t hs ht (λ _ g. n (omega arith)) ∙ d .there s t hs ht l (omega arith)
         ];
         rest = λ s t hs ht n.
             k .miss s t hs ht (λ _ g. n (omega arith) (omega arith)) ∙ d .rest s t hs ht (λ l m. n l (omega arith));
       }
 
--- after the last column
-pub partly-all : (C : Code) (F : FieldOf C) (h w c : ℕ) (p : List ℕ) → c < C .symbols → Symbols C p → (q : List ℕ) → Partly C h w c p w q → Substituted C h w c p q
-partly-all C F h w c p hc sp q d s t hs ht =
+-- of shifted columns it is substitution
+pub spread-shifted : (C : Code) (F : FieldOf C) (h w c : ℕ) (p x q : List ℕ) → c < C .symbols → Symbols C p → Shifted C h w c p x → Spread h w w x q → Substituted C h w c p q
+spread-shifted C F h w c p x q hc sp shifted d s t hs ht =
     elim (decLt s t) [
       | yes l ↦ d .rest s t hs ht (λ m _. let z : ⊥ = omega arith in z) ∙ sym (substitute-above (numbers C) c (polynomial C h w p) s t l)
       | no n ↦
           let l : t ≤ s = omega arith in
-          d .done s t hs ht l (omega arith)
-          ∙ ap (λ (x : List ℕ). getD (shift (numbers C) c x) t 0) (sym (columns-at (numbers C) h w p (s - t) (omega arith)))
+          let within : s - t < w = omega arith in
+          d .there s t hs ht l within ∙ sym (columns-within (numbers C) h w x (s - t) t within ht) ∙ shifted (s - t) t within ht
           ∙ sym (substitute-cell C F c hc (polynomial C h w p) (columns-symbols C (zero-symbol C F) h w p sp) s t l)
     ]
 

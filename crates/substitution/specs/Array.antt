@@ -1,43 +1,55 @@
--- What the functions over an array promise: a column's shift in place, substitution column by column, and stripping.
+-- What the functions over an array promise: the columns' shift in place, substitution column by column, and stripping.
 -- Assumes nothing.
 use mathlib.Core.Bool.{Bool, not}
-use mathlib.Core.List.{List, _++_}
+use mathlib.Core.List.{List, []}
 use mathlib.Core.Path.{_≡_}
-use Prim.Native.Nat.{ℕ, suc, _+_, _*_, _<_}
+use Prim.Native.Nat.{ℕ, _+_, _-_, _*_, _≤_, _<_}
 use lib.Dec.{eqb}
-use lib.ListN.{getD, take, drop}
+use lib.ListN.{getD}
 use Rattle.definitions.specs.Code.{Symbols}
 use Rattle.definitions.specs.Field.{Code, numbers}
 use Rattle.definitions.specs.Limits.{greatestCount}
-use Rattle.definitions.specs.Roots.{plus, scaled}
-use Rattle.root_tree.specs.Columns.{coefficient, substitute, columns}
+use Rattle.root_tree.specs.Columns.{coefficient, shift, substitute, columns}
+use Rattle.root_tree.specs.Fold.{folded}
 use Rattle.root_tree.specs.Tree.{Same, strip}
 
 -- the places of a polynomial's array: of w columns of height h, which are at most twice as many as its coefficients
 abbrev pub places : ℕ
 places = 2 * greatestCount
 
--- the room of one column, of which at most 22 places are used
-abbrev pub height : ℕ
-height = 32
-
 -- r is l with entry t of the column at x^(a + t) y^t, for t below b
 pub record Laid (h w a b : ℕ) (column l r : List ℕ) : Type 0 where
   pub hit : (t : ℕ) → t < b → a + t < w → getD r ((a + t) * h + t) 0 ≡ getD column t 0
   pub miss : (s t : ℕ) → s < w → t < h → (t < b → s ≡ a + t → ⊥) → getD r (s * h + t) 0 ≡ getD l (s * h + t) 0
+
+-- r is l with x y put for y, of the first n columns and as far as w columns go
+pub record Spread (h w n : ℕ) (l r : List ℕ) : Type 0 where
+  pub there : (s t : ℕ) → s < w → t < h → t ≤ s → s - t < n → getD r (s * h + t) 0 ≡ getD l ((s - t) * h + t) 0
+  pub rest : (s t : ℕ) → s < w → t < h → (t ≤ s → s - t < n → ⊥) → getD r (s * h + t) 0 ≡ 0
 
 -- an entry other than zero
 abbrev pub isOther : List ℕ → ℕ → Bool
 isOther l i = not (eqb (getD l i 0) 0)
 
 module _ (C : Code) where
-  -- one pass of the shift by c, from entry b on: to each entry c times the next is added
-  unfoldable pub passed : ℕ → ℕ → List ℕ → List ℕ
-  passed c b p = take b p ++ plus (numbers C) (scaled (numbers C) c (drop (suc b) p)) (drop b p)
+  -- r is l with c times entry `from` added to entry `to`, in the first n columns
+  pub record Added (h w n to from c : ℕ) (l r : List ℕ) : Type 0 where
+    pub hit : (a : ℕ) → a < n → a < w → getD r (a * h + to) 0 ≡ C .plus (getD l (a * h + to) 0) (C .times c (getD l (a * h + from) 0))
+    pub miss : (a t : ℕ) → a < w → t < h → (a < n → t ≡ to → ⊥) → getD r (a * h + t) 0 ≡ getD l (a * h + t) 0
 
   -- the columns of an array, w of height h
   abbrev pub polynomial : ℕ → ℕ → List ℕ → List (List ℕ)
   polynomial h w l = columns (numbers C) h w l
+
+  -- each column of r is that of l, folded
+  abbrev pub Folded : ℕ → ℕ → ℕ → ℕ → List ℕ → List ℕ → Type 0
+  Folded h w bit c l r =
+      (a t : ℕ) → a < w → coefficient (numbers C) (polynomial h w r) a t ≡ folded (numbers C) bit c (coefficient (numbers C) (polynomial h w l) a) t
+
+  -- each column of r is that of l, with y + c put for y
+  abbrev pub Shifted : ℕ → ℕ → ℕ → List ℕ → List ℕ → Type 0
+  Shifted h w c l r =
+      (a t : ℕ) → a < w → t < h → coefficient (numbers C) (polynomial h w r) a t ≡ getD (shift (numbers C) c (getD (polynomial h w l) a [])) t 0
 
   -- r holds M(x, x y + c) of the array l, as far as w columns go
   abbrev pub Substituted : ℕ → ℕ → ℕ → List ℕ → List ℕ → Type 0

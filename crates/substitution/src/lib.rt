@@ -7,16 +7,12 @@ ghost use Rattle.definitions.specs.Code.{Symbols};
 ghost use Rattle.definitions.specs.Field.{numbers, value, sixteen};
 ghost use Rattle.definitions.specs.Tools.{smallest};
 ghost use Rattle.field.specs.Table.{Products};
-ghost use Rattle.root_tree.specs.Columns.{shift};
 ghost use Rattle.root_tree.specs.Tree.{zeros, constantsZero};
-ghost use Rattle.substitution.specs.Array.{places, height, passed, polynomial, Laid, Substituted, Freed, Handed, isOther};
+ghost use Rattle.substitution.specs.Array.{places, polynomial, Added, Folded, Shifted, Laid, Spread, Substituted, Freed, Handed, isOther};
 use refusals::limits::GREATEST_COUNT;
 
 // The places of a polynomial's array: of w columns of height h, which are at most twice as many as its coefficients.
 pub const PLACES: usize = 2 * GREATEST_COUNT;
-
-// The room of one column, of which at most 22 places are used.
-pub const HEIGHT: usize = 32;
 
 // The value of the first column at g.
 pub fn first_value(table: &[u8; 256], p: &[u8; PLACES], h: usize, g: u8) -> u8
@@ -34,47 +30,53 @@ pub fn first_value(table: &[u8; 256], p: &[u8; PLACES], h: usize, g: u8) -> u8
     y
 }
 
-// The h entries from a place on.
-fn column(p: &[u8; PLACES], from: usize, h: usize) -> [u8; HEIGHT]
-    requires { ⌜ (h ≤ height) × (from + h ≤ places) × (length (now p) ≡ places) ⌝ }
-    ensures { λ r. ⌜ r ≡ take h (drop from (now (p .entry))) ++ drop h (zeros height) ⌝ }
+// To entry `to` of each column, g times its entry `from` is added.
+fn add_multiple(table: &[u8; 256], p: &mut [u8], h: usize, w: usize, to: usize, from: usize, g: u8)
+    requires { ⌜ Products (now table) ⌝ }
+    requires { ⌜ Symbols sixteen (now p) ⌝ }
+    requires { ⌜ (to < from) × (from < h) × (w * h ≤ length (now p)) × (g < sixteen .symbols) ⌝ }
+    ensures added { λ _. ⌜ Added sixteen h w w to from g (now (p .entry)) (now (p .exit)) ⌝ }
+    ensures symbols { λ _. ⌜ Symbols sixteen (now (p .exit)) ⌝ }
 {
-    let mut col = [0u8; HEIGHT];
+    let mut a = 0;
+    while a < w {
+        let column = a * h;
+        p[column + to] ^= field::inside::look(table, g, p[column + from]);
+        a += 1;
+    }
+}
+
+// To each entry of a column whose place lacks the bit, g times the one that has it is added.
+fn fold(table: &[u8; 256], p: &mut [u8], h: usize, w: usize, bit: usize, g: u8)
+    requires { ⌜ Products (now table) ⌝ }
+    requires { ⌜ Symbols sixteen (now p) ⌝ }
+    requires { ⌜ (0 < bit) × (bit < h) × (h ≤ places) × (w * h ≤ length (now p)) × (g < sixteen .symbols) ⌝ }
+    ensures folded { λ _. ⌜ Folded sixteen h w bit g (now (p .entry)) (now (p .exit)) ⌝ }
+    ensures symbols { λ _. ⌜ Symbols sixteen (now (p .exit)) ⌝ }
+{
     let mut b = 0;
-    while b < h {
-        col[b] = p[from + b];
-        b += 1;
-    }
-    col
-}
-
-// One pass of the shift by g, from entry `from` on, in place.
-fn pass(table: &[u8; 256], col: &mut [u8], from: usize, h: usize, g: u8)
-    requires { ⌜ Products (now table) ⌝ }
-    requires { ⌜ Symbols sixteen (now col) ⌝ }
-    requires { ⌜ (from < h) × (h ≤ length (now col)) × (g < sixteen .symbols) ⌝ }
-    ensures column { λ _. ⌜ take h (now (col .exit)) ≡ passed sixteen g from (take h (now (col .entry))) ⌝ }
-    ensures symbols { λ _. ⌜ Symbols sixteen (now (col .exit)) ⌝ }
-{
-    let mut b = from;
-    while b < h - 1 {
-        col[b] = field::inside::look(table, g, col[b + 1]) ^ col[b];
+    while b + bit < h {
+        if b & bit == 0 {
+            add_multiple(table, p, h, w, b, b + bit, g);
+        }
         b += 1;
     }
 }
 
-// The column with y + g put for y, in place.
-fn shift(table: &[u8; 256], col: &mut [u8], h: usize, g: u8)
+// Each column with y + g put for y, in place: a fold for each bit of a place.
+fn shift(table: &[u8; 256], p: &mut [u8], h: usize, w: usize, g: u8)
     requires { ⌜ Products (now table) ⌝ }
-    requires { ⌜ Symbols sixteen (now col) ⌝ }
-    requires { ⌜ (h ≤ length (now col)) × (g < sixteen .symbols) ⌝ }
-    ensures column { λ _. ⌜ take h (now (col .exit)) ≡ shift (numbers sixteen) g (take h (now (col .entry))) ⌝ }
-    ensures symbols { λ _. ⌜ Symbols sixteen (now (col .exit)) ⌝ }
+    requires { ⌜ Symbols sixteen (now p) ⌝ }
+    requires { ⌜ (h ≤ places) × (w * h ≤ length (now p)) × (g < sixteen .symbols) ⌝ }
+    ensures shifted { λ _. ⌜ Shifted sixteen h w g (now (p .entry)) (now (p .exit)) ⌝ }
+    ensures symbols { λ _. ⌜ Symbols sixteen (now (p .exit)) ⌝ }
 {
-    let mut b = h;
-    while 0 < b {
-        b -= 1;
-        pass(table, col, b, h, g);
+    let mut bit = 1;
+    let mut power = g;
+    while bit < h {
+        fold(table, p, h, w, bit, power);
+        power = field::inside::look(table, power, power);
+        bit *= 2;
     }
 }
 
@@ -96,23 +98,35 @@ fn lay(p: &mut [u8], col: &[u8], a: usize, h: usize, w: usize)
     }
 }
 
-// The polynomial with x y + g put for y, as far as w columns go.
-fn substituted(table: &[u8; 256], p: &[u8; PLACES], h: usize, w: usize, g: u8) -> [u8; PLACES]
-    requires { ⌜ Products (now table) ⌝ }
+// The polynomial with x y put for y, as far as w columns go.
+fn spread(p: &[u8], h: usize, w: usize) -> [u8; PLACES]
     requires { ⌜ Symbols sixteen (now p) ⌝ }
-    requires { ⌜ (h ≤ height) × (g < sixteen .symbols) × (w * h ≤ places) × (length (now p) ≡ places) ⌝ }
-    ensures polynomial { λ r. ⌜ Substituted sixteen h w g (now (p .entry)) r ⌝ }
+    requires { ⌜ (w * h ≤ places) × (w * h ≤ length (now p)) ⌝ }
+    ensures spread { λ r. ⌜ Spread h w w (now (p .entry)) r ⌝ }
     ensures symbols { λ r. ⌜ Symbols sixteen r ⌝ }
 {
     let mut q = [0u8; PLACES];
     let mut a = 0;
     while a < w {
-        let mut col = column(p, a * h, h);
-        shift(table, &mut col, h, g);
-        lay(&mut q, &col, a, h, w);
+        let from = a * h;
+        let to = from + h;
+        lay(&mut q, &p[from..to], a, h, w);
         a += 1;
     }
     q
+}
+
+// The polynomial with x y + g put for y, as far as w columns go.
+fn substituted(table: &[u8; 256], p: [u8; PLACES], h: usize, w: usize, g: u8) -> [u8; PLACES]
+    requires { ⌜ Products (now table) ⌝ }
+    requires { ⌜ Symbols sixteen p ⌝ }
+    requires { ⌜ (h ≤ places) × (g < sixteen .symbols) × (w * h ≤ places) ⌝ }
+    ensures polynomial { λ r. ⌜ Substituted sixteen h w g p r ⌝ }
+    ensures symbols { λ r. ⌜ Symbols sixteen r ⌝ }
+{
+    let mut shifted = p;
+    shift(table, &mut shifted, h, w, g);
+    spread(&shifted, h, w)
 }
 
 // The first place of a coefficient other than zero, or n.
@@ -157,11 +171,11 @@ pub fn freed(p: &[u8; PLACES], h: usize, w: usize) -> [u8; PLACES]
 }
 
 // What the search hands on after the symbol g: x y + g put for y, and freed of powers of x.
-pub fn handed(table: &[u8; 256], p: &[u8; PLACES], h: usize, w: usize, g: u8) -> [u8; PLACES]
+pub fn handed(table: &[u8; 256], p: [u8; PLACES], h: usize, w: usize, g: u8) -> [u8; PLACES]
     requires { ⌜ Products (now table) ⌝ }
-    requires { ⌜ Symbols sixteen (now p) ⌝ }
-    requires { ⌜ (0 < h) × (h ≤ height) × (g < sixteen .symbols) × (w * h ≤ places) × (length (now p) ≡ places) ⌝ }
-    ensures polynomial { λ r. ⌜ Handed sixteen h w g (now (p .entry)) r ⌝ }
+    requires { ⌜ Symbols sixteen p ⌝ }
+    requires { ⌜ (0 < h) × (h ≤ places) × (g < sixteen .symbols) × (w * h ≤ places) ⌝ }
+    ensures polynomial { λ r. ⌜ Handed sixteen h w g p r ⌝ }
     ensures symbols { λ r. ⌜ Symbols sixteen r ⌝ }
 {
     let q = substituted(table, p, h, w, g);

@@ -1,56 +1,77 @@
--- The loop has shifted the column from b on; what lies before b still waits.
-use mathlib.Core.Path.{_≡_, refl}
-use mathlib.Core.List.{_++_}
-use Prim.Native.Nat.{_≤_}
-use lib.ListN.{length, take, drop}
-use Rattle.definitions.specs.Code.{Symbols}
-use Rattle.definitions.specs.Field.{numbers, sixteen}
-use Rattle.root_tree.specs.Columns.{shift}
-use Rattle.substitution.proofs.Columns.{no-pass, pass-more}
+-- The loop has folded by the bits below this one; what is left of each column gives the whole shift.
+use mathlib.Core.Path.{_≡_, refl, sym, _∙_, ap}
+use Prim.Native.Nat.{ℕ, suc, _*_, _-_, _^_, _<_}
+use native.Mathlib.Nat.{pow-suc}
 use native.Mathlib.Omega.{arith}
+use lib.ListN.{length}
+use lib.Pow.{pow-pos}
+use Rattle.algebra.proofs.Elements.{times-symbol}
+use Rattle.definitions.specs.Code.{Symbols}
+use Rattle.definitions.specs.Field.{sixteen}
+use Rattle.instances.proofs.Codes.{sixteen-field}
+use Rattle.substitution.proofs.Shifting.{LeftOf, left-of-all, left-of-more, left-of-none}
 use Rattle.substitution.proofs.shift.Statement.{statement}
 use Rattle.substitution.proofs.shift.Tie as tie
 
 abbrev Inv-loop : tie.InvT-loop
-Inv-loop table col₀ h g b₀ col b = (b ≤ h) × (length col ≡ length col₀) × Symbols sixteen col × (take h col ≡ take b (take h col₀) ++ shift (numbers sixteen) g (drop b (take h col₀)))
+Inv-loop table p₀ h w g bit₀ power₀ p bit power =
+    ((k : ℕ) × (bit ≡ 2 ^ k)) × (power < sixteen .symbols) × (length p ≡ length p₀) × Symbols sixteen p × LeftOf sixteen sixteen-field h w g p₀ bit power p
 
 abbrev μ-loop : tie.MeasureT-loop
-μ-loop table col₀ h g b₀ col b = b
+μ-loop table p₀ h w g bit₀ power₀ p bit power = h - bit
 
 loop-holds : tie.Need-loop-holds Inv-loop μ-loop
-loop-holds c = (omega arith, refl, c .before .pre .1 .0, no-pass sixteen (c .before .args .g) (c .before .args .h) (c .before .args .col .now) (c .before .pre .1 .1 .0))
+loop-holds c =
+    let s = c .before in
+    ((0, refl), s .pre .1 .1 .2, refl, s .pre .1 .0, left-of-all sixteen sixteen-field (s .args .h) (s .args .w) (s .args .g) (s .args .p .now))
 
-sub-b : tie.Need-sub-b Inv-loop μ-loop
-sub-b c = omega arith
-
-pass-requires : tie.Need-pass-requires Inv-loop μ-loop
-pass-requires c κs =
+fold-requires : tie.Need-fold-requires Inv-loop μ-loop
+fold-requires c κs =
     let l = c .before .before in
     let s = l .before .before in
-    (s .pre .0, (l .loop .inv .2, (omega arith, omega arith, s .pre .1 .1 .1)))
+    let e = l .loop .inv .0 .1 in
+    let pos = pow-pos (l .loop .inv .0 .0) in
+    (s .pre .0, (l .loop .inv .3, (omega arith, omega arith, s .pre .1 .1 .0, omega arith, l .loop .inv .1)))
+
+look-requires : tie.Need-look-requires Inv-loop μ-loop
+look-requires c κs =
+    let l = c .before .before .before .before .before in
+    let s = l .before .before in
+    (s .pre .0, (l .loop .inv .1, l .loop .inv .1))
+
+mul-bit : tie.Need-mul-bit Inv-loop μ-loop
+mul-bit c = omega arith
 
 loop-less : tie.Need-loop-less Inv-loop μ-loop
-loop-less c = omega arith
+loop-less c =
+    let l = c .before .before .before .before .before .before in
+    let e = l .loop .inv .0 .1 in
+    let pos = pow-pos (l .loop .inv .0 .0) in
+    omega arith
 
 loop-again : tie.Need-loop-again Inv-loop μ-loop
 loop-again c =
-    let l = c .before .before .before .before .before in
+    let l = c .before .before .before .before .before .before in
     let s = l .before .before in
-    let r = c .before .before .pass in (
-      omega arith,
-      omega arith,
+    let r = c .before .before .before .fold in
+    let k = l .loop .inv .0 .0 in
+    let e = l .loop .inv .0 .1 in (
+      (suc k, ap (λ (n : ℕ). n * 2) e ∙ sym (pow-suc 2 k)),
+      rw (c .look .ensures) (times-symbol sixteen sixteen-field (l .loop .power) (l .loop .power) (l .loop .inv .1) (l .loop .inv .1)),
+      r .kept .1 .0 ∙ l .loop .inv .2,
       r .ensures .1,
-      pass-more sixteen (s .args .g) (l .loop .b) (s .args .h) (s .args .col .now) (l .loop .col) (r .last .1 .0) (omega arith) (omega arith) (omega arith) (l .loop .inv .3) (r .ensures .0),
+      rw (c .look .ensures)
+          (left-of-more sixteen sixteen-field (s .args .h) (s .args .w) (s .args .g) (s .args .p .now) k (l .loop .bit) (l .loop .power) (l .loop .p) (r .last .1 .0) e (l .loop .inv .1) (l .loop .inv .3) (r .ensures .0) (l .loop .inv .4)),
     )
 
 same-length : tie.Need-same-length Inv-loop μ-loop
-same-length c = c .before .loop .inv .1
+same-length c = c .before .loop .inv .2
 
 returns : tie.Need-returns Inv-loop μ-loop
 returns c =
     let l = c .before in
-    let e : l .loop .b ≡ 0 = omega arith in
-    (rw e at (l .loop .inv .3), l .loop .inv .2)
+    let s = l .before .before in
+    (left-of-none sixteen sixteen-field (s .args .h) (s .args .w) (s .args .g) (s .args .p .now) (s .pre .1 .1 .2) (s .pre .1 .0) (l .loop .bit) (l .loop .power) (l .loop .p) (c .loop-test .left) (l .loop .inv .3) (l .loop .inv .4), l .loop .inv .3)
 
 pub shift-spec : {M : Type 1} → statement M
 shift-spec =
@@ -59,8 +80,9 @@ shift-spec =
     Inv-loop
     μ-loop
     loop-holds
-    sub-b
-    pass-requires
+    fold-requires
+    look-requires
+    mul-bit
     loop-less
     loop-again
     same-length

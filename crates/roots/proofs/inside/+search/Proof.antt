@@ -11,7 +11,7 @@ use Rattle.definitions.specs.Field.{sixteen}
 use Rattle.instances.proofs.Codes.{sixteen-field}
 use Rattle.substitution.specs.Array.{places, polynomial}
 use Rattle.memory.specs.Laid.{laid}
-use Rattle.roots.proofs.Rows.{rowsBefore, before-nothing, rows-all, leaf-root-length, leaf-written, leaf-nothing, symbol, positive, fewer, fewer-fit, same-room, row-holds, columns-fit, begins-yes, begins-no, tried-none, tried-some, handed-within, handed-room}
+use Rattle.roots.proofs.Rows.{rowsBefore, before-nothing, rows-all, leaf-root-length, leaf-written, leaf-nothing, symbol, positive, fewer, fewer-fit, same-room, row-holds, columns-fit, height-fits, begins-yes, begins-no, tried-none, tried-some, handed-within, handed-room}
 use borrow.Fn.Kinds.{In}
 use borrow.Fn.PlainCycle.{Measures, is, falls, and}
 use Rattle.roots.proofs.inside.search.Reads as search′
@@ -59,13 +59,13 @@ search-add-constants-zero : (t : ℕ) → search-lts.Need-add-constants-zero (cl
 search-add-constants-zero t c =
     let s = c .before .before .before in
     let q = s .pre .1 .1 .1 .0 in
-    let f = columns-fit (s .args .h) (s .args .degree + 1) (q .0) (q .2) in
+    let f = columns-fit (s .args .h) (s .args .degree + 1) (q .0) (q .1) in
     omega arith
 
 search-constants-zero-requires : (t : ℕ) → search-lts.Need-constants-zero-requires (claims t) (search-at t) search′.Post search-Inv-loop search-μ-loop
 search-constants-zero-requires t c κs =
     let q = c .before .before .before .pre .1 .1 .1 .0 in
-    (q .0, q .2)
+    (q .0, q .1)
 
 search-array-share-prefix-row : (t : ℕ) → search-lts.Need-array-share-prefix-row (claims t) (search-at t) search′.Post search-Inv-loop search-μ-loop
 search-array-share-prefix-row t c = search needs
@@ -135,35 +135,34 @@ search-array-write-next t c = omega arith
 
 search-add-handed : (t : ℕ) → search-lts.Need-add-handed (claims t) (search-at t) search′.Post search-Inv-loop search-μ-loop
 search-add-handed t c =
-    let s = c .before .before .before .before .before .before .before .before in
+    let s = c .before .before .before .before .before .before .before in
     let q = s .pre .1 .1 .1 .0 in
-    let f = columns-fit (s .args .h) (s .args .degree + 1) (q .0) (q .2) in
+    let f = columns-fit (s .args .h) (s .args .degree + 1) (q .0) (q .1) in
     omega arith
 
 search-handed-requires : (t : ℕ) → search-lts.Need-handed-requires (claims t) (search-at t) search′.Post search-Inv-loop search-μ-loop
 search-handed-requires t c κs =
-    let s = c .before .before .before .before .before .before .before .before in
+    let s = c .before .before .before .before .before .before .before in
     let q = s .pre .1 .1 .1 .0 in
-    let n : length (s .args .t2) ≡ places = search needs in
-    (s .pre .1 .0, (s .pre .1 .1 .0, (q .0, q .1, omega arith, q .2, n)))
+    (s .pre .1 .0, (s .pre .1 .1 .0, (q .0, height-fits (s .args .h) (s .args .degree + 1) (omega arith) (q .1), omega arith, q .1)))
 
 search-sub-search : (t : ℕ) → search-lts.Need-sub-search (claims t) (search-at t) search′.Post search-Inv-loop search-μ-loop
 search-sub-search t c = omega arith
 
 search-search-requires : (t : ℕ) → search-lts.Need-search-requires (claims t) (search-at t) search′.Post search-Inv-loop search-μ-loop
 search-search-requires t c κs =
-    let l = c .before .before .before .before .before .before .before in
-    let s = c .before .before .before .before .before .before .before .before .before .before in
+    let l = c .before .before .before .before .before .before in
+    let s = c .before .before .before .before .before .before .before .before .before in
     let q = s .pre .1 .1 .1 .0 in
-    let fits = row-holds sixteen (s .args .t5) (s .args .k) (search needs) (q .4) in
-    let hg = symbol sixteen (l .loop .g) _ (c .before .before .before .before .before .before .loop-test .taken) (omega arith) in
-    let pos = positive (s .args .left) (c .before .before .before .before .before .before .before .before .if1 .left) in
-    let f = c .before .before .before .before .first-value in
-    let b = begins-yes sixteen (s .args .h) (s .args .degree) (l .loop .g) (s .args .t2) (f .result) (f .ensures) (c .before .before .before .if3 .taken) in
+    let fits = row-holds sixteen (s .args .t5) (s .args .k) (search needs) (q .3) in
+    let hg = symbol sixteen (l .loop .g) _ (c .before .before .before .before .before .loop-test .taken) (omega arith) in
+    let pos = positive (s .args .left) (c .before .before .before .before .before .before .before .if1 .left) in
+    let f = c .before .before .before .first-value in
+    let b = begins-yes sixteen (s .args .h) (s .args .degree) (l .loop .g) (s .args .t2) (f .result) (f .ensures) (c .before .before .if3 .taken) in
     let r = c .before .handed in
-    let within = handed-within sixteen sixteen-field (s .args .k) (s .args .left) (s .args .degree) (s .args .h) (s .args .t5) (s .args .t2) (s .args .out .now) (s .args .at) (l .loop .out) (l .loop .end) (l .loop .g) hg pos (q .3) fits (s .pre .1 .1 .1 .1 .1) (l .loop .inv .2) (l .loop .inv .3) (q .0) (s .pre .1 .1 .0) (s .pre .1 .1 .1 .1 .0) b (r .result) (r .ensures .1) (r .ensures .0) in
-    let room = handed-room sixteen sixteen-field (s .args .k) (s .args .left) (s .args .degree) (s .args .h) (s .args .t5) (s .args .t2) (s .args .out .now) (s .args .at) (l .loop .out) (l .loop .end) (l .loop .g) hg pos (q .3) fits (s .pre .1 .1 .1 .1 .1) (l .loop .inv .2) (l .loop .inv .3) (q .0) (s .pre .1 .1 .0) (s .pre .1 .1 .1 .1 .0) b (r .result) (r .ensures .1) (r .ensures .0) in
-    (fewer (s .args .left) t (s .pre .0) pos, (s .pre .1 .0, (r .ensures .1, ((q .0, q .1, q .2, fewer-fit (s .args .left) (s .args .k) (q .3), q .4), (within, same-room _ _ _ (l .loop .inv .1) room)))))
+    let within = handed-within sixteen sixteen-field (s .args .k) (s .args .left) (s .args .degree) (s .args .h) (s .args .t5) (s .args .t2) (s .args .out .now) (s .args .at) (l .loop .out) (l .loop .end) (l .loop .g) hg pos (q .2) fits (s .pre .1 .1 .1 .1 .1) (l .loop .inv .2) (l .loop .inv .3) (q .0) (s .pre .1 .1 .0) (s .pre .1 .1 .1 .1 .0) b (r .result) (r .ensures .1) (r .ensures .0) in
+    let room = handed-room sixteen sixteen-field (s .args .k) (s .args .left) (s .args .degree) (s .args .h) (s .args .t5) (s .args .t2) (s .args .out .now) (s .args .at) (l .loop .out) (l .loop .end) (l .loop .g) hg pos (q .2) fits (s .pre .1 .1 .1 .1 .1) (l .loop .inv .2) (l .loop .inv .3) (q .0) (s .pre .1 .1 .0) (s .pre .1 .1 .1 .1 .0) b (r .result) (r .ensures .1) (r .ensures .0) in
+    (fewer (s .args .left) t (s .pre .0) pos, (s .pre .1 .0, (r .ensures .1, ((q .0, q .1, fewer-fit (s .args .left) (s .args .k) (q .2), q .3), (within, same-room _ _ _ (l .loop .inv .1) room)))))
 
 search-add-g : (t : ℕ) → search-lts.Need-add-g (claims t) (search-at t) search′.Post search-Inv-loop search-μ-loop
 search-add-g t c = omega arith
@@ -177,15 +176,15 @@ search-loop-again t c =
     let s = c .before .before .before .before .before .before .before in
     let q = s .pre .1 .1 .1 .0 in
     let f = c .before .first-value in
-    let fits = row-holds sixteen (s .args .t5) (s .args .k) (search needs) (q .4) in
+    let fits = row-holds sixteen (s .args .t5) (s .args .k) (search needs) (q .3) in
     let hg = symbol sixteen (l .loop .g) _ (c .before .before .before .loop-test .taken) (omega arith) in
     let pos = positive (s .args .left) (c .before .before .before .before .before .if1 .left) in
     ⊎-elim
     (λ w.
     let b = begins-yes sixteen (s .args .h) (s .args .degree) (l .loop .g) (s .args .t2) (f .result) (f .ensures) (w .0 .taken) in
-    let z = tried-some sixteen sixteen-field (s .args .k) (s .args .left) (s .args .degree) (s .args .h) (s .args .t5) (s .args .t2) (s .args .out .now) (s .args .at) (l .loop .out) (l .loop .end) (l .loop .g) hg pos (q .3) fits (s .pre .1 .1 .1 .1 .1) (l .loop .inv .2) (l .loop .inv .3) (q .0) (s .pre .1 .1 .0) (s .pre .1 .1 .1 .1 .0) b (w .2 .result) (w .2 .ensures .1) (w .2 .ensures .0) (c .if3 .end) (c .if3 .out)
-    (w .8 ∙ w .4 .ensures .0) (w .7 ∙ w .4 .ensures .1) in
-    (omega arith, ap length (w .7) ∙ w .4 .kept .1 .1 .1 .1 .1 .1 .1 .0 ∙ l .loop .inv .1, z .0, z .1))
+    let z = tried-some sixteen sixteen-field (s .args .k) (s .args .left) (s .args .degree) (s .args .h) (s .args .t5) (s .args .t2) (s .args .out .now) (s .args .at) (l .loop .out) (l .loop .end) (l .loop .g) hg pos (q .2) fits (s .pre .1 .1 .1 .1 .1) (l .loop .inv .2) (l .loop .inv .3) (q .0) (s .pre .1 .1 .0) (s .pre .1 .1 .1 .1 .0) b (w .1 .result) (w .1 .ensures .1) (w .1 .ensures .0) (c .if3 .end) (c .if3 .out)
+    (w .7 ∙ w .3 .ensures .0) (w .6 ∙ w .3 .ensures .1) in
+    (omega arith, ap length (w .6) ∙ w .3 .kept .1 .1 .1 .1 .1 .1 .1 .0 ∙ l .loop .inv .1, z .0, z .1))
     (λ w.
     let z = tried-none sixteen (take (s .args .k - s .args .left) (s .args .t5)) (s .args .left - 1) (polynomial sixteen (s .args .h) (s .args .degree + 1) (s .args .t2)) (s .args .out .now) (s .args .at) (l .loop .out) (l .loop .end) (l .loop .g) (l .loop .inv .2) (l .loop .inv .3) (begins-no sixteen (s .args .h) (s .args .degree) (l .loop .g) (s .args .t2) (f .result) (f .ensures) (w .0 .left)) in
     (omega arith, ap length (w .1) ∙ l .loop .inv .1, w .2 ∙ z .0, w .1 ∙ z .1))

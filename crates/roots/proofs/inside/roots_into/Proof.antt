@@ -5,8 +5,8 @@ use lib.ListN.{length}
 use Rattle.definitions.specs.Field.{sixteen}
 use Rattle.instances.proofs.Codes.{sixteen-field}
 use Rattle.root_tree.specs.Tree.{zeros}
-use Rattle.roots.proofs.Found.{array-fits, columns-low, loaded-length, loaded-are-symbols, within, room-enough, rows-counted, rows-written}
-use Rattle.roots.proofs.Rows.{columns-fit}
+use Rattle.roots.proofs.Found.{array-fits, loaded-length, loaded-are-symbols, within, room-enough, rows-counted, rows-written}
+use Rattle.roots.proofs.Rows.{columns-fit, height-fits}
 use borrow.Author.Needs.{needs}
 use Rattle.roots.proofs.inside.roots_into.Statement.{statement}
 use Rattle.roots.proofs.inside.roots_into.Tie as tie
@@ -23,7 +23,7 @@ div-h c = search needs
 add-h : tie.Need-add-h
 add-h c =
     let s = c .before .before .before in
-    let f = columns-low (s .args .degree) (s .args .k) (s .pre .0 .0) (s .pre .0 .2) in
+    let f = height-fits (s .args .degree / (s .args .k - 1) + 1) (s .args .degree + 1) (omega arith) (array-fits (s .args .degree) (s .args .k) (s .pre .0 .0) (s .pre .0 .2)) in
     omega arith
 
 sub-load : tie.Need-sub-load
@@ -54,7 +54,7 @@ search-requires c κs =
     let f = c .before .before .freed in
     let w = within sixteen sixteen-field (s .args .degree) (s .args .k) (s .args .coefficients .now) (s .pre .0 .0) (s .pre .0 .2) (s .pre .1 .0 .0) (s .pre .1 .1 .0) (l .result) (l .ensures) (f .result) (f .ensures .1) (f .ensures .0) in
     let room = room-enough sixteen sixteen-field (s .args .degree) (s .args .k) (s .args .coefficients .now) (s .pre .0 .0) (s .pre .0 .2) (s .pre .1 .0 .0) (s .pre .1 .1 .0) (l .result) (l .ensures) (f .result) (f .ensures .1) (f .ensures .0) (zeros (sixteen .positions)) (s .pre .1 .1 .1) (length (s .args .out .now)) (s .pre .1 .0 .1) in
-    (c .before .before .before .before .before .products .ensures, (f .ensures .1, ((omega arith, columns-low (s .args .degree) (s .args .k) (s .pre .0 .0) (s .pre .0 .2), array-fits (s .args .degree) (s .args .k) (s .pre .0 .0) (s .pre .0 .2), omega arith, s .pre .0 .1), (w, room))))
+    (c .before .before .before .before .before .products .ensures, (f .ensures .1, ((omega arith, array-fits (s .args .degree) (s .args .k) (s .pre .0 .0) (s .pre .0 .2), omega arith, s .pre .0 .1), (w, room))))
 
 div-result : tie.Need-div-result
 div-result c = search needs

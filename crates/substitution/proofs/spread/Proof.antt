@@ -1,0 +1,112 @@
+-- The loop has laid the first a columns.
+use mathlib.Core.Path.{_≡_, refl, sym, _∙_, subst}
+use Prim.Native.Nat.{ℕ, _+_, _*_, _-_, _≤_}
+use native.Mathlib.Omega.{arith}
+use borrow.Author.Needs.{needs}
+use lib.ListN.{length, take, drop, length-drop}
+use lib.Seq.{length-take-le}
+use Rattle.algebra.proofs.Elements.{zero-symbol}
+use Rattle.definitions.proofs.Symbols.{drop-symbols, take-symbols}
+use Rattle.definitions.specs.Code.{Symbols}
+use Rattle.definitions.specs.Field.{sixteen}
+use Rattle.instances.proofs.Codes.{sixteen-field}
+use Rattle.root_tree.specs.Tree.{zeros}
+use Rattle.substitution.proofs.Substitution.{spread-none, spread-more, zeros-symbols, column-within}
+use Rattle.substitution.specs.Array.{places, Spread}
+use Rattle.substitution.proofs.spread.Statement.{statement}
+use Rattle.substitution.proofs.spread.Tie as tie
+
+abbrev Inv-loop : tie.InvT-loop
+Inv-loop p h w q₀ a₀ q a = (a ≤ w) × (length q ≡ places) × Symbols sixteen q × Spread h w a p q
+
+abbrev μ-loop : tie.MeasureT-loop
+μ-loop p h w q₀ a₀ q a = w - a
+
+loop-holds : tie.Need-loop-holds Inv-loop μ-loop
+unfolding zeros
+loop-holds c = let s = c .before in (omega arith, refl, zeros-symbols sixteen sixteen-field places, spread-none (s .args .h) (s .args .w) (s .args .p .now) places)
+
+mul-from : tie.Need-mul-from Inv-loop μ-loop
+mul-from c =
+    let l = c .before in
+    let s = l .before .before in
+    let i = column-within (l .loop .a) (s .args .h) (s .args .w) (omega arith) in
+    omega arith
+
+add-to : tie.Need-add-to Inv-loop μ-loop
+add-to c =
+    let l = c .before in
+    let s = l .before .before in
+    let i = column-within (l .loop .a) (s .args .h) (s .args .w) (omega arith) in
+    omega arith
+
+slice-aggregate-lay : tie.Need-slice-aggregate-lay Inv-loop μ-loop
+slice-aggregate-lay c = search needs
+
+sub-lay : tie.Need-sub-lay Inv-loop μ-loop
+sub-lay c = search needs
+
+part-lay-start : tie.Need-part-lay-start Inv-loop μ-loop
+part-lay-start c = search needs
+
+part-lay-end : tie.Need-part-lay-end Inv-loop μ-loop
+part-lay-end c =
+    let l = c .before .before in
+    let s = l .before .before in
+    let i = column-within (l .loop .a) (s .args .h) (s .args .w) (omega arith) in
+    omega arith
+
+lay-requires : tie.Need-lay-requires Inv-loop μ-loop
+lay-requires c κs =
+    let l = c .before .before .before in
+    let s = l .before .before in
+    let i = column-within (l .loop .a) (s .args .h) (s .args .w) (omega arith) in
+    let e : l .loop .a * s .args .h + s .args .h - l .loop .a * s .args .h ≡ s .args .h = omega arith in
+    let long : length (take (s .args .h) (drop (l .loop .a * s .args .h) (s .args .p .now))) ≡ s .args .h =
+    length-take-le (s .args .h) (drop (l .loop .a * s .args .h) (s .args .p .now)) (rw length-drop (omega arith)) in
+    rw (e, long)
+    (l .loop .inv .2, (take-symbols sixteen (zero-symbol sixteen sixteen-field) (s .args .h) (drop (l .loop .a * s .args .h) (s .args .p .now)) (drop-symbols sixteen (l .loop .a * s .args .h) (s .args .p .now) (s .pre .0)), (omega arith, omega arith, omega arith)))
+
+add-a : tie.Need-add-a Inv-loop μ-loop
+add-a c = omega arith
+
+loop-less : tie.Need-loop-less Inv-loop μ-loop
+loop-less c = omega arith
+
+loop-again : tie.Need-loop-again Inv-loop μ-loop
+loop-again c =
+    let l = c .before .before .before .before .before in
+    let s = l .before .before in
+    let r = c .before .lay in
+    let e : l .loop .a * s .args .h + s .args .h - l .loop .a * s .args .h ≡ s .args .h = omega arith in (
+      omega arith,
+      omega arith,
+      r .ensures .1,
+      spread-more (s .args .h) (s .args .w) (s .args .p .now) (l .loop .a) (l .loop .q) (r .last .0) (l .loop .inv .3) (rw e at (r .ensures .0)),
+    )
+
+returns : tie.Need-returns Inv-loop μ-loop
+returns c =
+    let l = c .before in
+    let s = l .before .before in
+    let e : l .loop .a ≡ s .args .w = omega arith in
+    (subst (λ (n : ℕ). Spread (s .args .h) (s .args .w) n (s .args .p .now) (l .loop .q)) e (l .loop .inv .3), l .loop .inv .2)
+
+pub spread-spec : {M : Type 1} → statement M
+spread-spec =
+    tie.close
+    (tie.spec
+    Inv-loop
+    μ-loop
+    loop-holds
+    mul-from
+    add-to
+    slice-aggregate-lay
+    sub-lay
+    part-lay-start
+    part-lay-end
+    lay-requires
+    add-a
+    loop-less
+    loop-again
+    returns)
