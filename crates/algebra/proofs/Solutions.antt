@@ -3,17 +3,20 @@
 -- Assumes nothing.
 use mathlib.Core.List.{List, map}
 use mathlib.Core.Path.{_≡_, sym, _∙_, ap, ap₂, subst}
-use Prim.Native.Nat.{ℕ, _<_}
+use Prim.Native.Nat.{ℕ, _≤_, _<_}
 use lib.ListN.{getD}
 use Rattle.definitions.specs.Code.{Symbols}
 use Rattle.definitions.specs.Field.{Ops, Code, numbers}
 use Rattle.definitions.specs.Polynomial.{terms, monomials, hasse, Through}
 use Rattle.definitions.specs.Roots.{plus}
+use Rattle.algebra.specs.Dot.{dot}
 use Rattle.algebra.specs.FieldOf.{FieldOf}
 use Rattle.algebra.proofs.Carry.{carry-plus}
-use Rattle.algebra.proofs.Linear.{passes-plus}
+use Rattle.algebra.proofs.Elements.{element-zero}
+use Rattle.algebra.proofs.Linear.{dot-equal, dot-ended, carry-dot, passes-plus}
 use Rattle.algebra.proofs.Numbers.{elements, numbers-elements, number-at, numbers-symbols, number-hasse}
 use Rattle.algebra.proofs.Passing.{pointElement, multiplicityOf, elements-pass, numbers-pass}
+use Rattle.algebra.proofs.RingLaws.{plus-zero, zero-times}
 
 module _ (C : Code) (F : FieldOf C) where
   -- the operations on elements
@@ -59,3 +62,19 @@ module _ (C : Code) (F : FieldOf C) where
       number-hasse C F (elements C F q) l s t (F .element a) (F .element b)
       ∙ ap (λ (p : List ℕ). hasse N (terms N p l) s t (φ (F .element a)) (φ (F .element b))) (numbers-elements C F q sq)
       ∙ ap₂ (λ (x y : ℕ). hasse N (terms N q l) s t x y) (F .number-element a ha) (F .number-element b hb)
+
+  module _ (r q : ℕ → ℕ) (sr : (k : ℕ) → r k < C .symbols) (sq : (k : ℕ) → q k < C .symbols) where
+    -- a row of symbols times symbols, for that of the elements
+    number-dot : (n : ℕ) → φ (dot G n (λ k. F .element (r k)) (λ k. F .element (q k))) ≡ dot N n r q
+    number-dot n =
+        carry-dot G N (F .number) n (λ k. F .element (r k)) (λ k. F .element (q k))
+        ∙ dot-equal N n _ r _ q (λ k h. F .number-element (r k) (sr k)) (λ k h. F .number-element (q k) (sq k))
+
+    -- symbols that are 0 from j on add nothing
+    pub symbols-ended : (n j : ℕ) → j ≤ n → ((k : ℕ) → j ≤ k → k < n → r k ≡ 0) → dot (numbers C) n r q ≡ dot (numbers C) j r q
+    symbols-ended n j h ends =
+        sym (number-dot n)
+        ∙ ap φ
+        (dot-ended G (plus-zero (F .ring)) n j (λ k. F .element (r k)) (λ k. F .element (q k)) h (λ k l f.
+        ap (λ (x : G .K). G .mul x (F .element (q k))) (ap (F .element) (ends k l f) ∙ element-zero C F) ∙ zero-times (F .ring) (F .element (q k))))
+        ∙ number-dot j

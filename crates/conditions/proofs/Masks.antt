@@ -9,13 +9,14 @@ use native.Mathlib.Omega.{arith}
 use borrow.Author.Tests.{eq-eqb, ne-eqb}
 use lib.Dec.{eqb, eqb·suc-zero}
 use lib.ListN.{length, getD}
+use Rattle.algebra.proofs.Elements.{one-symbol}
 use Rattle.algebra.proofs.Numbers.{power-symbol}
+use Rattle.algebra.specs.FieldOf.{FieldOf}
 use Rattle.definitions.proofs.Joined.{join-nil}
 use Rattle.definitions.proofs.Tools.{below-zero, length-map-below}
 use Rattle.definitions.specs.Code.{Symbols}
-use Rattle.definitions.specs.Field.{numbers, sixteen, power}
+use Rattle.definitions.specs.Field.{Code, numbers, power}
 use Rattle.definitions.specs.Tools.{below}
-use Rattle.instances.proofs.Codes.{sixteen-field}
 use Rattle.blocks.proofs.Filled.{filled-at, filled-rest, filled-symbols}
 use Rattle.blocks.specs.Row.{width, filled}
 use Rattle.conditions.proofs.Walk.{walked-le}
@@ -40,14 +41,15 @@ pub orders-none : (row : List ℕ) (es : List (List ℕ)) (b m : ℕ) → m ≡ 
 orders-none row es b m e =
     ap (λ (n : ℕ). flatMap (orderAt row es b m) (below n)) e ∙ ap (flatMap (orderAt row es b m)) below-zero ∙ join-nil (orderAt row es b m)
 
--- a row of powers of a symbol is a row of symbols
-pub powers-symbols : (n x : ℕ) → x < sixteen .symbols → Symbols sixteen (powersRow n x)
-powers-symbols n x h = filled-symbols sixteen sixteen-field (power (numbers sixteen) x) n (λ e _. power-symbol sixteen sixteen-field x h e)
+module _ (C : Code) (F : FieldOf C) where
+  -- a row of powers of a symbol is a row of symbols
+  pub powers-symbols : (n x : ℕ) → x < C .symbols → Symbols C (powersRow C n x)
+  powers-symbols n x h = filled-symbols C F (power (numbers C) x) n (λ e _. power-symbol C F x h e)
 
--- the powers of y are taken of a symbol
-pub base-symbol : (b : ℕ) → b < sixteen .symbols → baseAt b < sixteen .symbols
-base-symbol zero h = omega arith
-base-symbol (suc b) h = rw (eqb·suc-zero b) h
+  -- the powers of y are taken of a symbol
+  pub base-symbol : (b : ℕ) → b < C .symbols → baseAt b < C .symbols
+  base-symbol zero h = one-symbol C F
+  base-symbol (suc b) h = rw (eqb·suc-zero b) h
 
 -- a row of places, where they are filled in
 filled-places : (f : ℕ → ℕ) (count : ℕ) → count ≤ width → ((k : ℕ) → f k ≤ k) → (k : ℕ) → getD (filled count f) k 0 < width

@@ -8,7 +8,7 @@ use lib.Dec.{eqb}
 use lib.ListN.{getD}
 use Rattle.algebra.specs.Grid.{entryOf}
 use Rattle.definitions.specs.Code.{point}
-use Rattle.definitions.specs.Field.{numbers, sixteen, power}
+use Rattle.definitions.specs.Field.{Code, numbers, power}
 use Rattle.definitions.specs.Tools.{below}
 use Rattle.conditions.specs.Walk.{walked}
 use Rattle.blocks.specs.Row.{width, filled}
@@ -22,12 +22,12 @@ abbrev pub Places : List (List ℕ) → Type 0
 Places es = (i k : ℕ) → entryOf es i k < width
 
 -- the first n powers of x
-abbrev pub powersRow : ℕ → ℕ → List ℕ
-powersRow n x = filled n (λ (e : ℕ). power (numbers sixteen) x e)
+abbrev pub powersRow : Code → ℕ → ℕ → List ℕ
+powersRow C n x = filled n (λ (e : ℕ). power (numbers C) x e)
 
 -- the monomials' values, of the powers of x and of y
-abbrev pub valuesRow : ℕ → List ℕ → List ℕ → List (List ℕ) → List ℕ
-valuesRow count px py es = filled count (λ (k : ℕ). sixteen .times (getD px (entryOf es 0 k) 0) (getD py (entryOf es 1 k) 0))
+abbrev pub valuesRow : Code → ℕ → List ℕ → List ℕ → List (List ℕ) → List ℕ
+valuesRow C count px py es = filled count (λ (k : ℕ). C .times (getD px (entryOf es 0 k) 0) (getD py (entryOf es 1 k) 0))
 
 -- 255 where a power has, of the bits asked for, just those of the order, else 0
 abbrev pub maskByte : ℕ → ℕ → ℕ → ℕ
@@ -58,21 +58,21 @@ abbrev pub keptOrders : List ℕ → List (List ℕ) → ℕ → ℕ → List (L
 keptOrders row es b m = flatMap (orderAt row es b m) (below m)
 
 -- the rows of a point of multiplicity m
-abbrev pub maskedPoint : List ℕ → ℕ → ℕ → List (List ℕ) → ℕ → ℕ → List (List ℕ)
-maskedPoint px n count es b m = keptOrders (valuesRow count px (powersRow n (baseAt b)) es) es b m
+abbrev pub maskedPoint : Code → List ℕ → ℕ → ℕ → List (List ℕ) → ℕ → ℕ → List (List ℕ)
+maskedPoint C px n count es b m = keptOrders (valuesRow C count px (powersRow C n (baseAt b)) es) es b m
 
 -- the rows of a symbol at a position
-abbrev pub pointAt : List ℕ → ℕ → ℕ → List (List ℕ) → List ℕ → ℕ → List (List ℕ)
-pointAt px n count es column b = maskedPoint px n count es b (getD column b 0)
+abbrev pub pointAt : Code → List ℕ → ℕ → ℕ → List (List ℕ) → List ℕ → ℕ → List (List ℕ)
+pointAt C px n count es column b = maskedPoint C px n count es b (getD column b 0)
 
 -- the rows of a position
-abbrev pub maskedColumn : List ℕ → ℕ → ℕ → List (List ℕ) → List ℕ → List (List ℕ)
-maskedColumn px n count es column = flatMap (pointAt px n count es column) (below (sixteen .symbols))
+abbrev pub maskedColumn : Code → List ℕ → ℕ → ℕ → List (List ℕ) → List ℕ → List (List ℕ)
+maskedColumn C px n count es column = flatMap (pointAt C px n count es column) (below (C .symbols))
 
 -- the rows of position i of a matrix
-abbrev pub columnAt : ℕ → ℕ → ℕ → List (List ℕ) → ℕ → List (List ℕ)
-columnAt v d count a i = maskedColumn (powersRow (d + 1) (point sixteen i)) (d / v + 1) count (exponentRows v count) (getD a i [])
+abbrev pub columnAt : Code → ℕ → ℕ → ℕ → List (List ℕ) → ℕ → List (List ℕ)
+columnAt C v d count a i = maskedColumn C (powersRow C (d + 1) (point C i)) (d / v + 1) count (exponentRows v count) (getD a i [])
 
 -- the rows of a matrix
-abbrev pub maskedRows : ℕ → ℕ → ℕ → List (List ℕ) → List (List ℕ)
-maskedRows v d count a = flatMap (columnAt v d count a) (below (sixteen .positions))
+abbrev pub maskedRows : Code → ℕ → ℕ → ℕ → List (List ℕ) → List (List ℕ)
+maskedRows C v d count a = flatMap (columnAt C v d count a) (below (C .positions))

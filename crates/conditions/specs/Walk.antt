@@ -1,15 +1,8 @@
 -- A walk along the monomials in their order.
 -- Assumes nothing.
 use mathlib.Core.Bool.{cond}
-use mathlib.Core.List.{List, [], map, flatMap}
-use Prim.Native.Nat.{ℕ, zero, suc, _+_, _-_, _/_}
+use Prim.Native.Nat.{ℕ, zero, suc, _+_, _-_}
 use lib.Dec.{leb}
-use lib.ListN.{getD}
-use Rattle.definitions.specs.Code.{point}
-use Rattle.definitions.specs.Field.{numbers, sixteen}
-use Rattle.definitions.specs.Polynomial.{derivative}
-use Rattle.definitions.specs.Tools.{below}
-use Rattle.blocks.specs.Row.{filled}
 
 -- a monomial on the walk: the powers of x and y, and the weighted degree
 abbrev pub Place : Type 0

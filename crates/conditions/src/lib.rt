@@ -45,7 +45,7 @@ fn exponents(v: usize, count: usize) -> [[u8; WIDTH]; 2]
 fn powers(table: &[u8; 256], x: u8, n: usize) -> [u8; WIDTH]
     requires { ⌜ Products (now table) ⌝ }
     requires { ⌜ (x < sixteen .symbols) × (n ≤ width) ⌝ }
-    ensures { λ r. ⌜ r ≡ powersRow n x ⌝ }
+    ensures { λ r. ⌜ r ≡ powersRow sixteen n x ⌝ }
 {
     let mut row = [0u8; WIDTH];
     let mut next = 1u8;
@@ -69,7 +69,7 @@ fn values(
     requires { ⌜ Products (now table) ⌝ }
     requires { ⌜ Symbols sixteen (now px) × Symbols sixteen (now py) ⌝ }
     requires { ⌜ Places (now es) × (count ≤ width) ⌝ }
-    ensures { λ r. ⌜ r ≡ valuesRow count (now (px .entry)) (now (py .entry)) (now (es .entry)) ⌝ }
+    ensures { λ r. ⌜ r ≡ valuesRow sixteen count (now (px .entry)) (now (py .entry)) (now (es .entry)) ⌝ }
 {
     let mut row = [0u8; WIDTH];
     let mut place = 0;
@@ -186,9 +186,9 @@ fn point_rows(
     requires { ⌜ Products (now table) ⌝ }
     requires { ⌜ Symbols sixteen (now px) × Places (now es) ⌝ }
     requires { ⌜ (b < sixteen .symbols) × (n ≤ width) × (count ≤ width) ⌝ }
-    requires { ⌜ at + length (maskedPoint (now px) n count (now es) b m) ≤ length (now rows) ⌝ }
-    ensures { λ r. ⌜ r ≡ at + length (maskedPoint (now (px .entry)) n count (now (es .entry)) b m) ⌝ }
-    ensures { λ _. ⌜ now (rows .exit) ≡ sets (now (rows .entry)) at (maskedPoint (now (px .entry)) n count (now (es .entry)) b m) ⌝ }
+    requires { ⌜ at + length (maskedPoint sixteen (now px) n count (now es) b m) ≤ length (now rows) ⌝ }
+    ensures { λ r. ⌜ r ≡ at + length (maskedPoint sixteen (now (px .entry)) n count (now (es .entry)) b m) ⌝ }
+    ensures { λ _. ⌜ now (rows .exit) ≡ sets (now (rows .entry)) at (maskedPoint sixteen (now (px .entry)) n count (now (es .entry)) b m) ⌝ }
 {
     if m == 0 {
         return at;
@@ -212,9 +212,9 @@ fn column_rows(
     requires { ⌜ Products (now table) ⌝ }
     requires { ⌜ Symbols sixteen (now px) × Places (now es) ⌝ }
     requires { ⌜ (n ≤ width) × (count ≤ width) ⌝ }
-    requires { ⌜ at + length (maskedColumn (now px) n count (now es) (now column)) ≤ length (now rows) ⌝ }
-    ensures { λ r. ⌜ r ≡ at + length (maskedColumn (now (px .entry)) n count (now (es .entry)) (now (column .entry))) ⌝ }
-    ensures { λ _. ⌜ now (rows .exit) ≡ sets (now (rows .entry)) at (maskedColumn (now (px .entry)) n count (now (es .entry)) (now (column .entry))) ⌝ }
+    requires { ⌜ at + length (maskedColumn sixteen (now px) n count (now es) (now column)) ≤ length (now rows) ⌝ }
+    ensures { λ r. ⌜ r ≡ at + length (maskedColumn sixteen (now (px .entry)) n count (now (es .entry)) (now (column .entry))) ⌝ }
+    ensures { λ _. ⌜ now (rows .exit) ≡ sets (now (rows .entry)) at (maskedColumn sixteen (now (px .entry)) n count (now (es .entry)) (now (column .entry))) ⌝ }
 {
     let mut next = at;
     let mut b = 0u8;
@@ -237,9 +237,9 @@ pub fn matrix_rows(
 ) -> usize
     requires { ⌜ Products (now table) ⌝ }
     requires { ⌜ (0 < v) × (d < width) × (count ≤ width) ⌝ }
-    requires { ⌜ length (maskedRows v d count (now matrix)) ≤ length (now rows) ⌝ }
-    ensures { λ r. ⌜ r ≡ length (maskedRows v d count (now (matrix .entry))) ⌝ }
-    ensures { λ _. ⌜ now (rows .exit) ≡ sets (now (rows .entry)) 0 (maskedRows v d count (now (matrix .entry))) ⌝ }
+    requires { ⌜ length (maskedRows sixteen v d count (now matrix)) ≤ length (now rows) ⌝ }
+    ensures { λ r. ⌜ r ≡ length (maskedRows sixteen v d count (now (matrix .entry))) ⌝ }
+    ensures { λ _. ⌜ now (rows .exit) ≡ sets (now (rows .entry)) 0 (maskedRows sixteen v d count (now (matrix .entry))) ⌝ }
 {
     let es = exponents(v, count);
     let mut next = 0;

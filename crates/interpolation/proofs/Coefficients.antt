@@ -80,7 +80,7 @@ module _ (a : List (List ℕ)) (v D w cost : ℕ) (out : List ℕ) (g : Given a 
   row-fits = count-small v D w a (g .weighted) (g .low) (let p = g .priced in let c = g .cheap in omega arith) (g .bounded) (g .counted)
 
   -- there are as many rows as the matrix costs
-  pub rows-priced : length (maskedRows v D w a) ≡ cost
+  pub rows-priced : length (maskedRows sixteen v D w a) ≡ cost
   rows-priced = length-conditions v D w a ∙ sym (g .priced)
 
   -- and more monomials
@@ -90,28 +90,28 @@ module _ (a : List (List ℕ)) (v D w cost : ℕ) (out : List ℕ) (g : Given a 
       let e = g .counted in let p = g .priced in omega arith
 
   -- the rows of the system that holds them
-  module _ (o start : List (List ℕ)) (so : System sixteen o) (room : cost ≤ length o) (is-start : start ≡ sets o 0 (maskedRows v D w a)) where
+  module _ (o start : List (List ℕ)) (so : System sixteen o) (room : cost ≤ length o) (is-start : start ≡ sets o 0 (maskedRows sixteen v D w a)) where
     -- the conditions are a system
     pub start-system : System sixteen start
     start-system =
-        let there : length (maskedRows v D (count v D) a) ≤ length o = (let e = rows-priced in let p = ap (λ (n : ℕ). length (maskedRows v D n a)) (g .counted) in omega arith) in
+        let there : length (maskedRows sixteen v D (count v D) a) ≤ length o = (let e = rows-priced in let p = ap (λ (n : ℕ). length (maskedRows sixteen v D n a)) (g .counted) in omega arith) in
         let fits : count v D ≤ width = (let f = row-fits in let c = g .counted in omega arith) in
-        subst (System sixteen) (sym (is-start ∙ ap (λ (n : ℕ). sets o 0 (maskedRows v D n a)) (g .counted))) (record {
-          wide = λ t h. conditions-wide v D (g .weighted) fits a o there t (so .wide t (let e = length-sets o 0 (maskedRows v D (count v D) a) in omega arith));
+        subst (System sixteen) (sym (is-start ∙ ap (λ (n : ℕ). sets o 0 (maskedRows sixteen v D n a)) (g .counted))) (record {
+          wide = λ t h. conditions-wide v D (g .weighted) fits a o there t (so .wide t (let e = length-sets o 0 (maskedRows sixteen v D (count v D) a) in omega arith));
           symbols = λ r. conditions-symbols v D (g .weighted) fits a o there r (so .symbols r);
         })
 
     -- and their blocks are within it
-    pub start-within : (rows : ℕ) → rows ≡ length (maskedRows v D w a) → Within rows (cost / block + 1) start
+    pub start-within : (rows : ℕ) → rows ≡ length (maskedRows sixteen v D w a) → Within rows (cost / block + 1) start
     start-within rows e =
         let p = rows-priced in let c = g .cheap in
-        let n = ap length is-start ∙ length-sets o 0 (maskedRows v D w a) in
+        let n = ap length is-start ∙ length-sets o 0 (maskedRows sixteen v D w a) in
         record { there = omega arith; few = omega arith; fewer = omega arith; inside = omega arith }
 
 -- ---- the coefficients
 
 module _ (a : List (List ℕ)) (v D cost : ℕ) (out : List ℕ) (g : Given a v D (count v D) cost out) (o start b : List (List ℕ)) (so : System sixteen o) (room : cost ≤ length o)
-    (is-start : start ≡ sets o 0 (maskedRows v D (count v D) a)) (rows j : ℕ) (is-rows : rows ≡ length (maskedRows v D (count v D) a)) (low : j ≤ rows)
+    (is-start : start ≡ sets o 0 (maskedRows sixteen v D (count v D) a)) (rows j : ℕ) (is-rows : rows ≡ length (maskedRows sixteen v D (count v D) a)) (low : j ≤ rows)
     (e : Eliminated sixteen rows ((cost / block + 1) * block) j start b) (reduced : Reduced rows j b) (led after : List ℕ) (l : Led j (count v D) out led)
     (s : Solved sixteen j 0 b led after) where
   -- those that are written
@@ -169,14 +169,14 @@ module _ (a : List (List ℕ)) (v D cost : ℕ) (out : List ℕ) (g : Given a v 
 
   module _ (m : List ℕ) (n : ℕ) (small : n ≤ sixteen .positions) (full : length m ≡ sixteen .symbols * n) (loaded : a ≡ matrixOf sixteen m n) where
     -- the conditions are there
-    there : length (maskedRows v D (count v D) a) ≤ length o
+    there : length (maskedRows sixteen v D (count v D) a) ≤ length o
     there = let p = rows-priced a v D (count v D) cost out g in omega arith
 
     -- they pass
     passes : Through sixteen n v D m q
     passes =
         solves-through m n v D small full (g .weighted) (row-fits a v D (count v D) cost out g) a loaded q symbols o there
-        (subst (λ (x : List (List ℕ)). Solves sixteen (length (maskedRows v D (count v D) a)) width x q) is-start
+        (subst (λ (x : List (List ℕ)). Solves sixteen (length (maskedRows sixteen v D (count v D) a)) width x q) is-start
         (subst (λ (r : ℕ). Solves sixteen r width start q) is-rows solves))
 
     -- what passes and ends earlier is zero
@@ -188,7 +188,7 @@ module _ (a : List (List ℕ)) (v D cost : ℕ) (out : List ℕ) (g : Given a v 
               narrow-least sixteen sixteen-field rows width ((cost / block + 1) * block) start start b (begun .symbols) (begun .symbols) (e .system .symbols) (within .inside)
               (λ r k _ _. refl) (e .same) j (let w = within .fewer in omega arith) low reduced p sp
               (subst (λ (r : ℕ). Solves sixteen r width start p) (sym is-rows)
-              (subst (λ (x : List (List ℕ)). Solves sixteen (length (maskedRows v D (count v D) a)) width x p) (sym is-start)
+              (subst (λ (x : List (List ℕ)). Solves sixteen (length (maskedRows sixteen v D (count v D) a)) width x p) (sym is-start)
               (through-solves m n v D small full (g .weighted) (row-fits a v D (count v D) cost out g) a loaded p sp o there through)))
               (λ i low _. zero-after p i (omega arith)) k i
           | no i ↦ List·getD-eq-default p 0 {n = k} (let w = row-fits a v D (count v D) cost out g in omega arith)
@@ -221,11 +221,11 @@ module _ (a : List (List ℕ)) (v D cost : ℕ) (out : List ℕ) (g : Given a v 
 
 -- the function's answer
 pub polynomial-found : (a : List (List ℕ)) (v D w cost : ℕ) (out : List ℕ) → Given a v D w cost out → (o start b : List (List ℕ)) → System sixteen o → cost ≤ length o
-    → start ≡ sets o 0 (maskedRows v D w a) → (rows j : ℕ) → rows ≡ length (maskedRows v D w a) → j ≤ rows
+    → start ≡ sets o 0 (maskedRows sixteen v D w a) → (rows j : ℕ) → rows ≡ length (maskedRows sixteen v D w a) → j ≤ rows
     → Eliminated sixteen rows ((cost / block + 1) * block) j start b → Reduced rows j b
     → (led after : List ℕ) → Led j w out led → Solved sixteen j 0 b led after → Found a v D out j after
 polynomial-found a v D w cost out g o start b so room is-start rows j is-rows low e reduced led after =
     subst
     (λ (n : ℕ).
-    Given a v D n cost out → start ≡ sets o 0 (maskedRows v D n a) → rows ≡ length (maskedRows v D n a) → Led j n out led → Solved sixteen j 0 b led after → Found a v D out j after)
+    Given a v D n cost out → start ≡ sets o 0 (maskedRows sixteen v D n a) → rows ≡ length (maskedRows sixteen v D n a) → Led j n out led → Solved sixteen j 0 b led after → Found a v D out j after)
     (sym (g .counted)) (λ g is-start is-rows l s. found a v D cost out g o start b so room is-start rows j is-rows low e reduced led after l s) g is-start is-rows

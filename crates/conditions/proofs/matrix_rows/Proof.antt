@@ -24,8 +24,8 @@ use Rattle.conditions.proofs.matrix_rows.Tie as tie
 
 abbrev Inv-loop : tie.InvT-loop
 Inv-loop rows₀ table matrix v d count es next₀ a₀ i₀ rows next a i =
-    (i ≤ sixteen .positions) × (length rows ≡ length rows₀) × (a ≡ point sixteen i) × (next ≡ 0 + length (flatMap (columnAt v d count matrix) (below i)))
-    × (rows ≡ sets rows₀ 0 (flatMap (columnAt v d count matrix) (below i)))
+    (i ≤ sixteen .positions) × (length rows ≡ length rows₀) × (a ≡ point sixteen i) × (next ≡ 0 + length (flatMap (columnAt sixteen v d count matrix) (below i)))
+    × (rows ≡ sets rows₀ 0 (flatMap (columnAt sixteen v d count matrix) (below i)))
 
 abbrev μ-loop : tie.MeasureT-loop
 μ-loop rows₀ table matrix v d count es next₀ a₀ i₀ rows next a i = sixteen .positions - i
@@ -33,7 +33,7 @@ abbrev μ-loop : tie.MeasureT-loop
 loop-holds : tie.Need-loop-holds Inv-loop μ-loop
 loop-holds c =
     let a = c .before .args in
-    let f = columnAt (a .v) (a .d) (a .count) (a .matrix .now) in
+    let f = columnAt sixteen (a .v) (a .d) (a .count) (a .matrix .now) in
     (omega arith, refl, sym (power-zero (numbers sixteen) 2), none-counted f (a .rows .now) 0, joined-none f (a .rows .now) 0)
 
 -- the point is a symbol
@@ -44,17 +44,18 @@ powers-requires : tie.Need-powers-requires Inv-loop μ-loop
 powers-requires c κs = let h = symbol (c .before) in (c .before .before .before .pre .0, (h, omega arith))
 
 -- the powers of the position's point
-of-x : (c : tie.After-powers Inv-loop μ-loop) → (let l = c .before .before in c .powers .result ≡ powersRow (l .before .before .args .d + 1) (point sixteen (l .loop .i)))
-of-x c = let l = c .before .before in c .powers .ensures ∙ ap (powersRow (l .before .before .args .d + 1)) (l .loop .inv .2)
+of-x : (c : tie.After-powers Inv-loop μ-loop) → (let l = c .before .before in c .powers .result ≡ powersRow sixteen (l .before .before .args .d + 1) (point sixteen (l .loop .i)))
+of-x c = let l = c .before .before in c .powers .ensures ∙ ap (powersRow sixteen (l .before .before .args .d + 1)) (l .loop .inv .2)
 
 -- what is put are the rows of the position
 is-column : (c : tie.After-powers Inv-loop μ-loop)
     → (let l = c .before .before in let a = l .before .before .args in
-    maskedColumn (c .powers .result) (a .d / a .v + 1) (a .count) (l .before .exponents .result) (getD (a .matrix .now) (l .loop .i) []) ≡ columnAt (a .v) (a .d) (a .count) (a .matrix .now) (l .loop .i))
+    maskedColumn sixteen (c .powers .result) (a .d / a .v + 1) (a .count) (l .before .exponents .result) (getD (a .matrix .now) (l .loop .i) [])
+    ≡ columnAt sixteen (a .v) (a .d) (a .count) (a .matrix .now) (l .loop .i))
 is-column c =
     let l = c .before .before in
     let a = l .before .before .args in
-    ap₂ (λ (px : List ℕ) (es : List (List ℕ)). maskedColumn px (a .d / a .v + 1) (a .count) es (getD (a .matrix .now) (l .loop .i) [])) (of-x c) (l .before .exponents .ensures)
+    ap₂ (λ (px : List ℕ) (es : List (List ℕ)). maskedColumn sixteen px (a .d / a .v + 1) (a .count) es (getD (a .matrix .now) (l .loop .i) [])) (of-x c) (l .before .exponents .ensures)
 
 -- the powers of y fit into a row
 few : (c : tie.Start Inv-loop μ-loop) → c .args .d / c .args .v + 1 ≤ width
@@ -69,12 +70,12 @@ column-rows-requires c κs =
     let l = p .before .before in
     let s = l .before .before in
     let a = s .args in
-    let fits = joined-room (columnAt (a .v) (a .d) (a .count) (a .matrix .now)) (sixteen .positions) (l .loop .i) (omega arith) in
-    let room : l .loop .next + length (columnAt (a .v) (a .d) (a .count) (a .matrix .now) (l .loop .i)) ≤ length (l .loop .rows) = omega arith in (
+    let fits = joined-room (columnAt sixteen (a .v) (a .d) (a .count) (a .matrix .now)) (sixteen .positions) (l .loop .i) (omega arith) in
+    let room : l .loop .next + length (columnAt sixteen (a .v) (a .d) (a .count) (a .matrix .now) (l .loop .i)) ≤ length (l .loop .rows) = omega arith in (
       s .pre .0,
       (
         (
-          subst (Symbols sixteen) (sym (of-x p)) (powers-symbols (a .d + 1) (point sixteen (l .loop .i)) (point-symbol sixteen sixteen-field (l .loop .i))),
+          subst (Symbols sixteen) (sym (of-x p)) (powers-symbols sixteen sixteen-field (a .d + 1) (point sixteen (l .loop .i)) (point-symbol sixteen sixteen-field (l .loop .i))),
           subst Places (sym (l .before .exponents .ensures)) (exponents-places (a .v) (omega arith) (a .count) (omega arith)),
         ),
         ((few s, omega arith), subst (λ (rows : List (List ℕ)). l .loop .next + length rows ≤ length (l .loop .rows)) (sym (is-column p)) room),
@@ -92,7 +93,7 @@ loop-again c =
     let p = m .before .before .before .before .before in
     let l = p .before .before in
     let a = l .before .before .args in
-    let f = columnAt (a .v) (a .d) (a .count) (a .matrix .now) in (
+    let f = columnAt sixteen (a .v) (a .d) (a .count) (a .matrix .now) in (
       omega arith,
       search needs,
       c .look .ensures ∙ ap (sixteen .times 2) (l .loop .inv .2) ∙ sym (power-suc (numbers sixteen) 2 (l .loop .i)) ∙ ap (point sixteen) (sym (add-one (l .loop .i))),
@@ -107,7 +108,7 @@ returns c =
     let l = c .before in
     let a = l .before .before .args in
     let e : l .loop .i ≡ sixteen .positions = omega arith in
-    let n : l .loop .next ≡ 0 + length (maskedRows (a .v) (a .d) (a .count) (a .matrix .now)) = rw e at (l .loop .inv .3) in
+    let n : l .loop .next ≡ 0 + length (maskedRows sixteen (a .v) (a .d) (a .count) (a .matrix .now)) = rw e at (l .loop .inv .3) in
     (omega arith, rw e at (l .loop .inv .4))
 
 pub matrix-rows-spec : {M : Type 1} → statement M

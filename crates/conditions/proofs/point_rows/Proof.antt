@@ -10,40 +10,42 @@ use Rattle.conditions.proofs.Masks.{orders-none, powers-symbols, base-s
 use Rattle.conditions.specs.Masks.{baseAt, powersRow, valuesRow, keptOrders}
 use Rattle.definitions.specs.Code.{Symbols}
 use Rattle.definitions.specs.Field.{sixteen}
+use Rattle.instances.proofs.Codes.{sixteen-field}
 use Rattle.conditions.proofs.point_rows.Statement.{statement}
 use Rattle.conditions.proofs.point_rows.Tie as tie
 
 returns : tie.Need-returns
 returns c =
     let a = c .before .args in
-    let none = orders-none (valuesRow (a .count) (a .px .now) (powersRow (a .n) (baseAt (a .b))) (a .es .now)) (a .es .now) (a .b) (a .m) (c .if1 .taken) in
+    let none = orders-none (valuesRow sixteen (a .count) (a .px .now) (powersRow sixteen (a .n) (baseAt (a .b))) (a .es .now)) (a .es .now) (a .b) (a .m) (c .if1 .taken) in
     (omega (arith, ap length none), ap (sets (a .rows .now) (a .at)) (sym none))
 
 powers-requires : tie.Need-powers-requires
 powers-requires c κs =
     let s = c .before .before in
-    let h = base-symbol (s .args .b) (omega arith) in
+    let h = base-symbol sixteen sixteen-field (s .args .b) (omega arith) in
     let e = c .base-at .ensures in
     (s .pre .0, (omega arith, omega arith))
 
 -- the powers of y
-of-y : (c : tie.After-powers) → (let a = c .before .before .before .args in c .powers .result ≡ powersRow (a .n) (baseAt (a .b)))
-of-y c = c .powers .ensures ∙ ap (powersRow (c .before .before .before .args .n)) (c .before .base-at .ensures)
+of-y : (c : tie.After-powers) → (let a = c .before .before .before .args in c .powers .result ≡ powersRow sixteen (a .n) (baseAt (a .b)))
+of-y c = c .powers .ensures ∙ ap (powersRow sixteen (c .before .before .before .args .n)) (c .before .base-at .ensures)
 
 values-requires : tie.Need-values-requires
 values-requires c κs =
     let p = c .before in
     let s = p .before .before .before in
     let a = s .args in
-    (s .pre .0, ((s .pre .1 .0 .0, subst (Symbols sixteen) (sym (of-y p)) (powers-symbols (a .n) (baseAt (a .b)) (base-symbol (a .b) (omega arith)))), (s .pre .1 .0 .1, omega arith)))
+    let y = powers-symbols sixteen sixteen-field (a .n) (baseAt (a .b)) (base-symbol sixteen sixteen-field (a .b) (omega arith)) in
+    (s .pre .0, ((s .pre .1 .0 .0, subst (Symbols sixteen) (sym (of-y p)) y), (s .pre .1 .0 .1, omega arith)))
 
 -- the values at the point
 at-point : (c : tie.After-values)
-    → (let a = c .before .before .before .before .before .args in c .values .result ≡ valuesRow (a .count) (a .px .now) (powersRow (a .n) (baseAt (a .b))) (a .es .now))
+    → (let a = c .before .before .before .before .before .args in c .values .result ≡ valuesRow sixteen (a .count) (a .px .now) (powersRow sixteen (a .n) (baseAt (a .b))) (a .es .now))
 at-point c =
     let p = c .before .before in
     let a = p .before .before .before .args in
-    c .values .ensures ∙ ap (λ (py : List ℕ). valuesRow (a .count) (a .px .now) py (a .es .now)) (of-y p)
+    c .values .ensures ∙ ap (λ (py : List ℕ). valuesRow sixteen (a .count) (a .px .now) py (a .es .now)) (of-y p)
 
 orders-rows-requires : tie.Need-orders-rows-requires
 orders-rows-requires c κs =
