@@ -128,7 +128,7 @@ interpolation-narrow n k G m out answer after =
     let paid = cost-means G m c in
     last (λ found.
     let size = found .1 .size in
-    let wide = width-fits (k - 1) (cost m) (omega arith) (omega arith) (omega arith) in
+    let wide = width-fits (k - 1) (cost m) (omega arith) (omega arith) in
     let degree = bound-le (k - 1) (omega arith) (cost m) in
     rw (found .2) (interpolated-narrow (bound (k - 1) (cost m)) (length (found .0)) (omega arith) (omega arith))))))))))
   where

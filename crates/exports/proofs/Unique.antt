@@ -14,6 +14,7 @@ use Rattle.exports.specs.declared.Answer as crossing
 use Rattle.field.proofs.Unique.{one-element}
 use Rattle.field.specs.Element.{toldElement}
 use Rattle.field.specs.declared.Element.{Element}
+use Rattle.instances.proofs.Codes.{sixteen-field}
 use Rattle.interpolation.proofs.Unique.{interpolation-unique, numbers-unique}
 use Rattle.interpolation.specs.Interpolated.{toldInterpolated}
 use Rattle.interpolation.specs.declared.Interpolated.{Interpolated}
@@ -92,4 +93,4 @@ pub crossing-interpolate-unique : (n k G : ℕ) (m out : List ℕ) (x y : crossi
     → InterpolationAnswers sixteen n k G m out (answerOf x) after → InterpolationAnswers sixteen n k G m out (answerOf y) again
     → (x ≡ y) × (after ≡ again)
 crossing-interpolate-unique n k G m out x y after again p q =
-    let u = numbers-unique n k G m out (answerOf x) (answerOf y) after again p q in (crossing-unique (answerOf y) x y (u .0) refl, u .1)
+    let u = numbers-unique sixteen sixteen-field n k G m out (answerOf x) (answerOf y) after again p q in (crossing-unique (answerOf y) x y (u .0) refl, u .1)

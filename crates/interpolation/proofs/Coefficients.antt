@@ -9,12 +9,13 @@ use native.Mathlib.Decide.{decLt, ℕ-discrete}
 use native.Mathlib.Omega.{arith}
 use lib.ListN.{length, take, drop, getD, set, length-set, List·getD-eq-default}
 use lib.Seq.{sets, length-sets, getD-set-same, getD-set-other}
+use Rattle.algebra.specs.FieldOf.{FieldOf}
 use Rattle.conditions.specs.Masks.{maskedRows}
 use Rattle.definitions.proofs.Bound.{bound-le, bound-is-least}
 use Rattle.definitions.proofs.Zeros.{isZero-of-zeros, isZero-false}
 use Rattle.definitions.specs.Bound.{count, bound}
 use Rattle.definitions.specs.Code.{Symbols}
-use Rattle.definitions.specs.Field.{sixteen}
+use Rattle.definitions.specs.Field.{Code}
 use Rattle.definitions.specs.Limits.{greatestLimit}
 use Rattle.definitions.specs.Polynomial.{Interpolates, Through, isZero, leading}
 use Rattle.elimination.specs.System.{System, Within, Eliminated}
@@ -23,7 +24,6 @@ use Rattle.linear.proofs.Leading.{zero-after, leading-is}
 use Rattle.linear.proofs.Narrow.{narrow-solves, narrow-least}
 use Rattle.linear.proofs.Symbols.{back-symbols}
 use Rattle.linear.specs.Rows.{Solves, Reduced, Solved, Led}
-use Rattle.instances.proofs.Codes.{sixteen-field}
 use Rattle.interpolation.proofs.Conditions.{length-conditions, conditions-symbols, conditions-wide, through-solves, solves-through}
 use Rattle.interpolation.proofs.Width.{width-fits}
 use Rattle.interpolation.specs.Found.{Given, Found}
@@ -64,84 +64,85 @@ led-whole j n out now low l = record {
 
 -- ---- what is given is within the limits of the functions
 
-module _ (v D w : ℕ) (a : List (List ℕ)) (pos : 0 < v) (hv : v < sixteen .positions) (cheap : matrixCost sixteen a ≤ greatestLimit) (is-bound : D ≡ bound v (matrixCost sixteen a))
-    (is-count : w ≡ count v D) where
-  -- the coefficients fit into a row
-  pub count-small : w ≤ width
-  count-small = let f = subst (λ (d : ℕ). count v d ≤ width) (sym is-bound) (width-fits v (matrixCost sixteen a) pos hv cheap) in omega arith
+-- the coefficients fit into a row
+pub count-small : (v D w price : ℕ) → 0 < v → price ≤ greatestLimit → D ≡ bound v price → w ≡ count v D → w ≤ width
+count-small v D w price pos cheap is-bound is-count =
+    let f = subst (λ (d : ℕ). count v d ≤ width) (sym is-bound) (width-fits v price pos cheap) in omega arith
 
-module _ (a : List (List ℕ)) (v D w cost : ℕ) (out : List ℕ) (g : Given a v D w cost out) where
+module _ (C : Code) (a : List (List ℕ)) (v D w cost : ℕ) (out : List ℕ) (g : Given C a v D w cost out) where
   -- so do the powers of x
   pub degree-small : D < width
-  degree-small = let b = bound-le v (g .weighted) (matrixCost sixteen a) in let e = g .bounded in let p = g .priced in let c = g .cheap in omega arith
+  degree-small = let b = bound-le v (g .weighted) (matrixCost C a) in let e = g .bounded in let p = g .priced in let c = g .cheap in omega arith
 
   -- and the coefficients
   pub row-fits : w ≤ width
-  row-fits = count-small v D w a (g .weighted) (g .low) (let p = g .priced in let c = g .cheap in omega arith) (g .bounded) (g .counted)
+  row-fits = count-small v D w (matrixCost C a) (g .weighted) (let p = g .priced in let c = g .cheap in omega arith) (g .bounded) (g .counted)
 
   -- there are as many rows as the matrix costs
-  pub rows-priced : length (maskedRows sixteen v D w a) ≡ cost
-  rows-priced = length-conditions v D w a ∙ sym (g .priced)
+  pub rows-priced : length (maskedRows C v D w a) ≡ cost
+  rows-priced = length-conditions C v D w a ∙ sym (g .priced)
 
   -- and more monomials
   pub more : cost < w
   more =
-      let f : matrixCost sixteen a < count v D = subst (λ (d : ℕ). matrixCost sixteen a < count v d) (sym (g .bounded)) (bound-is-least v (g .weighted) (matrixCost sixteen a) .0) in
+      let f : matrixCost C a < count v D = subst (λ (d : ℕ). matrixCost C a < count v d) (sym (g .bounded)) (bound-is-least v (g .weighted) (matrixCost C a) .0) in
       let e = g .counted in let p = g .priced in omega arith
 
-  -- the rows of the system that holds them
-  module _ (o start : List (List ℕ)) (so : System sixteen o) (room : cost ≤ length o) (is-start : start ≡ sets o 0 (maskedRows sixteen v D w a)) where
-    -- the conditions are a system
-    pub start-system : System sixteen start
-    start-system =
-        let there : length (maskedRows sixteen v D (count v D) a) ≤ length o = (let e = rows-priced in let p = ap (λ (n : ℕ). length (maskedRows sixteen v D n a)) (g .counted) in omega arith) in
-        let fits : count v D ≤ width = (let f = row-fits in let c = g .counted in omega arith) in
-        subst (System sixteen) (sym (is-start ∙ ap (λ (n : ℕ). sets o 0 (maskedRows sixteen v D n a)) (g .counted))) (record {
-          wide = λ t h. conditions-wide v D (g .weighted) fits a o there t (so .wide t (let e = length-sets o 0 (maskedRows sixteen v D (count v D) a) in omega arith));
-          symbols = λ r. conditions-symbols v D (g .weighted) fits a o there r (so .symbols r);
-        })
+  -- the blocks of the conditions are within the system that holds them
+  pub start-within : (o start : List (List ℕ)) → cost ≤ length o → start ≡ sets o 0 (maskedRows C v D w a) → (rows : ℕ) → rows ≡ length (maskedRows C v D w a)
+      → Within rows (cost / block + 1) start
+  start-within o start room is-start rows e =
+      let p = rows-priced in let c = g .cheap in
+      let n = ap length is-start ∙ length-sets o 0 (maskedRows C v D w a) in
+      record { there = omega arith; few = omega arith; fewer = omega arith; inside = omega arith }
 
-    -- and their blocks are within it
-    pub start-within : (rows : ℕ) → rows ≡ length (maskedRows sixteen v D w a) → Within rows (cost / block + 1) start
-    start-within rows e =
-        let p = rows-priced in let c = g .cheap in
-        let n = ap length is-start ∙ length-sets o 0 (maskedRows sixteen v D w a) in
-        record { there = omega arith; few = omega arith; fewer = omega arith; inside = omega arith }
+-- the conditions are a system
+pub start-system : (C : Code) (F : FieldOf C) → C .symbols ≤ 256 → (a : List (List ℕ)) (v D w cost : ℕ) (out : List ℕ) → Given C a v D w cost out → (o start : List (List ℕ))
+    → System C o → cost ≤ length o → start ≡ sets o 0 (maskedRows C v D w a) → System C start
+start-system C F bytes a v D w cost out g o start so room is-start =
+    let priced = rows-priced C a v D w cost out g in
+    let there : length (maskedRows C v D (count v D) a) ≤ length o = (let p = ap (λ (n : ℕ). length (maskedRows C v D n a)) (g .counted) in omega arith) in
+    let fits : count v D ≤ width = (let f = row-fits C a v D w cost out g in let c = g .counted in omega arith) in
+    subst (System C) (sym (is-start ∙ ap (λ (n : ℕ). sets o 0 (maskedRows C v D n a)) (g .counted))) (record {
+      wide = λ t h. conditions-wide C v D a o there t (so .wide t (let e = length-sets o 0 (maskedRows C v D (count v D) a) in omega arith));
+      symbols = λ r. conditions-symbols C F bytes v D (g .weighted) fits a o there r (so .symbols r);
+    })
 
 -- ---- the coefficients
 
-module _ (a : List (List ℕ)) (v D cost : ℕ) (out : List ℕ) (g : Given a v D (count v D) cost out) (o start b : List (List ℕ)) (so : System sixteen o) (room : cost ≤ length o)
-    (is-start : start ≡ sets o 0 (maskedRows sixteen v D (count v D) a)) (rows j : ℕ) (is-rows : rows ≡ length (maskedRows sixteen v D (count v D) a)) (low : j ≤ rows)
-    (e : Eliminated sixteen rows ((cost / block + 1) * block) j start b) (reduced : Reduced rows j b) (led after : List ℕ) (l : Led j (count v D) out led)
-    (s : Solved sixteen j 0 b led after) where
+module _ (C : Code) (F : FieldOf C) (bytes : C .symbols ≤ 256) (nonzero : C .α ≢ 0) (a : List (List ℕ)) (v D cost : ℕ) (out : List ℕ)
+    (g : Given C a v D (count v D) cost out) (o start b : List (List ℕ)) (so : System C o) (room : cost ≤ length o)
+    (is-start : start ≡ sets o 0 (maskedRows C v D (count v D) a)) (rows j : ℕ) (is-rows : rows ≡ length (maskedRows C v D (count v D) a)) (low : j ≤ rows)
+    (e : Eliminated C rows ((cost / block + 1) * block) j start b) (reduced : Reduced rows j b) (led after : List ℕ) (l : Led j (count v D) out led)
+    (s : Solved C j 0 b led after) where
   -- those that are written
   q : List ℕ
   q = take (count v D) after
 
   -- j is one of their places
   place : j < count v D
-  place = let m = more a v D (count v D) cost out g in let p = rows-priced a v D (count v D) cost out g in omega arith
+  place = let m = more C a v D (count v D) cost out g in let p = rows-priced C a v D (count v D) cost out g in omega arith
 
   -- they are N(D)
   size : length q ≡ count v D
   unfolding q
-  size = coefficients-size sixteen j b (count v D) out led after place (g .room) l s
+  size = coefficients-size C j b (count v D) out led after place (g .room) l s
 
   -- the one at j is 1
   one : getD q j 0 ≡ 1
   unfolding q
-  one = coefficients-one sixteen j b (count v D) out led after place (g .room) l s
+  one = coefficients-one C j b (count v D) out led after place (g .room) l s
 
   -- those after it are zero
   ends : (k : ℕ) → j < k → getD q k 0 ≡ 0
   unfolding q
-  ends = coefficients-end sixteen j b (count v D) out led after place (g .room) l s
+  ends = coefficients-end C j b (count v D) out led after place (g .room) l s
 
   -- all are symbols
-  symbols : Symbols sixteen q
+  symbols : Symbols C q
   unfolding q
   symbols =
-      back-symbols sixteen sixteen-field b j (e .system .symbols) q (coefficients-back sixteen j b (count v D) out led after place (g .room) l s) one ends
+      back-symbols C F b j (e .system .symbols) q (coefficients-back C j b (count v D) out led after place (g .room) l s) one ends
 
   -- the one at j is not zero
   nonzero-at : getD q j 0 ≢ 0
@@ -152,50 +153,50 @@ module _ (a : List (List ℕ)) (v D cost : ℕ) (out : List ℕ) (g : Given a v 
   leads-at = leading-is q j nonzero-at ends
 
   -- the rows that were reduced
-  begun : System sixteen start
-  begun = start-system a v D (count v D) cost out g o start so room is-start
+  begun : System C start
+  begun = start-system C F bytes a v D (count v D) cost out g o start so room is-start
 
   -- and the columns that were
   within : Within rows (cost / block + 1) start
-  within = start-within a v D (count v D) cost out g o start so room is-start rows is-rows
+  within = start-within C a v D (count v D) cost out g o start room is-start rows is-rows
 
   -- they solve the conditions
-  solves : Solves sixteen rows width start q
+  solves : Solves C rows width start q
   unfolding q
   solves =
-      narrow-solves sixteen sixteen-field rows width ((cost / block + 1) * block) start start b (begun .symbols) (begun .symbols) (e .system .symbols) (within .inside)
+      narrow-solves C F rows width ((cost / block + 1) * block) start start b (begun .symbols) (begun .symbols) (e .system .symbols) (within .inside)
       (λ r k _ _. refl) (e .same) j (let w = within .fewer in omega arith) low reduced q symbols
-      (coefficients-back sixteen j b (count v D) out led after place (g .room) l s) one (λ k h _. ends k h)
+      (coefficients-back C j b (count v D) out led after place (g .room) l s) one (λ k h _. ends k h)
 
-  module _ (m : List ℕ) (n : ℕ) (small : n ≤ sixteen .positions) (full : length m ≡ sixteen .symbols * n) (loaded : a ≡ matrixOf sixteen m n) where
+  module _ (m : List ℕ) (n : ℕ) (small : n ≤ C .positions) (full : length m ≡ C .symbols * n) (loaded : a ≡ matrixOf C m n) where
     -- the conditions are there
-    there : length (maskedRows sixteen v D (count v D) a) ≤ length o
-    there = let p = rows-priced a v D (count v D) cost out g in omega arith
+    there : length (maskedRows C v D (count v D) a) ≤ length o
+    there = let p = rows-priced C a v D (count v D) cost out g in omega arith
 
     -- they pass
-    passes : Through sixteen n v D m q
+    passes : Through C n v D m q
     passes =
-        solves-through m n v D small full (g .weighted) (row-fits a v D (count v D) cost out g) a loaded q symbols o there
-        (subst (λ (x : List (List ℕ)). Solves sixteen (length (maskedRows sixteen v D (count v D) a)) width x q) is-start
-        (subst (λ (r : ℕ). Solves sixteen r width start q) is-rows solves))
+        solves-through C F bytes nonzero m n v D small full (g .weighted) (row-fits C a v D (count v D) cost out g) a loaded q symbols o there
+        (subst (λ (x : List (List ℕ)). Solves C (length (maskedRows C v D (count v D) a)) width x q) is-start
+        (subst (λ (r : ℕ). Solves C r width start q) is-rows solves))
 
     -- what passes and ends earlier is zero
-    none-earlier : (p : List ℕ) → length p ≡ count v D → Symbols sixteen p → Through sixteen n v D m p → leading p < j → isZero p ≡ true
+    none-earlier : (p : List ℕ) → length p ≡ count v D → Symbols C p → Through C n v D m p → leading p < j → isZero p ≡ true
     none-earlier p f sp through h =
         isZero-of-zeros p
         (λ k. elim (decLt k width) [
           | yes i ↦
-              narrow-least sixteen sixteen-field rows width ((cost / block + 1) * block) start start b (begun .symbols) (begun .symbols) (e .system .symbols) (within .inside)
+              narrow-least C F rows width ((cost / block + 1) * block) start start b (begun .symbols) (begun .symbols) (e .system .symbols) (within .inside)
               (λ r k _ _. refl) (e .same) j (let w = within .fewer in omega arith) low reduced p sp
-              (subst (λ (r : ℕ). Solves sixteen r width start p) (sym is-rows)
-              (subst (λ (x : List (List ℕ)). Solves sixteen (length (maskedRows sixteen v D (count v D) a)) width x p) (sym is-start)
-              (through-solves m n v D small full (g .weighted) (row-fits a v D (count v D) cost out g) a loaded p sp o there through)))
+              (subst (λ (r : ℕ). Solves C r width start p) (sym is-rows)
+              (subst (λ (x : List (List ℕ)). Solves C (length (maskedRows C v D (count v D) a)) width x p) (sym is-start)
+              (through-solves C F bytes nonzero m n v D small full (g .weighted) (row-fits C a v D (count v D) cost out g) a loaded p sp o there through)))
               (λ i low _. zero-after p i (omega arith)) k i
-          | no i ↦ List·getD-eq-default p 0 {n = k} (let w = row-fits a v D (count v D) cost out g in omega arith)
+          | no i ↦ List·getD-eq-default p 0 {n = k} (let w = row-fits C a v D (count v D) cost out g in omega arith)
         ])
 
     -- they interpolate
-    interpolates : Interpolates sixteen n v D m q
+    interpolates : Interpolates C n v D m q
     interpolates = record {
       size = size;
       symbols = symbols;
@@ -209,23 +210,23 @@ module _ (a : List (List ℕ)) (v D cost : ℕ) (out : List ℕ) (g : Given a v 
     }
 
   -- so the polynomial is found
-  found : Found a v D out j after
+  found : Found C a v D out j after
   unfolding q
   found = record {
     coefficients = q;
     interpolates = interpolates;
     size = size;
     leads = sym leads-at;
-    written = coefficients-written sixteen j b (count v D) out led after place (g .room) l s ∙ ap (λ (n : ℕ). q ++ drop n out) (sym size);
+    written = coefficients-written C j b (count v D) out led after place (g .room) l s ∙ ap (λ (n : ℕ). q ++ drop n out) (sym size);
   }
 
 -- the function's answer
-pub polynomial-found : (a : List (List ℕ)) (v D w cost : ℕ) (out : List ℕ) → Given a v D w cost out → (o start b : List (List ℕ)) → System sixteen o → cost ≤ length o
-    → start ≡ sets o 0 (maskedRows sixteen v D w a) → (rows j : ℕ) → rows ≡ length (maskedRows sixteen v D w a) → j ≤ rows
-    → Eliminated sixteen rows ((cost / block + 1) * block) j start b → Reduced rows j b
-    → (led after : List ℕ) → Led j w out led → Solved sixteen j 0 b led after → Found a v D out j after
-polynomial-found a v D w cost out g o start b so room is-start rows j is-rows low e reduced led after =
+pub polynomial-found : (C : Code) (F : FieldOf C) → C .symbols ≤ 256 → C .α ≢ 0 → (a : List (List ℕ)) (v D w cost : ℕ) (out : List ℕ) → Given C a v D w cost out
+    → (o start b : List (List ℕ)) → System C o → cost ≤ length o → start ≡ sets o 0 (maskedRows C v D w a) → (rows j : ℕ)
+    → rows ≡ length (maskedRows C v D w a) → j ≤ rows → Eliminated C rows ((cost / block + 1) * block) j start b → Reduced rows j b
+    → (led after : List ℕ) → Led j w out led → Solved C j 0 b led after → Found C a v D out j after
+polynomial-found C F bytes nonzero a v D w cost out g o start b so room is-start rows j is-rows low e reduced led after =
     subst
     (λ (n : ℕ).
-    Given a v D n cost out → start ≡ sets o 0 (maskedRows sixteen v D n a) → rows ≡ length (maskedRows sixteen v D n a) → Led j n out led → Solved sixteen j 0 b led after → Found a v D out j after)
-    (sym (g .counted)) (λ g is-start is-rows l s. found a v D cost out g o start b so room is-start rows j is-rows low e reduced led after l s) g is-start is-rows
+    Given C a v D n cost out → start ≡ sets o 0 (maskedRows C v D n a) → rows ≡ length (maskedRows C v D n a) → Led j n out led → Solved C j 0 b led after → Found C a v D out j after)
+    (sym (g .counted)) (λ g is-start is-rows l s. found C F bytes nonzero a v D cost out g o start b so room is-start rows j is-rows low e reduced led after l s) g is-start is-rows

@@ -7,9 +7,10 @@ use Prim.Native.Nat.{ℕ, _+_, _-_, _*_, _/_, _≤_, _<_}
 use native.Mathlib.Omega.{arith}
 use lib.ListN.{length, getD}
 use lib.Seq.{sets}
-use Rattle.algebra.specs.Dot.{dot}
 use Rattle.algebra.proofs.Masks.{point-nonzero}
 use Rattle.algebra.proofs.Numbers.{point-symbol}
+use Rattle.algebra.specs.Dot.{dot}
+use Rattle.algebra.specs.FieldOf.{FieldOf}
 use Rattle.algebra.specs.Grid.{entryOf}
 use Rattle.conditions.proofs.Counts.{point-cost}
 use Rattle.conditions.proofs.Masks.{length-orderAt}
@@ -20,12 +21,11 @@ use Rattle.definitions.proofs.Ordered.{member-at}
 use Rattle.definitions.proofs.Tools.{below-member, member-below, sum-ext}
 use Rattle.definitions.specs.Bound.{count}
 use Rattle.definitions.specs.Code.{Symbols, point}
-use Rattle.definitions.specs.Field.{numbers, sixteen}
+use Rattle.definitions.specs.Field.{Code, numbers}
 use Rattle.definitions.specs.Polynomial.{Through, hasse, terms, monomials}
 use Rattle.definitions.specs.Tools.{below}
 use Rattle.definitions.specs.Weights.{entry, entryCost}
 use Rattle.linear.specs.Rows.{Solves}
-use Rattle.instances.proofs.Codes.{sixteen-field}
 use Rattle.interpolation.proofs.Loaded.{entry-is, used}
 use Rattle.interpolation.proofs.Placing.{place-of, placed-at, placed-each}
 use Rattle.blocks.specs.Row.{width}
@@ -34,138 +34,135 @@ use Rattle.weights.specs.Matrix.{matrixOf, columnCost, matrixCost}
 -- ---- how many
 
 -- the conditions of a point
-length-point : (px : List ℕ) (n w : ℕ) (es : List (List ℕ)) (b m : ℕ) → length (maskedPoint sixteen px n w es b m) ≡ entryCost m
-length-point px n w es b m =
-    let row = valuesRow sixteen w px (powersRow sixteen n (baseAt b)) es in
+length-point : (C : Code) (px : List ℕ) (n w : ℕ) (es : List (List ℕ)) (b m : ℕ) → length (maskedPoint C px n w es b m) ≡ entryCost m
+length-point C px n w es b m =
+    let row = valuesRow C w px (powersRow C n (baseAt b)) es in
     length-join (orderAt row es b m) m ∙ sum-ext m _ (λ s. m - s) (λ s h. length-orderAt row es b m s) ∙ point-cost m
 
 -- of a position
-length-column : (px : List ℕ) (n w : ℕ) (es : List (List ℕ)) (column : List ℕ) → length (maskedColumn sixteen px n w es column) ≡ columnCost sixteen column
-length-column px n w es column =
-    length-join (pointAt sixteen px n w es column) (sixteen .symbols)
-    ∙ sum-ext (sixteen .symbols) _ (λ b. entryCost (getD column b 0)) (λ b h. length-point px n w es b (getD column b 0))
+length-column : (C : Code) (px : List ℕ) (n w : ℕ) (es : List (List ℕ)) (column : List ℕ) → length (maskedColumn C px n w es column) ≡ columnCost C column
+length-column C px n w es column =
+    length-join (pointAt C px n w es column) (C .symbols)
+    ∙ sum-ext (C .symbols) _ (λ b. entryCost (getD column b 0)) (λ b h. length-point C px n w es b (getD column b 0))
 
 -- there are as many conditions as the matrix costs
-pub length-conditions : (v d w : ℕ) (a : List (List ℕ)) → length (maskedRows sixteen v d w a) ≡ matrixCost sixteen a
-length-conditions v d w a =
-    length-join (columnAt sixteen v d w a) (sixteen .positions)
-    ∙ sum-ext (sixteen .positions) _ (λ i. columnCost sixteen (getD a i []))
-    (λ i h. length-column (powersRow sixteen (d + 1) (point sixteen i)) (d / v + 1) w (exponentRows v w) (getD a i []))
+pub length-conditions : (C : Code) (v d w : ℕ) (a : List (List ℕ)) → length (maskedRows C v d w a) ≡ matrixCost C a
+length-conditions C v d w a =
+    length-join (columnAt C v d w a) (C .positions)
+    ∙ sum-ext (C .positions) _ (λ i. columnCost C (getD a i []))
+    (λ i h. length-column C (powersRow C (d + 1) (point C i)) (d / v + 1) w (exponentRows v w) (getD a i []))
 
 -- ---- which
 
 -- a condition of a matrix: its position, symbol and orders, and its row
-pub record Condition (v d w : ℕ) (a : List (List ℕ)) (ρ : List ℕ) : Type 0 where
+pub record Condition (C : Code) (v d w : ℕ) (a : List (List ℕ)) (ρ : List ℕ) : Type 0 where
   pub i : ℕ
   pub b : ℕ
   pub s : ℕ
   pub t : ℕ
-  pub position : i < sixteen .positions
-  pub symbol : b < sixteen .symbols
+  pub position : i < C .positions
+  pub symbol : b < C .symbols
   pub order : s + t < entryOf a i b
-  pub is-row : conditionRow sixteen v d w (point sixteen i) b s t ≡ ρ
+  pub is-row : conditionRow C v d w (point C i) b s t ≡ ρ
 
-module _ (v d w : ℕ) (a : List (List ℕ)) where
+module _ (C : Code) (v d w : ℕ) (a : List (List ℕ)) where
   -- the rows of the symbols of position i
   abbrev points : ℕ → ℕ → List (List ℕ)
-  points i = pointAt sixteen (powersRow sixteen (d + 1) (point sixteen i)) (d / v + 1) w (exponentRows v w) (getD a i [])
+  points i = pointAt C (powersRow C (d + 1) (point C i)) (d / v + 1) w (exponentRows v w) (getD a i [])
 
   -- the rows of the orders by x of symbol b there
   abbrev orders : ℕ → ℕ → ℕ → List (List ℕ)
-  orders i b = orderAt (valuesRow sixteen w (powersRow sixteen (d + 1) (point sixteen i)) (powersRow sixteen (d / v + 1) (baseAt b)) (exponentRows v w)) (exponentRows v w) b (entryOf a i b)
+  orders i b = orderAt (valuesRow C w (powersRow C (d + 1) (point C i)) (powersRow C (d / v + 1) (baseAt b)) (exponentRows v w)) (exponentRows v w) b (entryOf a i b)
 
   -- every row is one
-  pub condition-of : (ρ : List ℕ) → List·Memᴰ ρ (maskedRows sixteen v d w a) → Condition v d w a ρ
+  pub condition-of : (ρ : List ℕ) → List·Memᴰ ρ (maskedRows C v d w a) → Condition C v d w a ρ
   condition-of ρ h =
-      let x = member-join (columnAt sixteen v d w a) (below (sixteen .positions)) ρ h in
-      let y = member-join (points (x .0)) (below (sixteen .symbols)) ρ (x .2) in
+      let x = member-join (columnAt C v d w a) (below (C .positions)) ρ h in
+      let y = member-join (points (x .0)) (below (C .symbols)) ρ (x .2) in
       let z = member-join (orders (x .0) (y .0)) (below (entryOf a (x .0) (y .0))) ρ (y .2) in
-      let u = Memᴰ·of-map (λ t. conditionRow sixteen v d w (point sixteen (x .0)) (y .0) (z .0) t) (below (entryOf a (x .0) (y .0) - z .0)) (z .2) in
+      let u = Memᴰ·of-map (λ t. conditionRow C v d w (point C (x .0)) (y .0) (z .0) t) (below (entryOf a (x .0) (y .0) - z .0)) (z .2) in
       record {
         i = x .0;
         b = y .0;
         s = z .0;
         t = u .0;
-        position = member-below (sixteen .positions) (x .0) (x .1);
-        symbol = member-below (sixteen .symbols) (y .0) (y .1);
+        position = member-below (C .positions) (x .0) (x .1);
+        symbol = member-below (C .symbols) (y .0) (y .1);
         order = (let p = member-below (entryOf a (x .0) (y .0)) (z .0) (z .1) in let q = member-below (entryOf a (x .0) (y .0) - z .0) (u .0) (u .1) in omega arith);
         is-row = u .2;
       }
 
   -- and every one is a row
-  pub member-of : (ρ : List ℕ) → Condition v d w a ρ → List·Memᴰ ρ (maskedRows sixteen v d w a)
+  pub member-of : (ρ : List ℕ) → Condition C v d w a ρ → List·Memᴰ ρ (maskedRows C v d w a)
   member-of ρ c =
-      join-member (columnAt sixteen v d w a) (below (sixteen .positions)) (c .i) ρ (below-member (sixteen .positions) (c .i) (c .position))
-      (join-member (points (c .i)) (below (sixteen .symbols)) (c .b) ρ (below-member (sixteen .symbols) (c .b) (c .symbol))
+      join-member (columnAt C v d w a) (below (C .positions)) (c .i) ρ (below-member (C .positions) (c .i) (c .position))
+      (join-member (points (c .i)) (below (C .symbols)) (c .b) ρ (below-member (C .symbols) (c .b) (c .symbol))
       (join-member (orders (c .i) (c .b)) (below (entryOf a (c .i) (c .b))) (c .s) ρ (below-member (entryOf a (c .i) (c .b)) (c .s) (let o = c .order in omega arith))
       (subst (λ (x : List ℕ). List·Memᴰ x (orders (c .i) (c .b) (c .s))) (c .is-row)
-      (Memᴰ·map (λ t. conditionRow sixteen v d w (point sixteen (c .i)) (c .b) (c .s) t)
+      (Memᴰ·map (λ t. conditionRow C v d w (point C (c .i)) (c .b) (c .s) t)
       (below-member (entryOf a (c .i) (c .b) - c .s) (c .t) (let o = c .order in omega arith))))))
 
 -- ---- the system that holds them
 
-module _ (v D : ℕ) (pos : 0 < v) (fits : count v D ≤ width) (a o : List (List ℕ)) (room : length (maskedRows sixteen v D (count v D) a) ≤ length o) where
-  -- its rows are rows of symbols where they were before
-  pub conditions-symbols : (r : ℕ) → Symbols sixteen (getD o r []) → Symbols sixteen (getD (sets o 0 (maskedRows sixteen v D (count v D) a)) r [])
-  conditions-symbols r =
-      placed-each o (maskedRows sixteen v D (count v D) a) [] room (Symbols sixteen)
-      (λ ρ m.
-      let c = condition-of v D (count v D) a ρ m in
-      subst (Symbols sixteen) (c .is-row)
-      (conditionRow-symbols sixteen sixteen-field (omega arith) v pos D fits (point sixteen (c .i)) (c .b) (c .s) (c .t) (point-symbol sixteen sixteen-field (c .i)) (c .symbol))) r
+-- its rows are rows of symbols where they were before
+pub conditions-symbols : (C : Code) (F : FieldOf C) → C .symbols ≤ 256 → (v D : ℕ) → 0 < v → count v D ≤ width → (a o : List (List ℕ))
+    → length (maskedRows C v D (count v D) a) ≤ length o → (r : ℕ) → Symbols C (getD o r []) → Symbols C (getD (sets o 0 (maskedRows C v D (count v D) a)) r [])
+conditions-symbols C F bytes v D pos fits a o room r =
+    placed-each o (maskedRows C v D (count v D) a) [] room (Symbols C)
+    (λ ρ m.
+    let c = condition-of C v D (count v D) a ρ m in
+    subst (Symbols C) (c .is-row)
+    (conditionRow-symbols C F bytes v pos D fits (point C (c .i)) (c .b) (c .s) (c .t) (point-symbol C F (c .i)) (c .symbol))) r
 
-  -- and of their width
-  pub conditions-wide : (r : ℕ) → length (getD o r []) ≡ width → length (getD (sets o 0 (maskedRows sixteen v D (count v D) a)) r []) ≡ width
-  conditions-wide r =
-      placed-each o (maskedRows sixteen v D (count v D) a) [] room (λ (ρ : List ℕ). length ρ ≡ width)
-      (λ ρ m.
-      let c = condition-of v D (count v D) a ρ m in
-      subst (λ (x : List ℕ). length x ≡ width) (c .is-row) (length-conditionRow sixteen v D (count v D) (point sixteen (c .i)) (c .b) (c .s) (c .t))) r
+-- and of their width
+pub conditions-wide : (C : Code) (v D : ℕ) (a o : List (List ℕ)) → length (maskedRows C v D (count v D) a) ≤ length o → (r : ℕ) → length (getD o r []) ≡ width
+    → length (getD (sets o 0 (maskedRows C v D (count v D) a)) r []) ≡ width
+conditions-wide C v D a o room r =
+    placed-each o (maskedRows C v D (count v D) a) [] room (λ (ρ : List ℕ). length ρ ≡ width)
+    (λ ρ m.
+    let c = condition-of C v D (count v D) a ρ m in
+    subst (λ (x : List ℕ). length x ≡ width) (c .is-row) (length-conditionRow C v D (count v D) (point C (c .i)) (c .b) (c .s) (c .t))) r
 
 -- ---- what solves passes, and what passes solves
 
--- no point is 0
-nonzero : (i : ℕ) → point sixteen i ≢ 0
-nonzero = point-nonzero sixteen sixteen-field (λ e. let z : ⊥ = omega arith in z)
-
-module _ (m : List ℕ) (n v D : ℕ) (small : n ≤ sixteen .positions) (size : length m ≡ sixteen .symbols * n) (pos : 0 < v) (fits : count v D ≤ width) (a : List (List ℕ)) (loaded : a ≡ matrixOf sixteen m n)
-    (q : List ℕ) (sq : Symbols sixteen q) where
+module _ (C : Code) (F : FieldOf C) (bytes : C .symbols ≤ 256) (nonzero : C .α ≢ 0) (m : List ℕ) (n v D : ℕ) (small : n ≤ C .positions) (size : length m ≡ C .symbols * n)
+    (pos : 0 < v) (fits : count v D ≤ width) (a : List (List ℕ)) (loaded : a ≡ matrixOf C m n) (q : List ℕ) (sq : Symbols C q) where
   -- the row of a condition times q is zero exactly where the derivative is
-  condition-vanishes : (ρ : List ℕ) (c : Condition v D (count v D) a ρ)
-      → (dot (numbers sixteen) width (λ k. getD ρ k 0) (λ k. getD q k 0) ≡ 0
-      → hasse (numbers sixteen) (terms (numbers sixteen) q (monomials v D)) (c .s) (c .t) (point sixteen (c .i)) (c .b) ≡ 0)
-      × (hasse (numbers sixteen) (terms (numbers sixteen) q (monomials v D)) (c .s) (c .t) (point sixteen (c .i)) (c .b) ≡ 0
-      → dot (numbers sixteen) width (λ k. getD ρ k 0) (λ k. getD q k 0) ≡ 0)
+  condition-vanishes : (ρ : List ℕ) (c : Condition C v D (count v D) a ρ)
+      → (dot (numbers C) width (λ k. getD ρ k 0) (λ k. getD q k 0) ≡ 0
+      → hasse (numbers C) (terms (numbers C) q (monomials v D)) (c .s) (c .t) (point C (c .i)) (c .b) ≡ 0)
+      × (hasse (numbers C) (terms (numbers C) q (monomials v D)) (c .s) (c .t) (point C (c .i)) (c .b) ≡ 0
+      → dot (numbers C) width (λ k. getD ρ k 0) (λ k. getD q k 0) ≡ 0)
   condition-vanishes ρ c =
-      let r = row-vanishes sixteen sixteen-field (omega arith) v pos D fits (point sixteen (c .i)) (c .b) (c .s) (c .t) (point-symbol sixteen sixteen-field (c .i)) (c .symbol) (nonzero (c .i)) q sq in
-      let e = ap (λ (x : List ℕ). dot (numbers sixteen) width (λ k. getD x k 0) (λ k. getD q k 0)) (c .is-row) in
+      let r = row-vanishes C F bytes v pos D fits (point C (c .i)) (c .b) (c .s) (c .t) (point-symbol C F (c .i)) (c .symbol) (point-nonzero C F nonzero (c .i)) q sq in
+      let e = ap (λ (x : List ℕ). dot (numbers C) width (λ k. getD x k 0) (λ k. getD q k 0)) (c .is-row) in
       (λ h. r .0 (e ∙ h), λ h. sym e ∙ r .1 h)
 
-  module _ (o : List (List ℕ)) (room : length (maskedRows sixteen v D (count v D) a) ≤ length o) where
+  module _ (o : List (List ℕ)) (room : length (maskedRows C v D (count v D) a) ≤ length o) where
     -- row r of the system is condition r
-    stands : (r : ℕ) → r < length (maskedRows sixteen v D (count v D) a)
-        → getD (sets o 0 (maskedRows sixteen v D (count v D) a)) r [] ≡ getD (maskedRows sixteen v D (count v D) a) r []
-    stands r h = placed-at o (maskedRows sixteen v D (count v D) a) [] room r h
+    stands : (r : ℕ) → r < length (maskedRows C v D (count v D) a)
+        → getD (sets o 0 (maskedRows C v D (count v D) a)) r [] ≡ getD (maskedRows C v D (count v D) a) r []
+    stands r h = placed-at o (maskedRows C v D (count v D) a) [] room r h
 
     -- what passes solves
-    pub through-solves : Through sixteen n v D m q
-        → Solves sixteen (length (maskedRows sixteen v D (count v D) a)) width (sets o 0 (maskedRows sixteen v D (count v D) a)) q
+    pub through-solves : Through C n v D m q
+        → Solves C (length (maskedRows C v D (count v D) a)) width (sets o 0 (maskedRows C v D (count v D) a)) q
     through-solves passes r h =
-        let ρ = getD (maskedRows sixteen v D (count v D) a) r [] in
-        let c = condition-of v D (count v D) a ρ (member-at (maskedRows sixteen v D (count v D) a) r [] h) in
-        let e = entry-is m n small size a loaded (c .i) (c .b) (c .position) (c .symbol) in
-        let below : c .s + c .t < entry sixteen m (c .i) (c .b) = (let f = c .order in omega arith) in
-        ap (λ (x : List ℕ). dot (numbers sixteen) width (λ k. getD x k 0) (λ k. getD q k 0)) (stands r h)
+        let ρ = getD (maskedRows C v D (count v D) a) r [] in
+        let c = condition-of C v D (count v D) a ρ (member-at (maskedRows C v D (count v D) a) r [] h) in
+        let e = entry-is C m n small size a loaded (c .i) (c .b) (c .position) (c .symbol) in
+        let below : c .s + c .t < entry C m (c .i) (c .b) = (let f = c .order in omega arith) in
+        ap (λ (x : List ℕ). dot (numbers C) width (λ k. getD x k 0) (λ k. getD q k 0)) (stands r h)
         ∙ condition-vanishes ρ c .1
-        (passes (c .i) (c .b) (used m n small size a loaded (c .i) (c .b) (c .symbol) (omega arith)) (c .symbol) (c .s) (c .t) below)
+        (passes (c .i) (c .b) (used C m n small size a loaded (c .i) (c .b) (c .symbol) (omega arith)) (c .symbol) (c .s) (c .t) below)
 
     -- what solves passes
-    pub solves-through : Solves sixteen (length (maskedRows sixteen v D (count v D) a)) width (sets o 0 (maskedRows sixteen v D (count v D) a)) q
-        → Through sixteen n v D m q
+    pub solves-through : Solves C (length (maskedRows C v D (count v D) a)) width (sets o 0 (maskedRows C v D (count v D) a)) q
+        → Through C n v D m q
     solves-through solves i b hi hb s t h =
-        let ρ = conditionRow sixteen v D (count v D) (point sixteen i) b s t in
-        let e = entry-is m n small size a loaded i b (omega arith) hb in
-        let c : Condition v D (count v D) a ρ = record { i = i; b = b; s = s; t = t; position = omega arith; symbol = hb; order = omega arith; is-row = refl } in
-        let p = place-of (maskedRows sixteen v D (count v D) a) ρ [] (member-of v D (count v D) a ρ c) in
+        let ρ = conditionRow C v D (count v D) (point C i) b s t in
+        let e = entry-is C m n small size a loaded i b (omega arith) hb in
+        let c : Condition C v D (count v D) a ρ = record { i = i; b = b; s = s; t = t; position = omega arith; symbol = hb; order = omega arith; is-row = refl } in
+        let p = place-of (maskedRows C v D (count v D) a) ρ [] (member-of C v D (count v D) a ρ c) in
         condition-vanishes ρ c .0
-        (ap (λ (x : List ℕ). dot (numbers sixteen) width (λ k. getD x k 0) (λ k. getD q k 0)) (sym (stands (p .0) (p .1) ∙ p .2)) ∙ solves (p .0) (p .1))
+        (ap (λ (x : List ℕ). dot (numbers C) width (λ k. getD x k 0) (λ k. getD q k 0)) (sym (stands (p .0) (p .1) ∙ p .2)) ∙ solves (p .0) (p .1))

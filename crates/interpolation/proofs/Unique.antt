@@ -6,13 +6,15 @@ use mathlib.Core.Path.{_≡_, refl, sym, _∙_, ap}
 use Prim.Native.Nat.{ℕ, zero, suc, _+_, _*_, _-_, _<_}
 use native.Mathlib.Omega.{arith}
 use lib.ListN.{length, drop, getD}
+use Rattle.algebra.proofs.Elements.{zero-symbol, one-symbol}
+use Rattle.algebra.specs.FieldOf.{FieldOf}
 use Rattle.definitions.proofs.Bound.{count-zero, bound-le}
 use Rattle.definitions.proofs.Tools.{sum-zero, sum-suc}
 use Rattle.definitions.proofs.Zeros.{isZero-false}
 use Rattle.definitions.specs.Answers.{Answer, refused, interpolated, Interpolated, InterpolationAnswers}
 use Rattle.definitions.specs.Bound.{bound}
 use Rattle.definitions.specs.Code.{Symbols}
-use Rattle.definitions.specs.Field.{sixteen}
+use Rattle.definitions.specs.Field.{Code, sixteen}
 use Rattle.definitions.specs.Polynomial.{Interpolates, leading}
 use Rattle.definitions.specs.Refusals.{Line, tried, interpolationTable}
 use Rattle.definitions.specs.Tools.{sum}
@@ -37,22 +39,22 @@ module _ (out : List ℕ) (a b : Answer) (after later : List ℕ) (X Y : Type 0)
   tried-unique [] x y = same x y
   tried-unique (l ∷ table) x y = choose (l .given) (λ x y. (x .0 ∙ sym (y .0), x .1 ∙ sym (y .1))) (tried-unique table) x y
 
-module _ (n k G : ℕ) (m out : List ℕ) where
+module _ (C : Code) (F : FieldOf C) (n k G : ℕ) (m out : List ℕ) where
   -- of the polynomial
-  accepted-unique : (a b : Answer) (after later : List ℕ) → Interpolated sixteen n k m out a after → Interpolated sixteen n k m out b later
+  accepted-unique : (a b : Answer) (after later : List ℕ) → Interpolated C n k m out a after → Interpolated C n k m out b later
       → (a ≡ b) × (after ≡ later)
   accepted-unique a b after later x y =
-      let e = interpolates-unique sixteen sixteen-field n (k - 1) (bound (k - 1) (cost m)) m (x .0) (y .0) (x .1) (y .1) in (
+      let e = interpolates-unique C F n (k - 1) (bound (k - 1) (cost m)) m (x .0) (y .0) (x .1) (y .1) in (
         x .2 ∙ ap (λ (q : List ℕ). interpolated (bound (k - 1) (cost m)) (length q)) e ∙ sym (y .2),
         x .3 ∙ ap (λ (q : List ℕ). q ++ drop (length q) out) e ∙ sym (y .3),
       )
 
   -- of the numbers of the answer
-  pub numbers-unique : (a b : Answer) (after later : List ℕ) → InterpolationAnswers sixteen n k G m out a after → InterpolationAnswers sixteen n k G m out b later
+  pub numbers-unique : (a b : Answer) (after later : List ℕ) → InterpolationAnswers C n k G m out a after → InterpolationAnswers C n k G m out b later
       → (a ≡ b) × (after ≡ later)
   numbers-unique a b after later =
-      tried-unique out a b after later (Interpolated sixteen n k m out a after) (Interpolated sixteen n k m out b later) (accepted-unique a b after later)
-      (interpolationTable sixteen n k G m (length out))
+      tried-unique out a b after later (Interpolated C n k m out a after) (Interpolated C n k m out b later) (accepted-unique a b after later)
+      (interpolationTable C n k G m (length out))
 
 -- the answer of its numbers
 interpolatedOf : Answer → Declared.Interpolated
@@ -69,7 +71,7 @@ pub interpolation-unique : (n k G : ℕ) (m out : List ℕ) (x y : Declared.Inte
     → InterpolationAnswers sixteen n k G m out (toldInterpolated x) after → InterpolationAnswers sixteen n k G m out (toldInterpolated y) later
     → (x ≡ y) × (after ≡ later)
 interpolation-unique n k G m out x y after later p q =
-    let u = numbers-unique n k G m out (toldInterpolated x) (toldInterpolated y) after later p q in
+    let u = numbers-unique sixteen sixteen-field n k G m out (toldInterpolated x) (toldInterpolated y) after later p q in
     (same-told toldInterpolated interpolatedOf interpolated-back (u .0) refl, u .1)
 
 -- ---- all multiplicities zero
@@ -90,20 +92,21 @@ module _ (m : List ℕ) (none : (j : ℕ) → getD m j 0 ≡ 0) where
   pub zero-bound : (v : ℕ) → 0 < v → bound v (cost m) ≡ 0
   zero-bound v pos = let b = bound-le v pos (cost m) in let e = zero-cost in omega arith
 
+module _ (C : Code) (F : FieldOf C) (m : List ℕ) (none : (j : ℕ) → getD m j 0 ≡ 0) where
   -- 1 interpolates
-  one-interpolates : (n v : ℕ) → 0 < v → Interpolates sixteen n v 0 m (1 ∷ [])
+  one-interpolates : (n v : ℕ) → 0 < v → Interpolates C n v 0 m (1 ∷ [])
   one-interpolates n v pos = record {
     size = sym (count-zero v pos);
     symbols = one-symbols;
-    through = λ i b hi hb s t h. let z = none (sixteen .symbols * i + b) in let y : ⊥ = omega arith in absurd y;
+    through = λ i b hi hb s t h. let z = none (C .symbols * i + b) in let y : ⊥ = omega arith in absurd y;
     nonzero = isZero-false (1 ∷ []) 0 not-zero;
     leads = ap (λ (k : ℕ). getD (1 ∷ []) k 0) leads-first;
     least = λ p e sp through nz. let f = leads-first in omega arith;
   }
     where
-      one-symbols : Symbols sixteen (1 ∷ [])
-      one-symbols zero = omega arith
-      one-symbols (suc j) = omega arith
+      one-symbols : Symbols C (1 ∷ [])
+      one-symbols zero = one-symbol C F
+      one-symbols (suc j) = zero-symbol C F
 
       not-zero : _≡_ {A = ℕ} 1 0 → ⊥
       not-zero e = omega arith
@@ -116,5 +119,5 @@ module _ (m : List ℕ) (none : (j : ℕ) → getD m j 0 ≡ 0) where
       leads-first = leading-is (1 ∷ []) 0 not-zero after-first
 
   -- "polynomial 1"
-  pub zero-polynomial : (n v : ℕ) (q : List ℕ) → 0 < v → Interpolates sixteen n v 0 m q → q ≡ 1 ∷ []
-  zero-polynomial n v q pos h = interpolates-unique sixteen sixteen-field n v 0 m q (1 ∷ []) h (one-interpolates n v pos)
+  pub zero-polynomial : (n v : ℕ) (q : List ℕ) → 0 < v → Interpolates C n v 0 m q → q ≡ 1 ∷ []
+  zero-polynomial n v q pos h = interpolates-unique C F n v 0 m q (1 ∷ []) h (one-interpolates n v pos)

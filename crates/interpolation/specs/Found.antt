@@ -5,25 +5,25 @@ use mathlib.Core.Path.{_≡_}
 use Prim.Native.Nat.{ℕ, _*_, _≤_, _<_}
 use lib.ListN.{length, drop}
 use Rattle.definitions.specs.Bound.{bound, count}
-use Rattle.definitions.specs.Field.{sixteen}
+use Rattle.definitions.specs.Field.{Code}
 use Rattle.definitions.specs.Limits.{greatestLimit}
 use Rattle.definitions.specs.Polynomial.{Interpolates, leading}
 use Rattle.weights.specs.Matrix.{matrixOf, matrixCost}
 
 -- a matrix within limits, its cost, its bound and how many coefficients that has, for which there is room
-pub record Given (a : List (List ℕ)) (v D w cost : ℕ) (out : List ℕ) : Type 0 where
+pub record Given (C : Code) (a : List (List ℕ)) (v D w cost : ℕ) (out : List ℕ) : Type 0 where
   pub weighted : 0 < v
-  pub low : v < sixteen .positions
+  pub low : v < C .positions
   pub cheap : cost ≤ greatestLimit
-  pub priced : cost ≡ matrixCost sixteen a
-  pub bounded : D ≡ bound v (matrixCost sixteen a)
+  pub priced : cost ≡ matrixCost C a
+  pub bounded : D ≡ bound v (matrixCost C a)
   pub counted : w ≡ count v D
   pub room : w ≤ length out
 
-pub record Found (a : List (List ℕ)) (v D : ℕ) (before : List ℕ) (place : ℕ) (after : List ℕ) : Type 0 where
+pub record Found (C : Code) (a : List (List ℕ)) (v D : ℕ) (before : List ℕ) (place : ℕ) (after : List ℕ) : Type 0 where
   pub coefficients : List ℕ
   -- they interpolate the bytes that the matrix was loaded from
-  pub interpolates : (m : List ℕ) (n : ℕ) → n ≤ sixteen .positions → length m ≡ sixteen .symbols * n → a ≡ matrixOf sixteen m n → Interpolates sixteen n v D m coefficients
+  pub interpolates : (m : List ℕ) (n : ℕ) → n ≤ C .positions → length m ≡ C .symbols * n → a ≡ matrixOf C m n → Interpolates C n v D m coefficients
   pub size : length coefficients ≡ count v D
   pub leads : place ≡ leading coefficients
   pub written : after ≡ coefficients ++ drop (length coefficients) before

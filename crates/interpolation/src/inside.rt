@@ -39,9 +39,9 @@ fn polynomial_in(
     cost: usize,
     out: &mut [u8],
 ) -> usize
-    requires { ⌜ Given (now matrix) v d count cost (now out) ⌝ }
+    requires { ⌜ Given sixteen (now matrix) v d count cost (now out) ⌝ }
     requires { ⌜ System sixteen (now system) × (cost ≤ length (now system)) ⌝ }
-    ensures { λ r. ⌜ Found (now (matrix .entry)) v d (now (out .entry)) r (now (out .exit)) ⌝ }
+    ensures { λ r. ⌜ Found sixteen (now (matrix .entry)) v d (now (out .entry)) r (now (out .exit)) ⌝ }
 {
     let table = field::inside::products();
     let blocks = cost / BLOCK + 1;
@@ -61,8 +61,8 @@ fn small_polynomial(
     cost: usize,
     out: &mut [u8],
 ) -> usize
-    requires { ⌜ Given (now matrix) v d count cost (now out) × (cost ≤ block) ⌝ }
-    ensures { λ r. ⌜ Found (now (matrix .entry)) v d (now (out .entry)) r (now (out .exit)) ⌝ }
+    requires { ⌜ Given sixteen (now matrix) v d count cost (now out) × (cost ≤ block) ⌝ }
+    ensures { λ r. ⌜ Found sixteen (now (matrix .entry)) v d (now (out .entry)) r (now (out .exit)) ⌝ }
 {
     let mut system = [[0u8; WIDTH]; BLOCK];
     polynomial_in(&mut system, matrix, v, d, count, cost, out)
@@ -77,8 +77,8 @@ fn large_polynomial(
     cost: usize,
     out: &mut [u8],
 ) -> usize
-    requires { ⌜ Given (now matrix) v d count cost (now out) ⌝ }
-    ensures { λ r. ⌜ Found (now (matrix .entry)) v d (now (out .entry)) r (now (out .exit)) ⌝ }
+    requires { ⌜ Given sixteen (now matrix) v d count cost (now out) ⌝ }
+    ensures { λ r. ⌜ Found sixteen (now (matrix .entry)) v d (now (out .entry)) r (now (out .exit)) ⌝ }
 {
     let mut system = [[0u8; WIDTH]; GREATEST_LIMIT];
     polynomial_in(&mut system, matrix, v, d, count, cost, out)
@@ -94,7 +94,7 @@ pub fn polynomial(
 ) -> usize
     requires { ⌜ (0 < v) × (v < sixteen .positions) × (matrixCost sixteen (now matrix) ≤ greatestLimit) ⌝ }
     requires { ⌜ (d ≡ bound v (matrixCost sixteen (now matrix))) × (count ≡ Rattle.definitions.specs.Bound.count v d) × (count ≤ length (now out)) ⌝ }
-    ensures { λ r. ⌜ Found (now (matrix .entry)) v d (now (out .entry)) r (now (out .exit)) ⌝ }
+    ensures { λ r. ⌜ Found sixteen (now (matrix .entry)) v d (now (out .entry)) r (now (out .exit)) ⌝ }
 {
     let cost = weights::inside::cost(matrix);
     if cost <= BLOCK {

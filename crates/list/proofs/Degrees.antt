@@ -21,7 +21,7 @@ few-powers = tt
 
 pub powers-of-y : (v C : ℕ) → 0 < v → v < sixteen .positions → C ≤ greatestLimit → bound v C / v ≤ greatestRows
 powers-of-y v C pos hv hc =
-    let wide = width-fits v C pos hv hc in
+    let wide = width-fits v C pos hc in
     let above = count-above v pos (bound v C) in
     leb→le (bound v C / v) greatestRows
     (rw (le-ltb width (count v (bound v C)) wide) at

@@ -24,7 +24,7 @@ module _ (n k price : ℕ) (hk : 2 ≤ k) (hn : k ≤ n) (small : n ≤ sixteen 
   degree-small = let low = bound-le (k - 1) (omega arith) price in omega arith
 
   pub count-small : (N : ℕ) → N ≡ count (k - 1) D → N ≤ width
-  count-small N e = e-le (subst (λ (d : ℕ). count (k - 1) d ≤ width) (sym is-bound) (width-fits (k - 1) price (omega arith) (omega arith) cheap))
+  count-small N e = e-le (subst (λ (d : ℕ). count (k - 1) d ≤ width) (sym is-bound) (width-fits (k - 1) price (omega arith) cheap))
     where
       e-le : count (k - 1) D ≤ width → N ≤ width
       e-le h = omega arith
@@ -36,7 +36,7 @@ module _ (n k price : ℕ) (hk : 2 ≤ k) (hn : k ≤ n) (small : n ≤ sixteen 
     pub bound-of-cost : D ≡ bound (k - 1) (cost m)
     bound-of-cost = is-bound ∙ ap (bound (k - 1)) price-is-cost
 
-    module _ (before after : List ℕ) (place : ℕ) (room : length before ≡ width) (found : Found a (k - 1) D before place after) where
+    module _ (before after : List ℕ) (place : ℕ) (room : length before ≡ width) (found : Found sixteen a (k - 1) D before place after) where
       pub interpolating : Interpolates sixteen n (k - 1) D m (found .coefficients)
       interpolating = found .interpolates m n small size loaded
 

@@ -22,7 +22,7 @@ abbrev entry : tie.After-symbols → tie.Start
 entry c = c .before .before .before .before .before .before .before
 
 came : (c : tie.After-symbols)
-    → (let a = entry c .args in Came (front (a .n) (a .k) (a .limit) (a .matrix .now) (a .out .now)) [] (toldChecked (c .symbols .result)))
+    → (let a = entry c .args in Came (front sixteen (a .n) (a .k) (a .limit) (a .matrix .now) (a .out .now)) [] (toldChecked (c .symbols .result)))
 came c =
     let room = c .before in
     let given = room .before in
@@ -33,12 +33,12 @@ returns : tie.Need-returns
 returns c =
     let w = c .before .before .before in
     let a = entry w .args in
-    refused-by-check (a .n) (a .k) (a .limit) (a .matrix .now) (a .out .now) (came w) (c .before .checked .given .1)
+    refused-by-check sixteen (a .n) (a .k) (a .limit) (a .matrix .now) (a .out .now) (came w) (c .before .checked .given .1)
 
-fit : (c : tie.After-enum-told) → (let a = entry (c .before .before) .args in Fit (a .n) (a .k) (a .limit) (a .matrix .now) (a .out .now))
+fit : (c : tie.After-enum-told) → (let a = entry (c .before .before) .args in Fit sixteen (a .n) (a .k) (a .limit) (a .matrix .now) (a .out .now))
 fit c =
     let a = entry (c .before .before) .args in
-    fits (a .n) (a .k) (a .limit) (a .matrix .now) (a .out .now) (accepted (came (c .before .before)) (c .enum-told .given .1))
+    fits sixteen (a .n) (a .k) (a .limit) (a .matrix .now) (a .out .now) (accepted (came (c .before .before)) (c .enum-told .given .1))
 
 load-requires : tie.Need-load-requires
 load-requires c κs = let f = fit c in (f .sized .2, omega arith)
@@ -56,7 +56,7 @@ returns-2 c =
     let t = c .before .before .before .before in
     let a = entry (t .before .before) .args in
     let e = paid (c .before) in
-    refused-by-cost (a .n) (a .k) (a .limit) (a .matrix .now) (a .out .now) (came (t .before .before)) (t .enum-told .given .1) (omega arith)
+    refused-by-cost sixteen (a .n) (a .k) (a .limit) (a .matrix .now) (a .out .now) (came (t .before .before)) (t .enum-told .given .1) (omega arith)
 
 sub-v : tie.Need-sub-v
 sub-v c = let s = fit (c .before .before .before .before) .sized in omega arith
@@ -93,7 +93,7 @@ polynomial-requires c κs =
     let k = entry (l .before .before .before) .args .k in
     let f = fit (l .before) in
     let s = f .sized in
-    let few = count-small (k - 1) (d .bound .result) (n .count .result) (l .load .result) (omega arith) (omega arith) (cheap (d .before)) (bounded d) (n .count .ensures) in
+    let few = count-small (k - 1) (d .bound .result) (n .count .result) (matrixCost sixteen (l .load .result)) (omega arith) (cheap (d .before)) (bounded d) (n .count .ensures) in
     ((omega arith, omega arith, cheap (d .before)), (bounded d, n .count .ensures, omega arith))
 
 returns-3 : tie.Need-returns-3
@@ -106,7 +106,8 @@ returns-3 c =
     let t = l .before in
     let a = entry (t .before .before) .args in
     let f = fit t in
-    found-is-answered (a .n) (a .k) (a .limit) (a .matrix .now) (a .out .now) (came (t .before .before)) (t .enum-told .given .1) (f .sized .2) (f .full) (l .load .result) (l .load .ensures) (x .cost .result) (d .bound .result) (n .count .result) (p .polynomial .result)
+    found-is-answered sixteen (a .n) (a .k) (a .limit) (a .matrix .now) (a .out .now) (came (t .before .before)) (t .enum-told .given .1) (f .sized .2) (f .full)
+    (l .load .result) (l .load .ensures) (x .cost .result) (d .bound .result) (n .count .result) (p .polynomial .result)
     (p .polynomial .last .1 .1 .1 .1 .0) (paid x) (d .before .if1 .left) (d .bound .ensures) (n .count .ensures) (p .polynomial .ensures)
 
 pub interpolate-spec : {M : Type 1} → statement M

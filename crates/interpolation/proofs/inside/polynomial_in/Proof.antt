@@ -4,6 +4,7 @@ use native.Mathlib.Omega.{arith}
 use lib.ListN.{length}
 use Rattle.definitions.specs.Field.{sixteen}
 use Rattle.elimination.specs.System.{System, Within}
+use Rattle.instances.proofs.Codes.{sixteen-field}
 use Rattle.interpolation.proofs.Coefficients.{degree-small, row-fits, rows-priced, more, start-system, start-within, polynomial-found}
 use Rattle.blocks.specs.Row.{block, width}
 use borrow.Author.Needs.{needs}
@@ -19,13 +20,13 @@ matrix-rows-requires c κs =
     let s = p .before .before in
     let a = s .args in
     let g = s .pre .0 in
-    let e = rows-priced (a .matrix .now) (a .v) (a .d) (a .count) (a .cost) (a .out .now) g in (
+    let e = rows-priced sixteen (a .matrix .now) (a .v) (a .d) (a .count) (a .cost) (a .out .now) g in (
       p .products .ensures,
       (
         (
           g .weighted,
-          degree-small (a .matrix .now) (a .v) (a .d) (a .count) (a .cost) (a .out .now) g,
-          row-fits (a .matrix .now) (a .v) (a .d) (a .count) (a .cost) (a .out .now) g,
+          degree-small sixteen (a .matrix .now) (a .v) (a .d) (a .count) (a .cost) (a .out .now) g,
+          row-fits sixteen (a .matrix .now) (a .v) (a .d) (a .count) (a .cost) (a .out .now) g,
         ),
         omega arith,
       ),
@@ -36,14 +37,15 @@ start : (c : tie.After-matrix-rows) → System sixteen (c .matrix-rows .last .0)
 start c =
     let s = entry c in
     let a = s .args in
-    start-system (a .matrix .now) (a .v) (a .d) (a .count) (a .cost) (a .out .now) (s .pre .0) (a .system .now) (c .matrix-rows .last .0) (s .pre .1 .0) (s .pre .1 .1) (c .matrix-rows .ensures .1)
+    start-system sixteen sixteen-field (omega arith) (a .matrix .now) (a .v) (a .d) (a .count) (a .cost) (a .out .now) (s .pre .0) (a .system .now)
+    (c .matrix-rows .last .0) (s .pre .1 .0) (s .pre .1 .1) (c .matrix-rows .ensures .1)
 
 -- with room for their blocks
 within : (c : tie.After-matrix-rows) → Within (c .matrix-rows .result) (entry c .args .cost / block + 1) (c .matrix-rows .last .0)
 within c =
     let s = entry c in
     let a = s .args in
-    start-within (a .matrix .now) (a .v) (a .d) (a .count) (a .cost) (a .out .now) (s .pre .0) (a .system .now) (c .matrix-rows .last .0) (s .pre .1 .0) (s .pre .1 .1) (c .matrix-rows .ensures .1)
+    start-within sixteen (a .matrix .now) (a .v) (a .d) (a .count) (a .cost) (a .out .now) (s .pre .0) (a .system .now) (c .matrix-rows .last .0) (s .pre .1 .1) (c .matrix-rows .ensures .1)
     (c .matrix-rows .result) (c .matrix-rows .ensures .0)
 
 abbrev written : tie.After-first-dependent → tie.After-matrix-rows
@@ -60,8 +62,8 @@ place c =
     let m = written c in
     let s = entry m in
     let a = s .args in
-    let e = rows-priced (a .matrix .now) (a .v) (a .d) (a .count) (a .cost) (a .out .now) (s .pre .0) in
-    let l = more (a .matrix .now) (a .v) (a .d) (a .count) (a .cost) (a .out .now) (s .pre .0) in
+    let e = rows-priced sixteen (a .matrix .now) (a .v) (a .d) (a .count) (a .cost) (a .out .now) (s .pre .0) in
+    let l = more sixteen (a .matrix .now) (a .v) (a .d) (a .count) (a .cost) (a .out .now) (s .pre .0) in
     let r = m .matrix-rows .ensures .0 in
     let f = c .first-dependent .ensures .0 in
     omega arith
@@ -80,7 +82,7 @@ solve-requires c κs =
     let a = s .args in
     let e = d .first-dependent .ensures in
     let p = place d in
-    let inside : d .first-dependent .result < width = let f = row-fits (a .matrix .now) (a .v) (a .d) (a .count) (a .cost) (a .out .now) (s .pre .0) in omega arith in
+    let inside : d .first-dependent .result < width = let f = row-fits sixteen (a .matrix .now) (a .v) (a .d) (a .count) (a .cost) (a .out .now) (s .pre .0) in omega arith in
     let there : d .first-dependent .result ≤ length (d .first-dependent .last .0) = let w = within m .there in let k = e .1 .0 .size in let low = e .0 in omega arith in
     let room : d .first-dependent .result ≤ length (l .lead .last .1 .1 .0) = let k = l .lead .ensures .size in let r = s .pre .0 .room in omega arith in
     (m .before .before .before .products .ensures, (e .1 .0 .system .symbols, (inside, there, room)))
@@ -94,8 +96,9 @@ returns c =
     let s = entry m in
     let a = s .args in
     let e = d .first-dependent .ensures in
-    polynomial-found (a .matrix .now) (a .v) (a .d) (a .count) (a .cost) (a .out .now) (s .pre .0) (a .system .now) (m .matrix-rows .last .0) (d .first-dependent .last .0) (s .pre .1 .0) (s .pre .1 .1)
-    (m .matrix-rows .ensures .1) (m .matrix-rows .result) (d .first-dependent .result) (m .matrix-rows .ensures .0) (e .0) (e .1 .0) (e .1 .1) (l .lead .last .1 .1 .0) (v .solve .last .1 .1 .1 .0)
+    polynomial-found sixteen sixteen-field (omega arith) (λ z. omega arith) (a .matrix .now) (a .v) (a .d) (a .count) (a .cost) (a .out .now) (s .pre .0) (a .system .now)
+    (m .matrix-rows .last .0) (d .first-dependent .last .0) (s .pre .1 .0) (s .pre .1 .1) (m .matrix-rows .ensures .1) (m .matrix-rows .result)
+    (d .first-dependent .result) (m .matrix-rows .ensures .0) (e .0) (e .1 .0) (e .1 .1) (l .lead .last .1 .1 .0) (v .solve .last .1 .1 .1 .0)
     (l .lead .ensures) (v .solve .ensures)
 
 pub polynomial-in-spec : {M : Type 1} → statement M
