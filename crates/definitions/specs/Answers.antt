@@ -40,6 +40,10 @@ costed C D = record { number = 0; place = 0; count = 0; value = 0; cost = C; bou
 abbrev pub interpolated : ℕ → ℕ → Answer
 interpolated D n = record { number = 0; place = 0; count = n; value = 0; cost = 0; bound = D }
 
+-- the rows one after the other, and what lies after them
+abbrev pub rowsOnto : ℕ → List (List ℕ) → List ℕ → List ℕ
+rowsOnto k rows out = flatten rows ++ drop (k * length rows) out
+
 module _ (C : Code) where
   abbrev pub sumAnswer : ℕ → ℕ → Answer
   sumAnswer a b = tried (fieldTable C a b) refused (valued (C .plus a b))
@@ -77,10 +81,6 @@ module _ (C : Code) where
   InterpolationAnswers n k G m out answer after =
       tried (interpolationTable C n k G m (length out)) (λ number place. (answer ≡ refused number place) × (after ≡ out))
       (Interpolated n k m out answer after)
-
-  -- the rows one after the other, and what lies after them
-  abbrev pub rowsOnto : ℕ → List (List ℕ) → List ℕ → List ℕ
-  rowsOnto k rows out = flatten rows ++ drop (k * length rows) out
 
   abbrev pub rootsAnswer : ℕ → ℕ → List ℕ → List ℕ → Answer
   rootsAnswer D k q out = tried (rootsTable C D k q (length out)) refused (counted (length (rootsOf C D k q)))

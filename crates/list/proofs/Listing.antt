@@ -54,7 +54,7 @@ module _ (C : Code) (F : FieldOf C) where
     roots-symbols = all-members (λ f. Symbols C f) (rootsOf C D k q) (λ f m. messages-in-order C (zero-symbol C F) k .symbols f (root-member f m))
 
     -- memory that held symbols holds symbols after they are written
-    pub found-symbols : (before found : List ℕ) → Symbols C before → found ≡ rowsOnto C k (rootsOf C D k q) before → Symbols C found
+    pub found-symbols : (before found : List ℕ) → Symbols C before → found ≡ rowsOnto k (rootsOf C D k q) before → Symbols C found
     found-symbols before found s e =
         subst (λ (l : List ℕ). Symbols C l) (sym e)
         (append-symbols C (flatten (rootsOf C D k q)) (drop (k * length (rootsOf C D k q)) before) (symbols-flatten (rootsOf C D k q) roots-symbols)
@@ -88,7 +88,7 @@ module _ (C : Code) (F : FieldOf C) where
       unfolding ranked
       is-ranked = refl
 
-      ranked-are : (a : List (List ℕ)) (before found : List ℕ) (many : ℕ) → a ≡ matrixOf C m n → many ≡ length (rootsOf C D k q) → found ≡ rowsOnto C k (rootsOf C D k q) before
+      ranked-are : (a : List (List ℕ)) (before found : List ℕ) (many : ℕ) → a ≡ matrixOf C m n → many ≡ length (rootsOf C D k q) → found ≡ rowsOnto k (rootsOf C D k q) before
           → ranked (matrixScore C a n) t (rowsOf k many found) ≡ rootsAbove C n k m D q t
       ranked-are a before found many ea em ef =
           ap (λ (x : List (List ℕ)). ranked (matrixScore C x n) t (rowsOf k many found)) ea
@@ -102,16 +102,16 @@ module _ (C : Code) (F : FieldOf C) where
           (subst (λ (l : List (List ℕ)). All (λ f. matrixScore C (matrixOf C m n) n f ≡ score C n m f) l) is-ranked
           (all-ranked (score C n m) (λ f. matrixScore C (matrixOf C m n) n f ≡ score C n m f) t (rootsOf C D k q) agree))
 
-      pub roots-listed : (a : List (List ℕ)) (before found : List ℕ) (many : ℕ) → a ≡ matrixOf C m n → many ≡ length (rootsOf C D k q) → found ≡ rowsOnto C k (rootsOf C D k q) before
+      pub roots-listed : (a : List (List ℕ)) (before found : List ℕ) (many : ℕ) → a ≡ matrixOf C m n → many ≡ length (rootsOf C D k q) → found ≡ rowsOnto k (rootsOf C D k q) before
           → (out scores : List ℕ) (count : ℕ) (outAfter scoresAfter : List ℕ) → count ≡ length (ranked (matrixScore C a n) t (rowsOf k many found))
-          → outAfter ≡ rowsOnto C k (ranked (matrixScore C a n) t (rowsOf k many found)) out → scoresAfter ≡ scoresOf (matrixScore C a n) (ranked (matrixScore C a n) t (rowsOf k many found)) scores
+          → outAfter ≡ rowsOnto k (ranked (matrixScore C a n) t (rowsOf k many found)) out → scoresAfter ≡ scoresOf (matrixScore C a n) (ranked (matrixScore C a n) t (rowsOf k many found)) scores
           → Lists C n k m (rootsAbove C n k m D q t) out scores count outAfter scoresAfter
       roots-listed a before found many ea em ef out scores count outAfter scoresAfter ec eo es =
           let e = ranked-are a before found many ea em ef in
           record {
             counted = ec ∙ ap length e;
             few = rw (ec ∙ ap length e) few-rows;
-            rows-are = eo ∙ ap (λ (l : List (List ℕ)). rowsOnto C k l out) e;
+            rows-are = eo ∙ ap (λ (l : List (List ℕ)). rowsOnto k l out) e;
             scores-are =
                 es ∙ ap (λ (l : List (List ℕ)). scoresOf (matrixScore C a n) l scores) e ∙ ap (λ (x : List (List ℕ)). scoresOf (matrixScore C x n) (rootsAbove C n k m D q t) scores) ea
                 ∙ ap (λ (l : List ℕ). l ++ drop (length (rootsAbove C n k m D q t)) scores) ranked-scores;
@@ -126,7 +126,7 @@ module _ (C : Code) (F : FieldOf C) where
           ∙ ap (above C n k m) e)
 
   -- memory is as long after roots are written
-  pub length-found : (D k : ℕ) (q before found : List ℕ) → k * length (rootsOf C D k q) ≤ length before → found ≡ rowsOnto C k (rootsOf C D k q) before → length found ≡ length before
+  pub length-found : (D k : ℕ) (q before found : List ℕ) → k * length (rootsOf C D k q) ≤ length before → found ≡ rowsOnto k (rootsOf C D k q) before → length found ≡ length before
   length-found D k q before found h e =
       let size = length-flatten k (rootsOf C D k q) (roots-sized D k q) in
       ap length e ∙ length-append (flatten (rootsOf C D k q)) (drop (k * length (rootsOf C D k q)) before)

@@ -28,7 +28,7 @@ module _ (C : Code) where
   pub record Lists (n k : ℕ) (m : List ℕ) (listed : List (List ℕ)) (rows scores : List ℕ) (count : ℕ) (rowsAfter scoresAfter : List ℕ) : Type 0 where
     pub counted : count ≡ length listed
     pub few : count ≤ greatestRows
-    pub rows-are : rowsAfter ≡ rowsOnto C k listed rows
+    pub rows-are : rowsAfter ≡ rowsOnto k listed rows
     pub scores-are : scoresAfter ≡ scoresOnto C n m listed scores
 
   -- the y-roots whose score is greater than t, by falling score
@@ -58,7 +58,7 @@ module _ (C : Code) where
   abbrev pub Answered : List Line → ℕ → ℕ → List ℕ → List ℕ → List ℕ → Answer → List ℕ → List ℕ → Type 0
   Answered table n k m rows scores answer rowsAfter scoresAfter =
       (answer ≡ tried table refused (counted (length (listOf C n k m))))
-      × ((rowsAfter ≡ tried table (λ _ _. rows) (rowsOnto C k (listOf C n k m) rows))
+      × ((rowsAfter ≡ tried table (λ _ _. rows) (rowsOnto k (listOf C n k m) rows))
       × ((scoresAfter ≡ tried table (λ _ _. scores) (scoresOnto C n m (listOf C n k m) scores)) × (answer .count ≤ greatestRows)))
 
   -- the last line of both tables, the cost

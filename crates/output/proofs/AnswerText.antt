@@ -77,7 +77,7 @@ lines-flat k rows scores (suc j) =
 
 -- they are the lines of the list
 module _ (k : ℕ) (l : List (List ℕ)) (scoreOf : List ℕ → ℕ) (before rest rows scores : List ℕ) (sized : Sized k l)
-    (er : rows ≡ rowsOnto sixteen k l before) (es : scores ≡ map scoreOf l ++ rest) where
+    (er : rows ≡ rowsOnto k l before) (es : scores ≡ map scoreOf l ++ rest) where
   row-is : (j : ℕ) → j < length l → rowAt k rows j ≡ getD l j []
   row-is j h =
       sym (map-below-at (rowAt k rows) (length l) j [] h)
@@ -134,8 +134,8 @@ module _ (n k L G : ℕ) (r rows₀ scores₀ : List ℕ) (a : Answer) (rows sco
     counted-is : a ≡ counted (length listed)
     counted-is = ea ∙ sym (accepts refused (counted (length listed)) t)
 
-    rows-are : rows ≡ rowsOnto sixteen k listed rows₀
-    rows-are = er ∙ sym (accepts (λ _ _. rows₀) (rowsOnto sixteen k listed rows₀) t)
+    rows-are : rows ≡ rowsOnto k listed rows₀
+    rows-are = er ∙ sym (accepts (λ _ _. rows₀) (rowsOnto k listed rows₀) t)
 
     scores-are : scores ≡ scoresOnto sixteen n (matrix L r) listed scores₀
     scores-are = es ∙ sym (accepts (λ _ _. scores₀) (scoresOnto sixteen n (matrix L r) listed scores₀) t)

@@ -120,7 +120,7 @@ module _ (C : Code) (F : FieldOf C) (D k : ℕ) (q : List ℕ) (two : 2 ≤ k) (
 
         -- the rows one after the other, and what lies after them
         pub rows-written : (d r : List ℕ) → r ≡ laid d 0 (rowsAfter (take (k - k) row) (search C k (polynomial C (D / (k - 1) + 1) (D + 1) p)))
-            → r ≡ rowsOnto C k (rootsOf C D k q) d
+            → r ≡ rowsOnto k (rootsOf C D k q) d
         rows-written d r h =
             h ∙ laid-front d (rowsAfter (take (k - k) row) (search C k (polynomial C (D / (k - 1) + 1) (D + 1) p))) (k * length (rootsOf C D k q)) rows-number
             ∙ ap (λ (x : List ℕ). x ++ drop (k * length (rootsOf C D k q)) d) (rows-found ∙ rows-flat (rootsOf C D k q))

@@ -111,7 +111,7 @@ pub fn roots_into(degree: usize, k: usize, coefficients: &[u8], out: &mut [u8]) 
     requires { ⌜ Symbols sixteen (now coefficients) ⌝ }
     requires { ⌜ isZero (now coefficients) ≡ false ⌝ }
     ensures count { λ r. ⌜ r ≡ length (rootsOf sixteen degree k (now (coefficients .entry))) ⌝ }
-    ensures memory { λ _. ⌜ now (out .exit) ≡ rowsOnto sixteen k (rootsOf sixteen degree k (now (coefficients .entry))) (now (out .entry)) ⌝ }
+    ensures memory { λ _. ⌜ now (out .exit) ≡ rowsOnto k (rootsOf sixteen degree k (now (coefficients .entry))) (now (out .entry)) ⌝ }
 {
     let table = field::inside::products();
     let h = degree / (k - 1) + 1;

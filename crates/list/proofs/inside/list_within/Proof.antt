@@ -11,8 +11,9 @@ use Rattle.definitions.specs.Field.{sixteen}
 use Rattle.definitions.specs.Limits.{greatestRows}
 use Rattle.definitions.specs.Polynomial.{Interpolates}
 use Rattle.instances.proofs.Codes.{sixteen-field}
+use Rattle.interpolation.proofs.Coefficients.{count-small}
 use Rattle.list.proofs.Degrees.{powers-of-y}
-use Rattle.list.proofs.Found.{degree-small, count-small, bound-of-cost, interpolating, prefix, length-after}
+use Rattle.list.proofs.Found.{degree-small, bound-of-cost, prefix, length-after}
 use Rattle.list.proofs.Listing.{lists}
 use Rattle.list.specs.Within.{Rooted}
 use Rattle.weights.specs.Matrix.{matrixOf}
@@ -28,7 +29,7 @@ count-requires c κs =
     let s = entry c in
     let a = s .args in
     let z = s .pre .0 in
-    let low = degree-small (a .n) (a .k) (a .cost) (z .0) (z .1) (z .2) (z .4) (c .bound .result) (c .bound .ensures) in
+    let low = degree-small (a .k - 1) (a .cost) (c .bound .result) (omega arith) (z .4) (c .bound .ensures) in
     (omega arith, omega arith)
 
 -- the coefficients fit into a row
@@ -37,7 +38,7 @@ few c =
     let s = entry (c .before) in
     let a = s .args in
     let z = s .pre .0 in
-    count-small (a .n) (a .k) (a .cost) (z .0) (z .1) (z .2) (z .4) (c .before .bound .result) (c .before .bound .ensures) (c .count .result) (c .count .ensures)
+    count-small (a .k - 1) (c .before .bound .result) (c .count .result) (a .cost) (omega arith) (z .4) (c .before .bound .ensures) (c .count .ensures)
 
 polynomial-requires : tie.Need-polynomial-requires
 polynomial-requires c κs =
@@ -58,10 +59,9 @@ written c = c .polynomial2 .last .1 .1 .1 .1 .0
 long : (c : tie.After-polynomial2) → length (written c) ≡ width
 long c =
     let s = entry (degree c) in
-    let a = s .args in
-    let z = s .pre .0 in
-    let w = s .pre .1 .1 in
-    length-after (a .n) (a .k) (a .cost) (z .0) (z .1) (z .2) (z .4) (degree c .bound .result) (degree c .bound .ensures) (a .matrix .now) (w .0) (w .1) (w .2) (z .3) (replicate width 0) (written c) (c .polynomial2 .result) refl (c .polynomial2 .ensures)
+    let small = few (c .before .before) in
+    let n = c .before .before .count .ensures in
+    length-after sixteen (s .args .matrix .now) (s .args .k - 1) (degree c .bound .result) (c .polynomial2 .result) (replicate width 0) (written c) (c .polynomial2 .ensures) (omega arith)
 
 -- and its front interpolates the bytes that the matrix was loaded from
 front : (c : tie.After-polynomial2) (m : List ℕ) → length m ≡ sixteen .symbols * entry (degree c) .args .n → entry (degree c) .args .matrix .now ≡ matrixOf sixteen m (entry (degree c) .args .n)
@@ -69,11 +69,10 @@ front : (c : tie.After-polynomial2) (m : List ℕ) → length m ≡ sixteen .sym
 front c m size loaded =
     let s = entry (degree c) in
     let a = s .args in
-    let z = s .pre .0 in
     let n = c .before .before in
     subst (Interpolates sixteen (a .n) (a .k - 1) (degree c .bound .result) m)
-    (sym (prefix (a .n) (a .k) (a .cost) (z .0) (z .1) (z .2) (z .4) (degree c .bound .result) (degree c .bound .ensures) (a .matrix .now) m size loaded (z .3) (replicate width 0) (written c) (c .polynomial2 .result) refl (c .polynomial2 .ensures) (n .count .result) (n .count .ensures)))
-    (interpolating (a .n) (a .k) (a .cost) (z .0) (z .1) (z .2) (z .4) (degree c .bound .result) (degree c .bound .ensures) (a .matrix .now) m size loaded (z .3) (replicate width 0) (written c) (c .polynomial2 .result) refl (c .polynomial2 .ensures))
+    (sym (prefix sixteen (a .matrix .now) (a .k - 1) (degree c .bound .result) (c .polynomial2 .result) (replicate width 0) (written c) (c .polynomial2 .ensures) (n .count .result) (n .count .ensures)))
+    (c .polynomial2 .ensures .interpolates m (a .n) (s .pre .0 .2) size loaded)
 
 rooted : (c : tie.After-polynomial2)
     → (let a = entry (degree c) .args in Rooted sixteen (a .n) (a .k) (degree c .bound .result) (degree c .bound .result) (take (c .before .before .count .result) (written c)))
@@ -86,11 +85,11 @@ rooted c =
     let i = front c (w .0) (w .1) (w .2) in
     let small = few (c .before .before) in
     let n = c .before .before .count .ensures in
-    let low = degree-small (a .n) (a .k) (a .cost) (z .0) (z .1) (z .2) (z .4) d (degree c .bound .ensures) in
+    let low = degree-small (a .k - 1) (a .cost) d (omega arith) (z .4) (degree c .bound .ensures) in
     record {
       sized = (z .0, z .1, z .2);
       few = omega arith;
-      low = subst (λ (x : ℕ). x / (a .k - 1) ≤ greatestRows) (sym (degree c .bound .ensures)) (powers-of-y (a .k - 1) (a .cost) (omega arith) (omega arith) (z .4));
+      low = subst (λ (x : ℕ). x / (a .k - 1) ≤ greatestRows) (sym (degree c .bound .ensures)) (powers-of-y (a .k - 1) (a .cost) (omega arith) (z .4));
       threshold = omega arith;
       full = i .size;
       symbols = i .symbols;
@@ -122,7 +121,7 @@ returns c m size loaded =
     let z = s .pre .0 in
     let d = degree p .bound .result in
     lists sixteen sixteen-field (a .n) (a .k) d d (take (p .before .before .count .result) (written p)) (rooted p) m size (front p m size loaded .through) (omega arith) _
-    (bound-of-cost (a .n) (a .k) (a .cost) (z .0) (z .1) (z .2) (z .4) d (degree p .bound .ensures) (a .matrix .now) m size loaded (z .3)) (l .listed .ensures m size loaded)
+    (bound-of-cost sixteen (a .n) (a .k - 1) (a .cost) d (a .matrix .now) m (z .2) (degree p .bound .ensures) (z .3) size loaded) (l .listed .ensures m size loaded)
 
 pub list-within-spec : {M : Type 1} → statement M
 list-within-spec =
