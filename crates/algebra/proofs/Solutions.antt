@@ -65,7 +65,7 @@ module _ (C : Code) (F : FieldOf C) where
 
   module _ (r q : ℕ → ℕ) (sr : (k : ℕ) → r k < C .symbols) (sq : (k : ℕ) → q k < C .symbols) where
     -- a row of symbols times symbols, for that of the elements
-    number-dot : (n : ℕ) → φ (dot G n (λ k. F .element (r k)) (λ k. F .element (q k))) ≡ dot N n r q
+    pub number-dot : (n : ℕ) → F .number .φ (dot (F .ring .ops) n (λ k. F .element (r k)) (λ k. F .element (q k))) ≡ dot (numbers C) n r q
     number-dot n =
         carry-dot G N (F .number) n (λ k. F .element (r k)) (λ k. F .element (q k))
         ∙ dot-equal N n _ r _ q (λ k h. F .number-element (r k) (sr k)) (λ k h. F .number-element (q k) (sq k))

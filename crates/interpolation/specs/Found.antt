@@ -13,7 +13,6 @@ use Rattle.weights.specs.Matrix.{matrixOf, matrixCost}
 -- a matrix within limits, its cost, its bound and how many coefficients that has, for which there is room
 pub record Given (C : Code) (a : List (List ℕ)) (v D w cost : ℕ) (out : List ℕ) : Type 0 where
   pub weighted : 0 < v
-  pub low : v < C .positions
   pub cheap : cost ≤ greatestLimit
   pub priced : cost ≡ matrixCost C a
   pub bounded : D ≡ bound v (matrixCost C a)

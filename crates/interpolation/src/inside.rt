@@ -92,7 +92,7 @@ pub fn polynomial(
     count: usize,
     out: &mut [u8],
 ) -> usize
-    requires { ⌜ (0 < v) × (v < sixteen .positions) × (matrixCost sixteen (now matrix) ≤ greatestLimit) ⌝ }
+    requires { ⌜ (0 < v) × (matrixCost sixteen (now matrix) ≤ greatestLimit) ⌝ }
     requires { ⌜ (d ≡ bound v (matrixCost sixteen (now matrix))) × (count ≡ Rattle.definitions.specs.Bound.count v d) × (count ≤ length (now out)) ⌝ }
     ensures { λ r. ⌜ Found sixteen (now (matrix .entry)) v d (now (out .entry)) r (now (out .exit)) ⌝ }
 {

@@ -10,6 +10,7 @@ use native.Mathlib.Omega.{arith}
 use lib.ListN.{getD}
 use Rattle.algebra.proofs.Elements.{number-injective, symbol-injective, zero-element, zero-symbol, one-symbol, plus-symbol, times-symbol, element-zero, element-one, element-plus, element-times, plus-none, none-times}
 use Rattle.algebra.proofs.Linear.{dot-equal, carry-dot}
+use Rattle.algebra.proofs.Solutions.{number-dot}
 use Rattle.algebra.specs.Dot.{dot}
 use Rattle.algebra.proofs.RingLaws.{plus-self, zero-times, equal-of-sum}
 use Rattle.algebra.specs.FieldOf.{FieldOf}
@@ -91,21 +92,15 @@ module _ (C : Code) (F : FieldOf C) where
   vector q k = F .element (getD q k 0)
 
   module _ (rows w : ℕ) where
-    -- a row of numbers times numbers is the number of the row of elements times elements
-    number-dot : (m : List (List ℕ)) → SymbolRows C m → (q : List ℕ) → Symbols C q → (r : ℕ)
-        → F .number .φ (dot G w (grid m r) (vector q)) ≡ dot N w (entryOf m r) (λ k. getD q k 0)
-    unfolding grid vector
-    number-dot m sm q sq r =
-        carry-dot G N (F .number) w (grid m r) (vector q)
-        ∙ dot-equal N w _ (entryOf m r) _ (λ k. getD q k 0) (λ k h. F .number-element (entryOf m r k) (sm r k)) (λ k h. F .number-element (getD q k 0) (sq k))
-
     -- elements solve where numbers do
     elements-solve : (m : List (List ℕ)) → SymbolRows C m → (q : List ℕ) → Symbols C q → Solves C rows w m q → Sol G rows w (grid m) (vector q)
-    elements-solve m sm q sq s r h = number-injective C F _ (G .o) (number-dot m sm q sq r ∙ s r h ∙ sym (F .number .φ-zero))
+    unfolding grid vector
+    elements-solve m sm q sq s r h = number-injective C F _ (G .o) (number-dot C F (entryOf m r) (λ k. getD q k 0) (sm r) sq w ∙ s r h ∙ sym (F .number .φ-zero))
 
     -- and numbers where elements do
     numbers-solve : (m : List (List ℕ)) → SymbolRows C m → (q : List ℕ) → Symbols C q → Sol G rows w (grid m) (vector q) → Solves C rows w m q
-    numbers-solve m sm q sq s r h = sym (number-dot m sm q sq r) ∙ ap (F .number .φ) (s r h) ∙ F .number .φ-zero
+    unfolding grid vector
+    numbers-solve m sm q sq s r h = sym (number-dot C F (entryOf m r) (λ k. getD q k 0) (sm r) sq w) ∙ ap (F .number .φ) (s r h) ∙ F .number .φ-zero
 
     -- a vector that ends before a column needs no more columns than that, and no more of the rows
     pub solves-narrow : (n : ℕ) (m b : List (List ℕ)) → SymbolRows C m → SymbolRows C b → (q : List ℕ) → Symbols C q → n ≤ w
@@ -116,7 +111,7 @@ module _ (C : Code) (F : FieldOf C) where
       where
         narrow : (r : ℕ) → r < rows → dot N w (entryOf m r) (λ k. getD q k 0) ≡ dot N n (entryOf b r) (λ k. getD q k 0)
         narrow r h =
-            sym (number-dot m sm q sq r)
+            sym (number-dot C F (entryOf m r) (λ k. getD q k 0) (sm r) sq w)
             ∙ ap (F .number .φ) (dot-ends (F .ring) w n (grid m r) (vector q) l (λ k g f. ap (F .element) (ends k g f) ∙ element-zero C F))
             ∙ carry-dot G N (F .number) n (grid m r) (vector q)
             ∙ dot-equal N n _ (entryOf b r) _ (λ k. getD q k 0) (λ k g. entry-number r k ∙ sym (same r k h g)) (λ k g. F .number-element (getD q k 0) (sq k))

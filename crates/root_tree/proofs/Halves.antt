@@ -53,17 +53,17 @@ module _ (R : Ring) where
   odd-more : (c x y z d k : K) → x ≡ d → z ≡ k → c ⊗ (c ⊗ x ⊕ y) ⊕ (c ⊗ y ⊕ z) ≡ c ⊗ c ⊗ d ⊕ k
   odd-more c x y z d k h l = rw (h, l) (simp ring)
 
-  -- the odd places
-  odd-places : (c : K) (n : ℕ) (f : ℕ → K) (q : ℕ) → moved c (two n) f (suc (two q)) ≡ moved (c ⊗ c) n (λ u. f (suc (two u))) q
+  -- the odd places: half of them, moved by c²
+  pub moved-odd : (c : K) (n : ℕ) (f : ℕ → K) (q : ℕ) → moved c (two n) f (suc (two q)) ≡ moved (c ⊗ c) n (λ u. f (suc (two u))) q
   unfolding moved two
-  odd-places c zero f q = refl
-  odd-places c (suc n) f zero =
+  moved-odd c zero f q = refl
+  moved-odd c (suc n) f zero =
       odd-more c (moved c (two n) (λ b. f (suc (suc b))) (suc zero)) (moved c (two n) (λ b. f (suc (suc b))) zero) (f (suc zero))
-      (moved (c ⊗ c) n (λ u. f (suc (suc (suc (two u))))) zero) (f (suc zero)) (odd-places c n (λ b. f (suc (suc b))) zero) refl
-  odd-places c (suc n) f (suc q) =
+      (moved (c ⊗ c) n (λ u. f (suc (suc (suc (two u))))) zero) (f (suc zero)) (moved-odd c n (λ b. f (suc (suc b))) zero) refl
+  moved-odd c (suc n) f (suc q) =
       odd-more c (moved c (two n) (λ b. f (suc (suc b))) (suc (two (suc q)))) (moved c (two n) (λ b. f (suc (suc b))) (two (suc q))) (moved c (two n) (λ b. f (suc (suc b))) (suc (two q)))
       (moved (c ⊗ c) n (λ u. f (suc (suc (suc (two u))))) (suc q)) (moved (c ⊗ c) n (λ u. f (suc (suc (suc (two u))))) q)
-      (odd-places c n (λ b. f (suc (suc b))) (suc q)) (odd-places c n (λ b. f (suc (suc b))) q)
+      (moved-odd c n (λ b. f (suc (suc b))) (suc q)) (moved-odd c n (λ b. f (suc (suc b))) q)
 
   -- the even places
   even-places : (c : K) (n : ℕ) (f : ℕ → K) (q : ℕ)
@@ -94,12 +94,9 @@ module _ (R : Ring) where
       ap₂ (λ (x y : K). c ⊗ x ⊕ y) (moved-sum c k n (λ b. f (suc b)) (λ b. g (suc b)) (suc t)) (moved-sum c k n (λ b. f (suc b)) (λ b. g (suc b)) t)
       ∙ sum-first c k (moved c n (λ b. f (suc b)) (suc t)) (moved c n (λ b. g (suc b)) (suc t)) (moved c n (λ b. f (suc b)) t) (moved c n (λ b. g (suc b)) t)
 
-  -- with c times each odd entry added to the even one before it, both halves are left to be moved by c²
+  -- the even places: with c times each odd entry added to the even one before it, half of them, moved by c²
   pub moved-even : (c : K) (n : ℕ) (f : ℕ → K) (q : ℕ) → moved c (two n) f (two q) ≡ moved (c ⊗ c) n (λ u. f (two u) ⊕ c ⊗ f (suc (two u))) q
   moved-even c n f q = even-places c n f q ∙ sym (moved-sum (c ⊗ c) c n (λ u. f (two u)) (λ u. f (suc (two u))) q)
-
-  pub moved-odd : (c : K) (n : ℕ) (f : ℕ → K) (q : ℕ) → moved c (two n) f (suc (two q)) ≡ moved (c ⊗ c) n (λ u. f (suc (two u))) q
-  moved-odd = odd-places
 
   -- of no coefficients but zeros
   moved-zeros : (c : K) (n : ℕ) (f : ℕ → K) → ((b : ℕ) → f b ≡ o) → (t : ℕ) → moved c n f t ≡ o

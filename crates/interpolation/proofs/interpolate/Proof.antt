@@ -94,7 +94,7 @@ polynomial-requires c κs =
     let f = fit (l .before) in
     let s = f .sized in
     let few = count-small (k - 1) (d .bound .result) (n .count .result) (matrixCost sixteen (l .load .result)) (omega arith) (cheap (d .before)) (bounded d) (n .count .ensures) in
-    ((omega arith, omega arith, cheap (d .before)), (bounded d, n .count .ensures, omega arith))
+    ((omega arith, cheap (d .before)), (bounded d, n .count .ensures, omega arith))
 
 returns-3 : tie.Need-returns-3
 returns-3 c =

@@ -46,7 +46,7 @@ polynomial-requires c κs =
     let s = entry (n .before) in
     let z = s .pre .0 in
     let price = z .3 in
-    ((omega arith, omega arith, omega arith), (n .before .bound .ensures ∙ ap (bound (s .args .k - 1)) (z .3), n .count .ensures, few n))
+    ((omega arith, omega arith), (n .before .bound .ensures ∙ ap (bound (s .args .k - 1)) (z .3), n .count .ensures, few n))
 
 abbrev degree : tie.After-polynomial2 → tie.After-bound
 degree c = c .before .before .before
