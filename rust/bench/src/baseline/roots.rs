@@ -49,15 +49,24 @@ impl Polynomial {
         from_the_top.fold(0, |value, cell| product(value, symbol) ^ cell)
     }
 
-    /// With y + symbol for y.
+    /// Adds the factor times the coefficients of y^from to those of y^to, a lower power.
+    fn add_multiple(&mut self, to: usize, from: usize, factor: u8) {
+        let (low, high) = self.cells.split_at_mut(self.width * from);
+        let cells = &mut low[self.width * to..][..self.width];
+        for (cell, &above) in cells.iter_mut().zip(&*high) {
+            *cell ^= product(factor, above);
+        }
+    }
+
+    /// With y + symbol for y: a fold for each bit of a power.
     fn shifted(mut self, symbol: u8) -> Self {
-        for pass in 0..self.height {
-            for b in (pass..self.height - 1).rev() {
-                let (low, high) = self.cells[self.width * b..].split_at_mut(self.width);
-                for (cell, &above) in low.iter_mut().zip(&*high) {
-                    *cell ^= product(symbol, above);
-                }
+        let (mut bit, mut factor) = (1, symbol);
+        while bit < self.height {
+            for b in (0..self.height - bit).filter(|b| b & bit == 0) {
+                self.add_multiple(b, b + bit, factor);
             }
+            factor = product(factor, factor);
+            bit *= 2;
         }
         self
     }
