@@ -4,7 +4,7 @@
 use mathlib.Core.Bool.{Bool, true, false, cond, not, _||_}
 use mathlib.Core.Logic.{_≢_}
 use mathlib.Core.Path.{_≡_, refl, sym, _∙_, ap, ap₂, subst}
-use Prim.Native.Nat.{ℕ, zero, suc, _/_, _%_, _^_, _<_, Fin}
+use Prim.Native.Nat.{ℕ, zero, suc, _-_, _/_, _%_, _^_, _≤_, _<_, Fin}
 use native.Mathlib.Decide.{Fin·val-path}
 use native.Mathlib.Nat.{mod-lt, mod-eq-of-lt}
 use native.Mathlib.Omega.{arith}
@@ -55,6 +55,15 @@ module _ (w modulus : ℕ) where
   unfolding shifted
   shifted-zero zero b = refl
   shifted-zero (suc n) b = zero-sum (shifted w modulus n 0 (d b)) ∙ shifted-zero n (d b)
+
+  -- of 2, which is α, only the second bit is one
+  second-bit : (n b : ℕ) → shifted w modulus (suc (suc n)) 2 b ≡ double w modulus b
+  unfolding shifted
+  second-bit n b = zero-sum (sumOf (d b) (shifted w modulus n 0 (d (d b)))) ∙ ap (sumOf (d b)) (shifted-zero n (d (d b))) ∙ sum-neutral (d b)
+
+  -- so doubling is the product by 2
+  pub double-is-product : 2 ≤ w → (b : ℕ) → double w modulus b ≡ productOf w modulus 2 b
+  double-is-product wide b = sym (second-bit (w - 2) b) ∙ ap (λ (n : ℕ). shifted w modulus n 2 b) (let e : suc (suc (w - 2)) ≡ w = omega arith in e)
 
   module _ (positions : ℕ) where
     -- what is computed of the modulus: doubling keeps symbols, sums and products, the product is commutative, 1 is neutral, each symbol

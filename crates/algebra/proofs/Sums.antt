@@ -4,7 +4,7 @@ use mathlib.Core.Path.{_≡_, refl, sym, _∙_, ap, ap₂}
 use Prim.Native.Nat.{ℕ, _+_, _*_, _/_, _%_, _^_, _<_}
 use native.Mathlib.Omega.{arith}
 use lib.Arith.{bin-ind, digits-mod, digits-div}
-use lib.Bits.{bitXor, differ, xor-step, xor-comm, xor-self, xor-zero-r, xor-lt}
+use lib.Bits.{bitXor, bitAnd, differ, xor-step, xor-comm, xor-self, xor-zero-r, xor-lt, xor-disjoint, and-shifted}
 use lib.Dec.{T, eqb, eqb→eq, ltb, ltb→lt}
 use Rattle.definitions.specs.Field.{sumOf}
 use Rattle.algebra.proofs.Tests.{every, everyPair, every-at, everyPair-at}
@@ -91,3 +91,10 @@ pub ruleset sums = (sum-assoc, sum-comm, sum-left, sum-neutral, zero-sum)
 pub sum-lt : (w a b : ℕ) → a < 2 ^ w → b < 2 ^ w → sumOf a b < 2 ^ w
 unfolding sumOf
 sum-lt w a b ha hb = xor-lt w a b ha hb
+
+-- a power of two has no bit in common with what is below it
+pub sum-of-power : (e c : ℕ) → c < 2 ^ e → sumOf c (2 ^ e) ≡ 2 ^ e + c
+unfolding sumOf
+sum-of-power e c h =
+    xor-comm c (2 ^ e)
+    ∙ xor-disjoint (2 ^ e) c (ap (λ (x : ℕ). bitAnd x c) (let one : 2 ^ e ≡ 1 * 2 ^ e = omega arith in one) ∙ and-shifted 1 e c h)

@@ -53,7 +53,7 @@ pub fn summed(a: &[u8; BLOCK], b: &[u8; BLOCK]) -> [u8; BLOCK]
 
 // u times a block, by the table.
 pub fn scaled(table: &[u8; 256], a: &[u8; BLOCK], u: u8) -> [u8; BLOCK]
-    requires { ⌜ Products (now table) ⌝ }
+    requires { ⌜ Products sixteen (now table) ⌝ }
     requires { ⌜ (u < sixteen .symbols) × SymbolBlock sixteen (now a) ⌝ }
     ensures { λ r. ⌜ ScaledBlock sixteen u (now (a .entry)) r ⌝ }
 {

@@ -10,7 +10,7 @@ use field::inside::ALPHA;
 
 // The value of the polynomial f at x.
 pub fn value_at(table: &[u8; 256], f: &[u8], x: u8) -> u8
-    requires { ⌜ Products (now table) ⌝ }
+    requires { ⌜ Products sixteen (now table) ⌝ }
     requires { ⌜ Symbols sixteen (now f) ⌝ }
     requires { ⌜ x < sixteen .symbols ⌝ }
     ensures { λ r. ⌜ r ≡ value (numbers sixteen) x (now (f .entry)) ⌝ }

@@ -43,7 +43,7 @@ fn exponents(v: usize, count: usize) -> [[u8; WIDTH]; 2]
 
 // The first n powers of x.
 fn powers(table: &[u8; 256], x: u8, n: usize) -> [u8; WIDTH]
-    requires { ⌜ Products (now table) ⌝ }
+    requires { ⌜ Products sixteen (now table) ⌝ }
     requires { ⌜ (x < sixteen .symbols) × (n ≤ width) ⌝ }
     ensures { λ r. ⌜ r ≡ powersRow sixteen n x ⌝ }
 {
@@ -66,7 +66,7 @@ fn values(
     es: &[[u8; WIDTH]; 2],
     count: usize,
 ) -> [u8; WIDTH]
-    requires { ⌜ Products (now table) ⌝ }
+    requires { ⌜ Products sixteen (now table) ⌝ }
     requires { ⌜ Symbols sixteen (now px) × Symbols sixteen (now py) ⌝ }
     requires { ⌜ Places (now es) × (count ≤ width) ⌝ }
     ensures { λ r. ⌜ r ≡ valuesRow sixteen count (now (px .entry)) (now (py .entry)) (now (es .entry)) ⌝ }
@@ -183,7 +183,7 @@ fn point_rows(
     n: usize,
     count: usize,
 ) -> usize
-    requires { ⌜ Products (now table) ⌝ }
+    requires { ⌜ Products sixteen (now table) ⌝ }
     requires { ⌜ Symbols sixteen (now px) × Places (now es) ⌝ }
     requires { ⌜ (b < sixteen .symbols) × (n ≤ width) × (count ≤ width) ⌝ }
     requires { ⌜ at + length (maskedPoint sixteen (now px) n count (now es) b m) ≤ length (now rows) ⌝ }
@@ -209,7 +209,7 @@ fn column_rows(
     n: usize,
     count: usize,
 ) -> usize
-    requires { ⌜ Products (now table) ⌝ }
+    requires { ⌜ Products sixteen (now table) ⌝ }
     requires { ⌜ Symbols sixteen (now px) × Places (now es) ⌝ }
     requires { ⌜ (n ≤ width) × (count ≤ width) ⌝ }
     requires { ⌜ at + length (maskedColumn sixteen (now px) n count (now es) (now column)) ≤ length (now rows) ⌝ }
@@ -235,7 +235,7 @@ pub fn matrix_rows(
     d: usize,
     count: usize,
 ) -> usize
-    requires { ⌜ Products (now table) ⌝ }
+    requires { ⌜ Products sixteen (now table) ⌝ }
     requires { ⌜ (0 < v) × (d < width) × (count ≤ width) ⌝ }
     requires { ⌜ length (maskedRows sixteen v d count (now matrix)) ≤ length (now rows) ⌝ }
     ensures { λ r. ⌜ r ≡ length (maskedRows sixteen v d count (now (matrix .entry))) ⌝ }

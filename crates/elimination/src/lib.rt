@@ -26,7 +26,7 @@ fn exchange_block(
     u: u8,
 )
     requires { ⌜ System sixteen (now system) ⌝ }
-    requires { ⌜ Products (now table) ⌝ }
+    requires { ⌜ Products sixteen (now table) ⌝ }
     requires { ⌜ InRow at × (r < length (now system)) × (j < length (now system)) × (u < sixteen .symbols) ⌝ }
     ensures { λ _. ⌜ ExchangedIn sixteen at (at + block) r j u (now (system .entry)) (now (system .exit)) ⌝ }
 {
@@ -40,7 +40,7 @@ fn exchange_block(
 // The same in each block from that of column j on.
 fn exchange(system: &mut [[u8; WIDTH]], table: &[u8; 256], r: usize, j: usize, u: u8, blocks: usize)
     requires { ⌜ System sixteen (now system) ⌝ }
-    requires { ⌜ Products (now table) ⌝ }
+    requires { ⌜ Products sixteen (now table) ⌝ }
     requires { ⌜ (r < length (now system)) × (j < length (now system)) × (u < sixteen .symbols) ⌝ }
     requires { ⌜ (j < blocks * block) × (blocks * block ≤ width) ⌝ }
     ensures { λ _. ⌜ ExchangedIn sixteen (j / block * block) (blocks * block) r j u (now (system .entry)) (now (system .exit)) ⌝ }
@@ -146,7 +146,7 @@ fn pivot(
     blocks: usize,
 )
     requires { ⌜ System sixteen (now system) ⌝ }
-    requires { ⌜ Products (now table) ⌝ }
+    requires { ⌜ Products sixteen (now table) ⌝ }
     requires { ⌜ Within rows blocks (now system) ⌝ }
     requires { ⌜ (j ≤ r) × (r < rows) ⌝ }
     requires { ⌜ Triangle rows j (now system) ⌝ }
@@ -168,7 +168,7 @@ pub fn first_dependent(
     blocks: usize,
 ) -> usize
     requires { ⌜ System sixteen (now system) ⌝ }
-    requires { ⌜ Products (now table) ⌝ }
+    requires { ⌜ Products sixteen (now table) ⌝ }
     requires { ⌜ Within rows blocks (now system) ⌝ }
     ensures { λ j. ⌜ j ≤ rows ⌝ }
     ensures { λ j. ⌜ Eliminated sixteen rows (blocks * block) j (now (system .entry)) (now (system .exit)) ⌝ }
@@ -194,7 +194,7 @@ pub fn first_dependent(
 
 // Entry s of what solves the triangle: of the entries behind it, which are found already.
 fn back(table: &[u8; 256], row: &[u8; WIDTH], s: usize, j: usize, out: &[u8]) -> u8
-    requires { ⌜ Products (now table) ⌝ }
+    requires { ⌜ Products sixteen (now table) ⌝ }
     requires { ⌜ (s < j) × (j < width) × (j ≤ length (now out)) ⌝ }
     requires { ⌜ Symbols sixteen (now row) ⌝ }
     requires { ⌜ SymbolsBetween sixteen s j (now out) ⌝ }
@@ -211,7 +211,7 @@ fn back(table: &[u8; 256], row: &[u8; WIDTH], s: usize, j: usize, out: &[u8]) ->
 
 // The first j coefficients, from the last to the first.
 pub fn solve(system: &[[u8; WIDTH]], table: &[u8; 256], j: usize, out: &mut [u8])
-    requires { ⌜ Products (now table) ⌝ }
+    requires { ⌜ Products sixteen (now table) ⌝ }
     requires { ⌜ SymbolRows sixteen (now system) ⌝ }
     requires { ⌜ (j < width) × (j ≤ length (now system)) × (j ≤ length (now out)) ⌝ }
     ensures { λ _. ⌜ Solved sixteen j 0 (now (system .entry)) (now (out .entry)) (now (out .exit)) ⌝ }

@@ -9,46 +9,46 @@ use borrow.Author.Tests.{lt-ltb, le-ltb, eq-eqb, ne-eqb}
 use lib.Dec.{eqb, ltb}
 use Rattle.definitions.proofs.Refusals.{none-above}
 use Rattle.definitions.proofs.Table.{Gives, stop, Accepts, next, end, above-means}
-use Rattle.definitions.specs.Field.{sixteen}
+use Rattle.definitions.specs.Field.{Code}
 use Rattle.definitions.specs.Polynomial.{isZero}
 use Rattle.definitions.specs.Refusals.{firstAbove, symbols, zeroes, fieldTable, inverseTable}
 use Rattle.refusals.specs.Checked.{Outcome, passed, refusedAt, orLine, lineOf}
 use Rattle.refusals.specs.declared.Refusal.the-variants.{Symbol, Zero}
 
 -- the greatest symbol
-abbrev greatest : ℕ
-greatest = sixteen .symbols - 1
+abbrev greatest : Code → ℕ
+greatest C = C .symbols - 1
 
-module _ (a b : ℕ) where
+module _ (C : Code) (a b : ℕ) where
   -- which operand is no symbol
-  pub first-is-bad : greatest < a → 0 ≡ firstAbove greatest (a ∷ b ∷ [])
+  pub first-is-bad : greatest C < a → 0 ≡ firstAbove (greatest C) (a ∷ b ∷ [])
   unfolding firstAbove
-  first-is-bad h = simp (lt-ltb greatest a h)
+  first-is-bad h = simp (lt-ltb (greatest C) a h)
 
-  pub second-is-bad : a ≤ greatest → greatest < b → 1 ≡ firstAbove greatest (a ∷ b ∷ [])
+  pub second-is-bad : a ≤ greatest C → greatest C < b → 1 ≡ firstAbove (greatest C) (a ∷ b ∷ [])
   unfolding firstAbove
-  second-is-bad ha hb = simp (le-ltb greatest a ha, lt-ltb greatest b hb)
+  second-is-bad ha hb = simp (le-ltb (greatest C) a ha, lt-ltb (greatest C) b hb)
 
-  pub none-is-bad : a ≤ greatest → b ≤ greatest → 2 ≡ firstAbove greatest (a ∷ b ∷ [])
+  pub none-is-bad : a ≤ greatest C → b ≤ greatest C → 2 ≡ firstAbove (greatest C) (a ∷ b ∷ [])
   unfolding firstAbove
-  none-is-bad ha hb = simp (le-ltb greatest a ha, le-ltb greatest b hb)
+  none-is-bad ha hb = simp (le-ltb (greatest C) a ha, le-ltb (greatest C) b hb)
 
   -- an operand is refused
-  pub operand-refused : firstAbove greatest (a ∷ b ∷ []) < 2 → Gives (fieldTable sixteen a b) 5 (firstAbove greatest (a ∷ b ∷ []))
+  pub operand-refused : firstAbove (greatest C) (a ∷ b ∷ []) < 2 → Gives (fieldTable C a b) 5 (firstAbove (greatest C) (a ∷ b ∷ []))
   operand-refused h = stop (lt-ltb _ _ h)
 
-  pub operands-accepted : 2 ≤ firstAbove greatest (a ∷ b ∷ []) → Accepts (fieldTable sixteen a b)
+  pub operands-accepted : 2 ≤ firstAbove (greatest C) (a ∷ b ∷ []) → Accepts (fieldTable C a b)
   operands-accepted h = next (le-ltb _ _ h) end
 
   -- so both are symbols
-  pub operands-symbols : 2 ≤ firstAbove greatest (a ∷ b ∷ []) → (a < sixteen .symbols) × (b < sixteen .symbols)
-  operands-symbols h = let first = none-above greatest (a ∷ b ∷ []) h 0 in let second = none-above greatest (a ∷ b ∷ []) h 1 in (omega arith, omega arith)
+  pub operands-symbols : 0 < C .symbols → 2 ≤ firstAbove (greatest C) (a ∷ b ∷ []) → (a < C .symbols) × (b < C .symbols)
+  operands-symbols pos h = let first = none-above (greatest C) (a ∷ b ∷ []) h 0 in let second = none-above (greatest C) (a ∷ b ∷ []) h 1 in (omega arith, omega arith)
 
 -- the one operand of the inverse: no symbol, or zero
 module _ (o : Outcome) (a : ℕ) where
-  pub symbol-line : orLine o (lineOf (ltb greatest a) (Symbol 0)) ≡ orLine o (symbols sixteen (a ∷ []))
+  pub symbol-line : (C : Code) → orLine o (lineOf (ltb (greatest C) a) (Symbol 0)) ≡ orLine o (symbols C (a ∷ []))
   unfolding firstAbove
-  symbol-line = by-test o (ltb greatest a)
+  symbol-line C = by-test o (ltb (greatest C) a)
     where
       by-test : (o : Outcome) (b : Bool) → orLine o (lineOf b (Symbol 0)) ≡ orLine o (record { number = 5; given = ltb (cond b 0 1) 1; place = cond b 0 1 })
       by-test (refusedAt number place) b = refl
@@ -64,13 +64,13 @@ module _ (o : Outcome) (a : ℕ) where
       and-true false = refl
 
 -- an operand that passes both
-pub nonzero-symbol : (a : ℕ) → Accepts (inverseTable sixteen a) → (a < sixteen .symbols) × (a ≡ 0 → ⊥)
+pub nonzero-symbol : (C : Code) (a : ℕ) → 0 < C .symbols → Accepts (inverseTable C a) → (a < C .symbols) × (a ≡ 0 → ⊥)
 unfolding isZero
-nonzero-symbol a (next s (next z end)) =
-    let h = above-means greatest (a ∷ []) s 0 in
+nonzero-symbol C a pos (next s (next z end)) =
+    let h = above-means (greatest C) (a ∷ []) s 0 in
     (omega arith, λ e. true≢false (sym (ap (λ (b : Bool). b && true) (eq-eqb a 0 e)) ∙ z))
 
-pub inverse-accepts : (a : ℕ) → a ≤ greatest → (a ≡ 0 → ⊥) → Accepts (inverseTable sixteen a)
+pub inverse-accepts : (C : Code) (a : ℕ) → a ≤ greatest C → (a ≡ 0 → ⊥) → Accepts (inverseTable C a)
 unfolding firstAbove isZero
-inverse-accepts a h n =
-    next (ap (λ (b : Bool). ltb (cond b 0 1) 1) (le-ltb greatest a h)) (next (ap (λ (b : Bool). b && true) (ne-eqb a 0 n)) end)
+inverse-accepts C a h n =
+    next (ap (λ (b : Bool). ltb (cond b 0 1) 1) (le-ltb (greatest C) a h)) (next (ap (λ (b : Bool). b && true) (ne-eqb a 0 n)) end)

@@ -7,22 +7,22 @@ use borrow.Author.Tests.{ne-eqb}
 use lib.Dec.{T, eqb, eqb→eq}
 use lib.ListN.{getD}
 use Rattle.algebra.proofs.Tests.{every, everyPair, every-at, everyPair-at}
-use Rattle.definitions.specs.Field.{sixteen, inverseOf}
+use Rattle.definitions.specs.Field.{Code, inverseOf}
 use Rattle.field.specs.Table.{Products, Inverses}
 
--- each of the 256 entries is the product of its row and its column
-abbrev pub productsRight : List ℕ → Bool
-productsRight t = everyPair (sixteen .symbols) (λ a b. eqb (getD t (a * sixteen .symbols + b) 0) (sixteen .times a b))
+-- each entry is the product of its row and its column
+abbrev pub productsRight : Code → List ℕ → Bool
+productsRight C t = everyPair (C .symbols) (λ a b. eqb (getD t (a * C .symbols + b) 0) (C .times a b))
 
-pub products-right : (t : List ℕ) → T (productsRight t) → Products t
+pub products-right : (C : Code) (t : List ℕ) → T (productsRight C t) → Products C t
 unfolding Products
-products-right t right a b ha hb = eqb→eq _ _ (everyPair-at (sixteen .symbols) (λ a b. eqb (getD t (a * sixteen .symbols + b) 0) (sixteen .times a b)) right a b ha hb)
+products-right C t right a b ha hb = eqb→eq _ _ (everyPair-at (C .symbols) (λ a b. eqb (getD t (a * C .symbols + b) 0) (C .times a b)) right a b ha hb)
 
--- each of the 16 entries but the first is the inverse of its place
-abbrev pub inversesRight : List ℕ → Bool
-inversesRight t = every (sixteen .symbols) (λ a. eqb a 0 || eqb (getD t a 0) (inverseOf sixteen a))
+-- each entry but the first is the inverse of its place
+abbrev pub inversesRight : Code → List ℕ → Bool
+inversesRight C t = every (C .symbols) (λ a. eqb a 0 || eqb (getD t a 0) (inverseOf C a))
 
-pub inverses-right : (t : List ℕ) → T (inversesRight t) → Inverses t
+pub inverses-right : (C : Code) (t : List ℕ) → T (inversesRight C t) → Inverses C t
 unfolding Inverses
-inverses-right t right a h nonzero =
-    eqb→eq _ _ (rw (ne-eqb a 0 nonzero) at (every-at (sixteen .symbols) (λ a. eqb a 0 || eqb (getD t a 0) (inverseOf sixteen a)) right a h))
+inverses-right C t right a h nonzero =
+    eqb→eq _ _ (rw (ne-eqb a 0 nonzero) at (every-at (C .symbols) (λ a. eqb a 0 || eqb (getD t a 0) (inverseOf C a)) right a h))

@@ -4,11 +4,11 @@ use mathlib.Core.List.{List}
 use mathlib.Core.Path.{_≡_}
 use Prim.Native.Nat.{ℕ, _+_, _*_, _<_}
 use lib.ListN.{getD}
-use Rattle.definitions.specs.Field.{sixteen, inverseOf}
+use Rattle.definitions.specs.Field.{Code, inverseOf}
 
--- "a table of all 256 products": a b at 16a + b
-unfoldable pub Products : List ℕ → Type 0
-Products t = (a b : ℕ) → a < sixteen .symbols → b < sixteen .symbols → getD t (a * sixteen .symbols + b) 0 ≡ sixteen .times a b
+-- "a table of all 256 products": of sixteen symbols a b is at 16a + b
+unfoldable pub Products : Code → List ℕ → Type 0
+Products C t = (a b : ℕ) → a < C .symbols → b < C .symbols → getD t (a * C .symbols + b) 0 ≡ C .times a b
 
-unfoldable pub Inverses : List ℕ → Type 0
-Inverses t = (a : ℕ) → a < sixteen .symbols → (a ≡ 0 → ⊥) → getD t a 0 ≡ inverseOf sixteen a
+unfoldable pub Inverses : Code → List ℕ → Type 0
+Inverses C t = (a : ℕ) → a < C .symbols → (a ≡ 0 → ⊥) → getD t a 0 ≡ inverseOf C a

@@ -291,13 +291,13 @@ const PRODUCTS: [u8; 256] = [
 
 // The constant is laid out anew at every use: a loop takes it once.
 pub fn products() -> [u8; 256]
-    ensures { λ r. ⌜ Products r ⌝ }
+    ensures { λ r. ⌜ Products sixteen r ⌝ }
 {
     PRODUCTS
 }
 
 pub fn look(table: &[u8; 256], a: u8, b: u8) -> u8
-    requires { ⌜ Products (now table) ⌝ }
+    requires { ⌜ Products sixteen (now table) ⌝ }
     requires { ⌜ (a < sixteen .symbols) × (b < sixteen .symbols) ⌝ }
     ensures { λ r. ⌜ r ≡ sixteen .times a b ⌝ }
 {
@@ -307,7 +307,7 @@ pub fn look(table: &[u8; 256], a: u8, b: u8) -> u8
 const INVERSES: [u8; SYMBOLS] = [0, 1, 9, 14, 13, 11, 7, 6, 15, 2, 12, 5, 10, 4, 3, 8];
 
 pub fn inverses() -> [u8; SYMBOLS]
-    ensures { λ r. ⌜ Inverses r ⌝ }
+    ensures { λ r. ⌜ Inverses sixteen r ⌝ }
 {
     INVERSES
 }

@@ -76,7 +76,7 @@ fn search(
     out: &mut [u8],
     at: usize,
 ) -> usize
-    requires { ⌜ Products (now table) ⌝ }
+    requires { ⌜ Products sixteen (now table) ⌝ }
     requires { ⌜ Symbols sixteen p ⌝ }
     requires { ⌜ (0 < h) × ((degree + 1) * h ≤ places) × (left ≤ k) × (k ≤ sixteen .positions) ⌝ }
     requires { ⌜ DegreeWithin sixteen (left - 1) degree h p × (at + length (rowsAfter (take (k - left) row) (search sixteen left (polynomial sixteen h (degree + 1) p))) ≤ length (now out)) ⌝ }

@@ -16,7 +16,7 @@ pub const PLACES: usize = 2 * GREATEST_COUNT;
 
 // The value of the first column at g.
 pub fn first_value(table: &[u8; 256], p: &[u8; PLACES], h: usize, g: u8) -> u8
-    requires { ⌜ Products (now table) ⌝ }
+    requires { ⌜ Products sixteen (now table) ⌝ }
     requires { ⌜ Symbols sixteen (now p) ⌝ }
     requires { ⌜ (h ≤ places) × (g < sixteen .symbols) × (length (now p) ≡ places) ⌝ }
     ensures { λ r. ⌜ r ≡ value (numbers sixteen) g (take h (now (p .entry))) ⌝ }
@@ -32,7 +32,7 @@ pub fn first_value(table: &[u8; 256], p: &[u8; PLACES], h: usize, g: u8) -> u8
 
 // To entry `to` of each column, g times its entry `from` is added.
 fn add_multiple(table: &[u8; 256], p: &mut [u8], h: usize, w: usize, to: usize, from: usize, g: u8)
-    requires { ⌜ Products (now table) ⌝ }
+    requires { ⌜ Products sixteen (now table) ⌝ }
     requires { ⌜ Symbols sixteen (now p) ⌝ }
     requires { ⌜ (to < from) × (from < h) × (w * h ≤ length (now p)) × (g < sixteen .symbols) ⌝ }
     ensures added { λ _. ⌜ Added sixteen h w w to from g (now (p .entry)) (now (p .exit)) ⌝ }
@@ -48,7 +48,7 @@ fn add_multiple(table: &[u8; 256], p: &mut [u8], h: usize, w: usize, to: usize, 
 
 // To each entry of a column whose place lacks the bit, g times the one that has it is added.
 fn fold(table: &[u8; 256], p: &mut [u8], h: usize, w: usize, bit: usize, g: u8)
-    requires { ⌜ Products (now table) ⌝ }
+    requires { ⌜ Products sixteen (now table) ⌝ }
     requires { ⌜ Symbols sixteen (now p) ⌝ }
     requires { ⌜ (0 < bit) × (bit < h) × (h ≤ places) × (w * h ≤ length (now p)) × (g < sixteen .symbols) ⌝ }
     ensures folded { λ _. ⌜ Folded sixteen h w bit g (now (p .entry)) (now (p .exit)) ⌝ }
@@ -65,7 +65,7 @@ fn fold(table: &[u8; 256], p: &mut [u8], h: usize, w: usize, bit: usize, g: u8)
 
 // Each column with y + g put for y, in place: a fold for each bit of a place.
 fn shift(table: &[u8; 256], p: &mut [u8], h: usize, w: usize, g: u8)
-    requires { ⌜ Products (now table) ⌝ }
+    requires { ⌜ Products sixteen (now table) ⌝ }
     requires { ⌜ Symbols sixteen (now p) ⌝ }
     requires { ⌜ (h ≤ places) × (w * h ≤ length (now p)) × (g < sixteen .symbols) ⌝ }
     ensures shifted { λ _. ⌜ Shifted sixteen h w g (now (p .entry)) (now (p .exit)) ⌝ }
@@ -118,7 +118,7 @@ fn spread(p: &[u8], h: usize, w: usize) -> [u8; PLACES]
 
 // The polynomial with x y + g put for y, as far as w columns go.
 fn substituted(table: &[u8; 256], p: [u8; PLACES], h: usize, w: usize, g: u8) -> [u8; PLACES]
-    requires { ⌜ Products (now table) ⌝ }
+    requires { ⌜ Products sixteen (now table) ⌝ }
     requires { ⌜ Symbols sixteen p ⌝ }
     requires { ⌜ (h ≤ places) × (g < sixteen .symbols) × (w * h ≤ places) ⌝ }
     ensures polynomial { λ r. ⌜ Substituted sixteen h w g p r ⌝ }
@@ -172,7 +172,7 @@ pub fn freed(p: &[u8; PLACES], h: usize, w: usize) -> [u8; PLACES]
 
 // What the search hands on after the symbol g: x y + g put for y, and freed of powers of x.
 pub fn handed(table: &[u8; 256], p: [u8; PLACES], h: usize, w: usize, g: u8) -> [u8; PLACES]
-    requires { ⌜ Products (now table) ⌝ }
+    requires { ⌜ Products sixteen (now table) ⌝ }
     requires { ⌜ Symbols sixteen p ⌝ }
     requires { ⌜ (0 < h) × (h ≤ places) × (g < sixteen .symbols) × (w * h ≤ places) ⌝ }
     ensures polynomial { λ r. ⌜ Handed sixteen h w g p r ⌝ }

@@ -20,7 +20,7 @@ four : (c : tie.After-doubled2) → ScaledBlock sixteen 4 (c .before .before .be
 four c =
     let d = c .before .before in
     let s = d .before in
-    scaled-again sixteen sixteen-field 2 2 4 (s .args .a .now) (d .doubled .result) (c .doubled2 .result) (omega arith) (omega arith) (sym (twice-low 2 (omega arith)))
+    scaled-again sixteen sixteen-field 2 2 4 (s .args .a .now) (d .doubled .result) (c .doubled2 .result) (omega arith) (omega arith) (sym (twice-low 4 19 (sixteen .positions) (omega arith) 2 (omega arith)))
     (s .pre) (d .doubled .ensures) (c .doubled2 .ensures)
 
 doubled-requires-3 : tie.Need-doubled-requires-3
@@ -37,7 +37,7 @@ eight : (c : tie.After-doubled3) → ScaledBlock sixteen 8 (entry c .args .a .no
 eight c =
     let d = c .before .before in
     let s = entry c in
-    scaled-again sixteen sixteen-field 2 4 8 (s .args .a .now) (d .doubled2 .result) (c .doubled3 .result) (omega arith) (omega arith) (sym (twice-low 4 (omega arith)))
+    scaled-again sixteen sixteen-field 2 4 8 (s .args .a .now) (d .doubled2 .result) (c .doubled3 .result) (omega arith) (omega arith) (sym (twice-low 4 19 (sixteen .positions) (omega arith) 4 (omega arith)))
     (s .pre) (four d) (c .doubled3 .ensures)
 
 -- the multiples below 2
@@ -45,7 +45,7 @@ below-two : (c : tie.After-fill) → MultiplesBlock sixteen 2 (entry (c .before 
 below-two c =
     let s = entry (c .before .before) in
     let a = s .args .a .now in
-    multiples-filled sixteen sixteen-field 1 a a _ (c .fill .last .0) (omega arith) (joins 0 (omega arith)) (s .pre)
+    multiples-filled sixteen sixteen-field 1 a a _ (c .fill .last .0) (omega arith) (joins 4 19 (sixteen .positions) 0) (s .pre)
     (multiples-first sixteen sixteen-field a (s .pre)) (scaled-once sixteen sixteen-field a (s .pre)) (c .fill .ensures)
 
 -- those below 4
@@ -54,7 +54,7 @@ below-four c =
     let f = c .before .before .before in
     let two = f .before .before .before .before .before .before in
     let s = two .before in
-    multiples-filled sixteen sixteen-field 2 (s .args .a .now) (two .doubled .result) (f .fill .last .0) (c .fill2 .last .0) (omega arith) (joins 1 (omega arith)) (s .pre)
+    multiples-filled sixteen sixteen-field 2 (s .args .a .now) (two .doubled .result) (f .fill .last .0) (c .fill2 .last .0) (omega arith) (joins 4 19 (sixteen .positions) 1) (s .pre)
     (below-two f) (two .doubled .ensures) (c .fill2 .ensures)
 
 abbrev made : tie.After-fill3 → tie.After-doubled3
@@ -66,7 +66,7 @@ below-eight c =
     let f = c .before .before .before in
     let d = made c .before .before in
     let s = entry (made c) in
-    multiples-filled sixteen sixteen-field 4 (s .args .a .now) (d .doubled2 .result) (f .fill2 .last .0) (c .fill3 .last .0) (omega arith) (joins 2 (omega arith)) (s .pre)
+    multiples-filled sixteen sixteen-field 4 (s .args .a .now) (d .doubled2 .result) (f .fill2 .last .0) (c .fill3 .last .0) (omega arith) (joins 4 19 (sixteen .positions) 2) (s .pre)
     (below-four f) (four d) (c .fill3 .ensures)
 
 returns : tie.Need-returns
@@ -74,7 +74,7 @@ returns c =
     let f = c .before .before .before in
     let d = made f in
     let s = entry d in
-    multiples-filled sixteen sixteen-field 8 (s .args .a .now) (d .doubled3 .result) (f .fill3 .last .0) (c .fill4 .last .0) (omega arith) (joins 3 (omega arith)) (s .pre)
+    multiples-filled sixteen sixteen-field 8 (s .args .a .now) (d .doubled3 .result) (f .fill3 .last .0) (c .fill4 .last .0) (omega arith) (joins 4 19 (sixteen .positions) 3) (s .pre)
     (below-eight f) (eight d) (c .fill4 .ensures)
 
 pub multiples-spec : {M : Type 1} → statement M

@@ -24,7 +24,7 @@ returns c =
     let s = entry i in
     let a = s .args in
     absurd
-    (not-refused (entryOf (a .system .now) (a .r) (a .j)) (s .pre .0 .symbols (a .r) (a .j)) (s .pre .1 .1 .1 .1 .1) (c .enum-told .given .0 .0)
+    (not-refused sixteen (entryOf (a .system .now) (a .r) (a .j)) (s .pre .0 .symbols (a .r) (a .j)) (s .pre .1 .1 .1 .1 .1) (c .enum-told .given .0 .0)
     (sym (ap toldElement (c .enum-told .given .1)) ∙ i .inverse .ensures))
 
 -- u is a symbol, and u times the entry is 1
@@ -38,7 +38,7 @@ inverts c =
     let x = entryOf (a .system .now) (a .r) (a .j) in
     let h = s .pre .0 .symbols (a .r) (a .j) in
     let n = s .pre .1 .1 .1 .1 .1 in
-    inverse-law sixteen sixteen-field x (u .0 .0) h n (answered x h n (u .0 .0) (sym (ap toldElement (u .1)) ∙ i .inverse .ensures))
+    inverse-law sixteen sixteen-field x (u .0 .0) h n (answered sixteen x h n (u .0 .0) (sym (ap toldElement (u .1)) ∙ i .inverse .ensures))
 
 exchange-requires : tie.Need-exchange-requires
 exchange-requires c κs =

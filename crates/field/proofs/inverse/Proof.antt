@@ -18,13 +18,13 @@ use Rattle.field.proofs.inverse.Tie as tie
 came : (c : tie.After-or2) → Came (inverseTable sixteen (c .before .before .args .a)) [] (toldChecked (c .or2 .result))
 came c =
     let a = c .before .before .args .a in
-    start ▸ (c .before .or .ensures ∙ symbol-line passed a) ▸ (c .or2 .ensures ∙ zero-line (toldChecked (c .before .or .result)) a)
+    start ▸ (c .before .or .ensures ∙ symbol-line passed a sixteen) ▸ (c .or2 .ensures ∙ zero-line (toldChecked (c .before .or .result)) a)
 
 returns : tie.Need-returns
 returns c = answers (came (c .before .before .before)) [] _ (c .before .checked .given .1)
 
 fit : (c : tie.After-enum-told) → (let a = c .before .before .before .before .args .a in (a < sixteen .symbols) × (a ≡ 0 → ⊥))
-fit c = nonzero-symbol (c .before .before .before .before .args .a) (accepted (came (c .before .before)) (c .enum-told .given .1))
+fit c = nonzero-symbol sixteen (c .before .before .before .before .args .a) (omega arith) (accepted (came (c .before .before)) (c .enum-told .given .1))
 
 array-read-t15 : tie.Need-array-read-t15
 array-read-t15 c = let f = fit (c .before .before) in omega arith

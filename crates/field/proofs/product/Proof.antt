@@ -15,7 +15,7 @@ first-bad-requires c κs = search needs
 returns : tie.Need-returns
 returns c =
     let s = c .before .before in
-    ap (refused 5) (c .before .first-bad .ensures) ∙ gives refused _ (operand-refused (s .args .a) (s .args .b) (omega arith))
+    ap (refused 5) (c .before .first-bad .ensures) ∙ gives refused _ (operand-refused sixteen (s .args .a) (s .args .b) (omega arith))
 
 products-requires : tie.Need-products-requires
 products-requires c κs = search needs
@@ -23,12 +23,12 @@ products-requires c κs = search needs
 look-requires : tie.Need-look-requires
 look-requires c κs =
     let s = c .before .before .before .before in
-    (c .before .products .ensures, operands-symbols (s .args .a) (s .args .b) (omega arith))
+    (c .before .products .ensures, operands-symbols sixteen (s .args .a) (s .args .b) (omega arith) (omega arith))
 
 returns-2 : tie.Need-returns-2
 returns-2 c =
     let s = c .before .before .before .before .before in
-    ap valued (c .look .ensures) ∙ accepts refused (valued (sixteen .times (s .args .a) (s .args .b))) (operands-accepted (s .args .a) (s .args .b) (omega arith))
+    ap valued (c .look .ensures) ∙ accepts refused (valued (sixteen .times (s .args .a) (s .args .b))) (operands-accepted sixteen (s .args .a) (s .args .b) (omega arith))
 
 pub product-spec : {M : Type 1} → statement M
 product-spec =
