@@ -35,9 +35,8 @@ fold-requires c κs =
 
 look-requires : tie.Need-look-requires Inv-loop μ-loop
 look-requires c κs =
-    let l = c .before .before .before .before .before in
-    let s = l .before .before in
-    (s .pre .0, (l .loop .inv .1, l .loop .inv .1))
+    let s = c .before .before .before .before .before .before .before in
+    (s .pre .0, (omega arith, omega arith))
 
 mul-bit : tie.Need-mul-bit Inv-loop μ-loop
 mul-bit c = omega arith
@@ -57,7 +56,7 @@ loop-again c =
     let k = l .loop .inv .0 .0 in
     let e = l .loop .inv .0 .1 in (
       (suc k, ap (λ (n : ℕ). n * 2) e ∙ sym (pow-suc 2 k)),
-      rw (c .look .ensures) (times-symbol sixteen sixteen-field (l .loop .power) (l .loop .power) (l .loop .inv .1) (l .loop .inv .1)),
+      rw (c .look .ensures) (times-symbol sixteen sixteen-field _ _ (omega arith) (omega arith)),
       r .kept .1 .0 ∙ l .loop .inv .2,
       r .ensures .1,
       rw (c .look .ensures)
