@@ -9,6 +9,10 @@ use second::list::MOST_ROWS;
 use std::hint::black_box;
 use std::time::{Duration, Instant};
 
+/// The matrices whose parts are timed together. The systems of many more are memory that goes back
+/// and is asked for again each turn, which would count as conditions.
+const TURN: usize = 4;
+
 fn proved_roots(polynomial: &Polynomial) -> [u8; baseline::ROOM_FOR_ROOTS] {
     let mut roots = [0; baseline::ROOM_FOR_ROOTS];
     let coefficients = &polynomial.coefficients[..polynomial.count];
@@ -88,5 +92,5 @@ fn plain_turn(turn: &[Vec<u8>]) -> [Duration; 4] {
 
 /// The plain Rust's times of conditions, elimination, roots and ranking.
 pub fn plain_parts(matrices: &[Vec<u8>]) -> [f64; 4] {
-    medians(matrices, |turn, _| plain_turn(turn))
+    medians(matrices, TURN, |turn, _| plain_turn(turn))
 }

@@ -3,9 +3,10 @@
 use std::hint::black_box;
 use std::time::{Duration, Instant};
 
-pub const ROUNDS: usize = 9;
-/// The inputs that are one turn.
-const TURN: usize = 20;
+/// A multiple of three and of four: of so many calls each is the first as often as the others.
+pub const ROUNDS: usize = 12;
+/// The inputs that are one turn of calls: so many that what ran before the turn hardly counts.
+const TURN: usize = 100;
 
 /// The time that the call takes for all of them.
 pub fn timed<Input, Output>(inputs: &[Input], call: impl Fn(&Input) -> Output) -> Duration {
@@ -19,16 +20,18 @@ pub fn timed<Input, Output>(inputs: &[Input], call: impl Fn(&Input) -> Output) -
 fn median(times: impl Iterator<Item = Duration>) -> Duration {
     let mut times: Vec<Duration> = times.collect();
     times.sort();
-    times[times.len() / 2]
+    let middle = times.len() / 2;
+    (times[middle - 1] + times[middle]) / 2
 }
 
 /// For each call the median of the rounds, turn by turn, in microseconds for each input. One round
 /// before them is not counted. What times a turn is told its number, one more in each round.
 pub fn medians<Input, const CALLS: usize>(
     inputs: &[Input],
+    in_a_turn: usize,
     time_turn: impl Fn(&[Input], usize) -> [Duration; CALLS],
 ) -> [f64; CALLS] {
-    let turns: Vec<&[Input]> = inputs.chunks(TURN).collect();
+    let turns: Vec<&[Input]> = inputs.chunks(in_a_turn).collect();
     let round = |round: usize| -> Vec<[Duration; CALLS]> {
         let numbered = turns.iter().enumerate();
         numbered
@@ -50,7 +53,7 @@ pub fn in_turns<Input, const CALLS: usize>(
     inputs: &[Input],
     calls: [&dyn Fn(&[Input]) -> Duration; CALLS],
 ) -> [f64; CALLS] {
-    medians(inputs, |turn, number| {
+    medians(inputs, TURN, |turn, number| {
         let mut times = [Duration::ZERO; CALLS];
         for call in (0..CALLS).map(|place| (place + number) % CALLS) {
             times[call] = calls[call](turn);
