@@ -1,8 +1,8 @@
-//! The plain and the packed Rust against the second program.
+//! The Rust programs against the second program.
 
 use crate::baseline;
 use crate::matrices::{worn_tag, wrong_word};
-use crate::programs::{Polynomial, PACKED, PLAIN, SECOND};
+use crate::programs::{Polynomial, PACKED, PLAIN, ROW_AT_A_TIME, SECOND};
 use second::bound::{GREATEST_LIMIT, GREATEST_MULTIPLICITY};
 use second::code::{LEAST_SIZE, MOST_POSITIONS};
 use second::weights::{GREATEST_LEVEL, LEAST_LEVEL};
@@ -23,7 +23,7 @@ fn compare_roots(k: usize, matrix: &[u8], polynomial: &Polynomial) {
 }
 
 fn compare(k: usize, matrix: &[u8]) {
-    let (polynomial, _) = SECOND.agrees_with(&[PLAIN, PACKED], k, matrix);
+    let (polynomial, _) = SECOND.agrees_with(&[PLAIN, ROW_AT_A_TIME, PACKED], k, matrix);
     compare_roots(k, matrix, &polynomial);
 }
 
@@ -54,5 +54,5 @@ pub fn check() {
             }
         }
     }
-    println!("checked: {cases} matrices, plain Rust, packed Rust and second program equal");
+    println!("checked: {cases} matrices, all Rust programs and the second program equal");
 }

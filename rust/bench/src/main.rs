@@ -1,6 +1,6 @@
 //! Times the proved library against the same algorithm in plain Rust and against the same method in
-//! Rust packed by hand, on the same matrices, in turns. With `--check` nothing is timed, and both
-//! are compared with the second program.
+//! Rust packed by hand, a row at a time and sixteen pivots at a time, on the same matrices, in
+//! turns. With `--check` nothing is timed, and all three are compared with the second program.
 
 mod baseline;
 mod check;
@@ -9,6 +9,7 @@ mod matrices;
 mod packed;
 mod parts;
 mod programs;
+mod row_at_a_time;
 mod timing;
 mod turns;
 mod workloads;

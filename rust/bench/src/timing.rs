@@ -1,12 +1,12 @@
-//! The proved library against the plain and the packed Rust.
+//! The proved library against the Rust programs.
 
 use crate::parts::{plain_parts, proved_parts};
-use crate::programs::{Program, PACKED, PLAIN, PROVED};
+use crate::programs::{Program, PACKED, PLAIN, PROVED, ROW_AT_A_TIME};
 use crate::turns::{in_turns, timed, ROUNDS};
 use crate::workloads::{workloads, Workload, K, N};
 use std::time::Duration;
 
-const PROGRAMS: [Program; 3] = [PROVED, PLAIN, PACKED];
+const PROGRAMS: [Program; 4] = [PROVED, PLAIN, ROW_AT_A_TIME, PACKED];
 
 /// Compares the results of all programs, and says how many rows they list.
 fn compare(Workload { name, matrices }: &Workload) {
@@ -17,12 +17,12 @@ fn compare(Workload { name, matrices }: &Workload) {
     println!("{name}: {count} matrices, {rows} rows listed, results equal");
 }
 
-fn print_times(workload: &str, what: &str, [proved, plain, packed]: [f64; 3]) {
-    println!(
-        "| {workload} | {what} | {proved:.1} µs | {plain:.1} µs | {packed:.1} µs | {:.2} | {:.2} |",
-        proved / plain,
-        proved / packed
-    );
+fn print_times(workload: &str, what: &str, times: [f64; PROGRAMS.len()]) {
+    let [proved, others @ ..] = times;
+    let figures = times.map(|time| format!("{time:.1} µs"));
+    let ratios = others.map(|time| format!("{:.2}", proved / time));
+    let cells = [figures.as_slice(), &ratios].concat().join(" | ");
+    println!("| {workload} | {what} | {cells} |");
 }
 
 fn time_programs(Workload { name, matrices }: &Workload) {
@@ -42,9 +42,10 @@ pub fn time() {
     println!("n {N}, k {K}, medians of {ROUNDS} rounds");
     workloads.iter().for_each(compare);
     println!(
-        "\n| matrices | | proved | plain Rust | packed Rust | proved / plain | proved / packed |"
+        "\n| matrices | | proved | plain Rust | packed, a row at a time | packed Rust \
+         | proved / plain | proved / a row at a time | proved / packed |"
     );
-    println!("|---|---|---|---|---|---|---|");
+    println!("|---|---|---|---|---|---|---|---|---|");
     workloads.iter().for_each(time_programs);
     println!("\n| a list's time, proved | list | interpolation | roots | ranking and checks |");
     println!("|---|---|---|---|---|");

@@ -1,14 +1,12 @@
 //! The conditions of a matrix by columns: a column is a monomial, a lane of it a condition.
 
-use super::elimination::{Column, MOST_WORDS};
+use super::elimination::Column;
 use super::field::ORDER;
-use super::lanes::{doublings, spread, BITS, LANES, ONES};
+use super::lanes::{doublings, put, spreads, Spread, Words, BITS, LANES, ONES};
+use super::line::MOST_WORDS;
 use super::monomials::{walk, Monomial};
-use super::points::Point;
+use super::points::{Point, ORDERS};
 use std::ops::Range;
-
-/// The orders of derivative, 0 to the greatest multiplicity less 1.
-const ORDERS: usize = 4;
 
 /// The orders of x and of y, in the order of the lanes: few pivots are 0 so.
 const DERIVATIVES: [(usize, usize); 10] = [
@@ -24,8 +22,6 @@ const DERIVATIVES: [(usize, usize); 10] = [
     (0, 3),
 ];
 
-type Words<const WORDS: usize> = [u64; WORDS];
-
 /// The lanes have the points of one derivative after those of another.
 struct Lanes<const WORDS: usize> {
     /// 1 in the lanes in use.
@@ -39,10 +35,6 @@ struct Lanes<const WORDS: usize> {
     left_of_x: [Words<WORDS>; ORDERS],
     /// 15 in the lanes of each order of y.
     of_order: [Words<WORDS>; ORDERS],
-}
-
-fn put<const WORDS: usize>(words: &mut Words<WORDS>, at: usize, symbol: u8) {
-    words[at / LANES] |= u64::from(symbol) << (BITS * (at % LANES));
 }
 
 /// Puts these bits into every lane of the range.
@@ -114,19 +106,6 @@ impl<const WORDS: usize> Lanes<WORDS> {
         }
         left
     }
-}
-
-/// A factor of products: its lanes' bits, spread.
-type Spread<const WORDS: usize> = [Words<WORDS>; BITS];
-
-fn spreads<const WORDS: usize>(words: &Words<WORDS>) -> Spread<WORDS> {
-    let mut spreads = [[0; WORDS]; BITS];
-    for (bit, spreads) in spreads.iter_mut().enumerate() {
-        for word in 0..WORDS {
-            spreads[word] = spread(words[word], bit);
-        }
-    }
-    spreads
 }
 
 /// The product, lane by lane, of what the doublings double and of what is spread.

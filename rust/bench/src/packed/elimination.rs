@@ -2,16 +2,10 @@
 //! before it.
 
 use super::field::{quotient, SYMBOLS};
-use super::lanes::{add, first_lane, lane, masks, multiples, scaled, BITS, LANES};
+use super::lanes::{add, first_lane, lane, masks, scaled, BITS, LANES};
+use super::line::{for_words, part, part_mut, put_multiples, Line, Multiples, MOST_WORDS};
 
-/// No cost up to 150 needs more.
-pub const MOST_WORDS: usize = 10;
-
-/// The words in use are the last ones, and of these the words from the pivot's on are changed.
-pub type Column = [u64; MOST_WORDS];
-
-/// Entry c is c times a column.
-type Multiples = [Column; SYMBOLS];
+pub type Column = Line;
 
 /// Where multiples are kept.
 struct Tables {
@@ -28,14 +22,6 @@ struct Panel<const WORDS: usize> {
     added_count: usize,
     /// What a 1 in each pivot's lane becomes.
     became: [[u64; WORDS]; LANES],
-}
-
-fn part<const WORDS: usize>(column: &Column) -> &[u64; WORDS] {
-    column.last_chunk().expect("a column is long enough")
-}
-
-fn part_mut<const WORDS: usize>(column: &mut Column) -> &mut [u64; WORDS] {
-    column.last_chunk_mut().expect("a column is long enough")
 }
 
 /// The first lane from a place of the first word on that is not 0.
@@ -64,16 +50,6 @@ fn factors<const WORDS: usize>(column: &[u64; WORDS], place: usize) -> [u64; WOR
     let behind = BITS * place;
     factors[0] = factors[0] >> behind >> BITS << behind << BITS;
     factors
-}
-
-#[inline(always)]
-fn put_multiples<const WORDS: usize>(words: &[u64; WORDS], table: &mut Multiples) {
-    for word in 0..WORDS {
-        let multiples = multiples(words[word]);
-        for (entry, multiple) in table.iter_mut().zip(multiples) {
-            entry[MOST_WORDS - WORDS + word] = multiple;
-        }
-    }
 }
 
 impl<const WORDS: usize> Panel<WORDS> {
@@ -165,19 +141,7 @@ pub fn first_dependent(columns: &mut [Column], words: usize) -> usize {
     };
     for word in 0..words {
         let left = &mut columns[LANES * word..];
-        let dependent = match words - word {
-            1 => reduce::<1>(left, tables),
-            2 => reduce::<2>(left, tables),
-            3 => reduce::<3>(left, tables),
-            4 => reduce::<4>(left, tables),
-            5 => reduce::<5>(left, tables),
-            6 => reduce::<6>(left, tables),
-            7 => reduce::<7>(left, tables),
-            8 => reduce::<8>(left, tables),
-            9 => reduce::<9>(left, tables),
-            _ => reduce::<MOST_WORDS>(left, tables),
-        };
-        if let Some(place) = dependent {
+        if let Some(place) = for_words!(words - word, reduce(left, tables)) {
             return LANES * word + place;
         }
     }

@@ -9,6 +9,11 @@ pub const BITS: usize = 4;
 pub const ONES: u64 = 0x1111_1111_1111_1111;
 const LOW_BITS: u64 = 7 * ONES;
 
+pub type Words<const WORDS: usize> = [u64; WORDS];
+
+/// The bits of each lane, spread.
+pub type Spread<const WORDS: usize> = [Words<WORDS>; BITS];
+
 #[inline]
 pub fn lane(word: u64, place: usize) -> usize {
     (word >> (BITS * place)) as usize % SYMBOLS
@@ -39,6 +44,23 @@ pub fn doubled(word: u64) -> u64 {
 pub fn spread(word: u64, bit: usize) -> u64 {
     let bits = word >> bit & ONES;
     (bits << BITS).wrapping_sub(bits)
+}
+
+#[inline]
+pub fn spreads<const WORDS: usize>(words: &Words<WORDS>) -> Spread<WORDS> {
+    let mut spreads = [[0; WORDS]; BITS];
+    for (bit, spreads) in spreads.iter_mut().enumerate() {
+        for word in 0..WORDS {
+            spreads[word] = spread(words[word], bit);
+        }
+    }
+    spreads
+}
+
+/// Puts a symbol into a lane that is 0.
+#[inline]
+pub fn put<const WORDS: usize>(words: &mut Words<WORDS>, at: usize, symbol: u8) {
+    words[at / LANES] |= u64::from(symbol) << (BITS * (at % LANES));
 }
 
 /// A factor's bits, each as a word of ones or zeros.

@@ -6,15 +6,16 @@
 
 mod conditions;
 mod elimination;
-mod field;
+pub mod field;
 mod interpolation;
-mod lanes;
+pub mod lanes;
+pub mod line;
 mod list;
-mod monomials;
-mod points;
+pub mod monomials;
+pub mod points;
 mod roots;
 mod straight;
 mod substitution;
 
-pub use interpolation::interpolate;
+pub use interpolation::polynomial;
 pub use list::list;

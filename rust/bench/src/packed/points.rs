@@ -2,6 +2,8 @@
 
 use super::field::{POWERS, SYMBOLS};
 
+/// The orders of derivative, 0 to the greatest multiplicity less 1.
+pub const ORDERS: usize = 4;
 /// No cost up to 150 has more.
 const MOST_POINTS: usize = 150;
 /// The entries that are read at once.

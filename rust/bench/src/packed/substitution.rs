@@ -1,8 +1,9 @@
 //! What solves the triangle that elimination leaves.
 
-use super::elimination::{Column, MOST_WORDS};
+use super::elimination::Column;
 use super::field::quotient;
 use super::lanes::{lane, masks, scaled, LANES};
+use super::line::MOST_WORDS;
 
 /// Writes the factors of the columns whose pivots are in one word, from the last to the first.
 fn solve_word(columns: &[Column], word: usize, sums: u64, out: &mut [u8]) {

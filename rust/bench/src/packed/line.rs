@@ -1,0 +1,53 @@
+//! Rows and columns of packed words.
+
+use super::field::SYMBOLS;
+use super::lanes::multiples;
+
+/// No cost up to 150 needs more.
+pub const MOST_WORDS: usize = 10;
+
+/// The words in use are the last ones, and of these the words from the pivot's on are changed.
+pub type Line = [u64; MOST_WORDS];
+
+/// Entry c is c times a line.
+pub type Multiples = [Line; SYMBOLS];
+
+#[inline]
+pub fn part<const WORDS: usize>(line: &Line) -> &[u64; WORDS] {
+    line.last_chunk().expect("a line is long enough")
+}
+
+#[inline]
+pub fn part_mut<const WORDS: usize>(line: &mut Line) -> &mut [u64; WORDS] {
+    line.last_chunk_mut().expect("a line is long enough")
+}
+
+#[inline(always)]
+pub fn put_multiples<const WORDS: usize>(words: &[u64; WORDS], table: &mut Multiples) {
+    for word in 0..WORDS {
+        let multiples = multiples(words[word]);
+        for (entry, multiple) in table.iter_mut().zip(multiples) {
+            entry[MOST_WORDS - WORDS + word] = multiple;
+        }
+    }
+}
+
+/// Calls a function that is made for each number of words.
+macro_rules! for_words {
+    ($words:expr, $function:ident $arguments:tt) => {
+        match $words {
+            1 => $function::<1> $arguments,
+            2 => $function::<2> $arguments,
+            3 => $function::<3> $arguments,
+            4 => $function::<4> $arguments,
+            5 => $function::<5> $arguments,
+            6 => $function::<6> $arguments,
+            7 => $function::<7> $arguments,
+            8 => $function::<8> $arguments,
+            9 => $function::<9> $arguments,
+            _ => $function::<{ $crate::packed::line::MOST_WORDS }> $arguments,
+        }
+    };
+}
+
+pub(crate) use for_words;
