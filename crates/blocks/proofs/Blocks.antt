@@ -12,7 +12,7 @@ use Rattle.algebra.specs.FieldOf.{FieldOf}
 use Rattle.definitions.proofs.Zeros.{zero-at}
 use Rattle.definitions.specs.Code.{Symbols}
 use Rattle.definitions.specs.Field.{Code}
-use Rattle.blocks.specs.Row.{block, Front, SymbolBlock, BlockOf, PutAt, ScaledBlock, SummedBlock, FilledTo, MultiplesBlock}
+use Rattle.blocks.specs.Row.{block, Front, SymbolBlock, BlockOf, Changed, ScaledBlock, SummedBlock, FilledTo, MultiplesBlock}
 
 -- no entry yet
 pub front-none : (f : ℕ → ℕ) (l : List ℕ) → Front 0 f l
@@ -26,27 +26,24 @@ front-more n x f l h d e k g =
       | no i ↦ getD-set-other l n k x 0 i ∙ d k (omega arith)
     ]
 
--- nothing is put yet
-pub block-none : (at : ℕ) (part old : List ℕ) → PutAt at 0 part old old
-block-none at part old = record {
+-- nothing is changed yet
+pub changed-none : (at : ℕ) (f : ℕ → ℕ) (old : List ℕ) → Changed at 0 f old old
+changed-none at f old = record {
   size = refl;
   patched = record { inside = λ k l h. let z : ⊥ = omega arith in absurd z; before = λ k h. refl; after = λ k h. refl };
 }
 
 -- one entry more
-pub block-more : (at n : ℕ) (part old new : List ℕ) → at + n < length old → PutAt at n part old new → PutAt at (n + 1) part old (set new (at + n) (getD part n 0))
-block-more at n part old new h d = record {
-  size = length-set new (at + n) (getD part n 0) ∙ d .size;
+pub changed-more : (at n x : ℕ) (f : ℕ → ℕ) (old new : List ℕ) → at + n < length old → Changed at n f old new → x ≡ f (at + n) → Changed at (n + 1) f old (set new (at + n) x)
+changed-more at n x f old new h d is = record {
+  size = length-set new (at + n) x ∙ d .size;
   patched = record {
     inside = λ k l g. elim (ℕ-discrete k (at + n)) [
-      | yes e ↦
-          let f : n ≡ k - at = omega arith in
-          ap (λ (a : ℕ). getD (set new (at + n) (getD part n 0)) a 0) e ∙ getD-set-same new (at + n) (getD part n 0) 0 (let s = d .size in omega arith)
-          ∙ ap (λ (a : ℕ). getD part a 0) f
-      | no e ↦ getD-set-other new (at + n) k (getD part n 0) 0 e ∙ d .patched .inside k l (omega arith)
+      | yes e ↦ ap (λ (a : ℕ). getD (set new (at + n) x) a 0) e ∙ getD-set-same new (at + n) x 0 (let s = d .size in omega arith) ∙ is ∙ ap f (sym e)
+      | no e ↦ getD-set-other new (at + n) k x 0 e ∙ d .patched .inside k l (omega arith)
     ];
-    before = λ k l. getD-set-other new (at + n) k (getD part n 0) 0 (λ e. omega arith) ∙ d .patched .before k l;
-    after = λ k l. getD-set-other new (at + n) k (getD part n 0) 0 (λ e. omega arith) ∙ d .patched .after k (omega arith);
+    before = λ k l. getD-set-other new (at + n) k x 0 (λ e. omega arith) ∙ d .patched .before k l;
+    after = λ k l. getD-set-other new (at + n) k x 0 (λ e. omega arith) ∙ d .patched .after k (omega arith);
   };
 }
 

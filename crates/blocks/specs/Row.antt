@@ -36,16 +36,20 @@ InRow at = at + block ≤ width
 abbrev pub BlockOf : ℕ → List ℕ → List ℕ → Type 0
 BlockOf at row a = Front block (λ (k : ℕ). getD row (at + k) 0) a
 
--- the first n entries of a part are put into a row from a place on
-pub record PutAt (at n : ℕ) (part old new : List ℕ) : Type 0 where
+-- n entries of a row from a place on become those of f
+pub record Changed (at n : ℕ) (f : ℕ → ℕ) (old new : List ℕ) : Type 0 where
   pub size : length new ≡ length old
-  pub patched : Patched at (at + n) (λ k. getD part (k - at) 0) (λ k. getD old k 0) (λ k. getD new k 0)
+  pub patched : Patched at (at + n) f (λ k. getD old k 0) (λ k. getD new k 0)
 
 -- a block is put into a row from a place on
 abbrev pub PutBlock : ℕ → List ℕ → List ℕ → List ℕ → Type 0
-PutBlock at part old new = PutAt at block part old new
+PutBlock at part old new = Changed at block (λ (k : ℕ). getD part (k - at) 0) old new
 
 module _ (C : Code) where
+  -- a block is added to a row from a place on
+  abbrev pub AddedBlock : ℕ → List ℕ → List ℕ → List ℕ → Type 0
+  AddedBlock at part old new = Changed at block (λ (k : ℕ). C .plus (getD old k 0) (getD part (k - at) 0)) old new
+
   -- a sum of blocks
   abbrev pub SummedBlock : List ℕ → List ℕ → List ℕ → Type 0
   SummedBlock a b r = Front block (λ (k : ℕ). C .plus (getD a k 0) (getD b k 0)) r

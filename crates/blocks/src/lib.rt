@@ -4,7 +4,7 @@ ghost use Prim.Native.Nat.{_*_, _≤_, _<_};
 ghost use lib.ListN.{length};
 ghost use Rattle.definitions.specs.Field.{sixteen};
 ghost use Rattle.field.specs.Table.{Products};
-ghost use Rattle.blocks.specs.Row.{width, InRow, SymbolBlock, BlockOf, PutBlock, SummedBlock, ScaledBlock, FilledTo, MultiplesBlock};
+ghost use Rattle.blocks.specs.Row.{width, InRow, SymbolBlock, BlockOf, PutBlock, AddedBlock, SummedBlock, ScaledBlock, FilledTo, MultiplesBlock};
 use refusals::limits::SYMBOLS;
 
 // The entries of a row: for a cost within the greatest limit there are at most so many monomials up to the bound.
@@ -35,6 +35,18 @@ pub fn put(row: &mut [u8; WIDTH], at: usize, part: &[u8; BLOCK])
     let mut i = 0;
     while i < BLOCK {
         row[at + i] = part[i];
+        i += 1;
+    }
+}
+
+// A block, added to a row from a place on.
+pub fn add(row: &mut [u8; WIDTH], at: usize, part: &[u8; BLOCK])
+    requires { ⌜ InRow at × (length (now row) ≡ width) ⌝ }
+    ensures { λ _. ⌜ AddedBlock sixteen at (now (part .entry)) (now (row .entry)) (now (row .exit)) ⌝ }
+{
+    let mut i = 0;
+    while i < BLOCK {
+        row[at + i] ^= part[i];
         i += 1;
     }
 }

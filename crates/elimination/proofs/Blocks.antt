@@ -8,8 +8,9 @@ use native.Mathlib.Numerals.{add-one}
 use native.Mathlib.Omega.{arith}
 use lib.ListN.{length, getD, set, length-set}
 use lib.Seq.{getD-set-same, getD-set-other}
+use Rattle.algebra.proofs.Elements.{plus-symbol, times-symbol}
 use Rattle.algebra.specs.FieldOf.{FieldOf}
-use Rattle.algebra.specs.Grid.{entryOf}
+use Rattle.algebra.specs.Grid.{entryOf, Patched}
 use Rattle.definitions.specs.Code.{Symbols}
 use Rattle.definitions.specs.Field.{Code, numbers}
 use Rattle.elimination.specs.System.{System, ExchangedIn, columnOf, ListedRows, TargetRows, Factors, DoneIn, LoweredIn, Eliminated}
@@ -17,8 +18,8 @@ use Rattle.linear.proofs.Columns.{exchanged-block, between-none, between-more, 
 use Rattle.linear.proofs.Listed.{done-none, done-row, done-lowered, listed-targets}
 use Rattle.linear.specs.Columns.{Between, Exchanged, Lowered, Listed}
 use Rattle.linear.specs.Rows.{Triangle}
-use Rattle.blocks.proofs.Blocks.{block-symbols, summed-symbols, scaled-symbols}
-use Rattle.blocks.specs.Row.{width, block, SymbolBlock, BlockOf, PutBlock, SummedBlock, ScaledBlock, MultiplesBlock}
+use Rattle.blocks.proofs.Blocks.{block-symbols, scaled-symbols}
+use Rattle.blocks.specs.Row.{width, block, SymbolBlock, BlockOf, PutBlock, AddedBlock, ScaledBlock, MultiplesBlock}
 
 module _ (C : Code) where
   -- a row of symbols of its width is put in
@@ -93,31 +94,41 @@ module _ (C : Code) where
             (d .columns) (e .columns));
       }
 
--- ---- the rows listed, in one block
+-- ---- the rows listed, in some columns
 
 -- none is done yet
-pub rows-undone : (C : Code) (at j : ℕ) (places c : List ℕ) (m : List (List ℕ)) → System C m → DoneIn C at (at + block) j 0 places c m m
-rows-undone C at j places c m s = record { size = refl; system = s; done = done-none C at (at + block) j (λ (i : ℕ). getD places i 0) (λ (i : ℕ). getD c i 0) (entryOf m) }
+pub rows-undone : (C : Code) (from to j : ℕ) (places c : List ℕ) (m : List (List ℕ)) → System C m → DoneIn C from to j 0 places c m m
+rows-undone C from to j places c m s = record { size = refl; system = s; done = done-none C from to j (λ (i : ℕ). getD places i 0) (λ (i : ℕ). getD c i 0) (entryOf m) }
+
+-- row t has lost x times another in some columns
+abbrev pub Less : Code → ℕ → ℕ → ℕ → List ℕ → List ℕ → List ℕ → Type 0
+Less C from to x first old new = Patched from to (λ (k : ℕ). C .plus (getD old k 0) (C .times x (getD first k 0))) (λ (k : ℕ). getD old k 0) (λ (k : ℕ). getD new k 0)
+
+-- in one block
+pub less-block : (C : Code) (at x : ℕ) (row first old new : List ℕ) (times : List (List ℕ)) → x < C .symbols → BlockOf at row first → MultiplesBlock C (C .symbols) first times
+    → AddedBlock C at (getD times x []) old new → Less C at (at + block) x row old new
+less-block C at x row first old new times hx is-first is-times added = record {
+  inside = λ k l g.
+      added .patched .inside k l g
+      ∙ ap (C .plus (getD old k 0)) (is-times x hx (k - at) (omega arith) ∙ ap (C .times x) (is-first (k - at) (omega arith) ∙ ap (λ (i : ℕ). getD row i 0) (place at k l)));
+  before = added .patched .before;
+  after = added .patched .after;
+}
 
 -- one more is done
-pub rows-done : (C : Code) → FieldOf C → (at j : ℕ) (places c : List ℕ) (n total : ℕ) (o m : List (List ℕ)) (t x : ℕ) (first part sum row : List ℕ)
-    (times : List (List ℕ)) → n < total → System C o → TargetRows (length o) j total places → DoneIn C at (at + block) j n places c o m → t ≡ getD places n 0 → x ≡ getD c n 0 → x < C .symbols
-    → BlockOf at (getD o j []) first → MultiplesBlock C (C .symbols) first times → BlockOf at (getD m t []) part
-    → SummedBlock C part (getD times x []) sum → PutBlock at sum (getD m t []) row → DoneIn C at (at + block) j (n + 1) places c o (set m t row)
-rows-done C F at j places c n total o m t x first part sum row times h so targets d et ex hx is-first is-times is-part is-sum put = record {
+pub rows-done : (C : Code) → FieldOf C → (from to j : ℕ) (places c : List ℕ) (n total : ℕ) (o m : List (List ℕ)) (t x : ℕ) (row : List ℕ) → n < total → System C o
+    → TargetRows (length o) j total places → DoneIn C from to j n places c o m → t ≡ getD places n 0 → x ≡ getD c n 0 → x < C .symbols → length row ≡ width
+    → Less C from to x (getD o j []) (getD m t []) row → DoneIn C from to j (n + 1) places c o (set m t row)
+rows-done C F from to j places c n total o m t x row h so targets d et ex hx size less = record {
   size = length-set m t row ∙ d .size;
-  system = put-system C m t at sum row (d .system) room
-      (summed-symbols C F part (getD times x []) sum (block-symbols C at (getD m t []) part (d .system .symbols t) is-part)
-      (scaled-symbols C F x first (getD times x []) hx (block-symbols C at (getD o j []) first (so .symbols j) is-first) (is-times x hx)) is-sum)
-      put;
-  done = done-row C at (at + block) j (λ (i : ℕ). getD places i 0) (λ (i : ℕ). getD c i 0) (length o) n total o m t row targets h (d .done) et room
+  system = system-set C m t row (d .system) room size
+      (patched-symbols C from to _ _ _ less
+      (λ k l g. plus-symbol C F (entryOf m t k) (C .times x (entryOf o j k)) (d .system .symbols t k) (times-symbol C F x (entryOf o j k) hx (so .symbols j k))) (d .system .symbols t));
+  done = done-row C from to j (λ (i : ℕ). getD places i 0) (λ (i : ℕ). getD c i 0) (length o) n total o m t row targets h (d .done) et room
       (record {
-        inside = λ k l g.
-            put .patched .inside k l g ∙ is-sum (k - at) (omega arith)
-            ∙ ap₂ (C .plus) (is-part (k - at) (omega arith) ∙ ap (entryOf m t) (place at k l))
-            (is-times x hx (k - at) (omega arith) ∙ ap₂ (C .times) ex (is-first (k - at) (omega arith) ∙ ap (entryOf o j) (place at k l)));
-        before = put .patched .before;
-        after = put .patched .after;
+        inside = λ k l g. less .inside k l g ∙ ap (λ (y : ℕ). C .plus (entryOf m t k) (C .times y (entryOf o j k))) ex;
+        before = less .before;
+        after = less .after;
       });
 }
   where
@@ -134,21 +145,15 @@ module _ (C : Code) where
   pub lower-none : (from R j : ℕ) (x : ℕ → ℕ) (m : List (List ℕ)) → System C m → LoweredIn C from from R j x m m
   lower-none from R j x m s = record { size = refl; system = s; columns = between-none (Lowered (numbers C) R j x) from (entryOf m) }
 
--- in one block more
-pub lower-more : (C : Code) → FieldOf C → (p q R j n : ℕ) (x : ℕ → ℕ) (places c : List ℕ) (o m b : List (List ℕ)) → q ≤ p
-    → Listed R j n x (λ i. getD places i 0) (λ i. getD c i 0) → LoweredIn C (q * block) (p * block) R j x o m
-    → DoneIn C (p * block) (p * block + block) j n places c m b → LoweredIn C (q * block) ((p + 1) * block) R j x o b
-lower-more C F p q R j n x places c o m b h listed d e =
-    let f : p * block + block ≡ (p + 1) * block = omega arith in
-    record {
-      size = e .size ∙ d .size;
-      system = e .system;
-      columns = subst (λ (n : ℕ). Between (Lowered (numbers C) R j x) (q * block) n (entryOf o) (entryOf b)) f
-          (between-more (Lowered (numbers C) R j x) (q * block) (p * block) (p * block + block) (entryOf o) (entryOf m) (entryOf b) (omega arith) (omega arith)
-          (d .columns)
-          (done-lowered C (p * block) (p * block + block) j (λ i. getD places i 0) (λ i. getD c i 0) F R n x (entryOf m) (entryOf b)
-          (λ t k. d .system .symbols t k) listed (e .done)));
-    }
+-- in more columns
+pub lower-more : (C : Code) → FieldOf C → (from mid to R j n : ℕ) (x : ℕ → ℕ) (places c : List ℕ) (o m b : List (List ℕ)) → from ≤ mid → mid ≤ to
+    → Listed R j n x (λ i. getD places i 0) (λ i. getD c i 0) → LoweredIn C from mid R j x o m → DoneIn C mid to j n places c m b → LoweredIn C from to R j x o b
+lower-more C F from mid to R j n x places c o m b low high listed d e = record {
+  size = e .size ∙ d .size;
+  system = e .system;
+  columns = between-more (Lowered (numbers C) R j x) from mid to (entryOf o) (entryOf m) (entryOf b) low high (d .columns)
+      (done-lowered C mid to j (λ i. getD places i 0) (λ i. getD c i 0) F R n x (entryOf m) (entryOf b) (λ t k. d .system .symbols t k) listed (e .done));
+}
 
 -- ---- the step
 

@@ -112,9 +112,7 @@ fn clear_block(
     while i < n {
         let t = field::inside::wide(places[i]);
         let x = field::inside::wide(c[i]);
-        let part = blocks::block(&system[t], at);
-        let sum = blocks::summed(&part, &times[x]);
-        blocks::put(&mut system[t], at, &sum);
+        blocks::add(&mut system[t], at, &times[x]);
         i += 1;
     }
 }

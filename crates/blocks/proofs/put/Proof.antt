@@ -1,16 +1,16 @@
 -- Each pass puts one entry more.
-use mathlib.Core.Path.{_≡_, subst}
+use mathlib.Core.Path.{_≡_, ap, subst}
 use Prim.Native.Nat.{ℕ, _+_, _-_, _≤_, _<_}
 use native.Mathlib.Omega.{arith}
-use lib.ListN.{length}
-use Rattle.blocks.proofs.Blocks.{block-none, block-more}
-use Rattle.blocks.specs.Row.{block, PutAt}
+use lib.ListN.{length, getD}
+use Rattle.blocks.proofs.Blocks.{changed-none, changed-more}
+use Rattle.blocks.specs.Row.{block, Changed}
 use borrow.Author.Needs.{needs}
 use Rattle.blocks.proofs.put.Statement.{statement}
 use Rattle.blocks.proofs.put.Tie as tie
 
 abbrev Inv-loop : tie.InvT-loop
-Inv-loop row₀ at part i₀ row i = (i ≤ block) × PutAt at i part row₀ row
+Inv-loop row₀ at part i₀ row i = (i ≤ block) × Changed at i (λ k. getD part (k - at) 0) row₀ row
 
 abbrev μ-loop : tie.MeasureT-loop
 μ-loop row₀ at part i₀ row i = block - i
@@ -18,21 +18,22 @@ abbrev μ-loop : tie.MeasureT-loop
 loop-holds : tie.Need-loop-holds Inv-loop μ-loop
 loop-holds c =
     let a = c .args in
-    (omega arith, block-none (a .at) (a .part .now) (a .row .now))
+    (omega arith, changed-none (a .at) (λ k. getD (a .part .now) (k - a .at) 0) (a .row .now))
 
 loop-again : tie.Need-loop-again Inv-loop μ-loop
 loop-again c =
     let l = c .before .before in
     let a = l .before .args in
     let h : a .at + l .loop .i < length (a .row .now) = omega arith in
-    (omega arith, block-more (a .at) (l .loop .i) (a .part .now) (a .row .now) (l .loop .row) h (l .loop .inv .1))
+    let e : l .loop .i ≡ a .at + l .loop .i - a .at = omega arith in
+    (omega arith, changed-more (a .at) (l .loop .i) _ (λ k. getD (a .part .now) (k - a .at) 0) (a .row .now) (l .loop .row) h (l .loop .inv .1) (ap (λ (k : ℕ). getD (a .part .now) k 0) e))
 
 returns : tie.Need-returns Inv-loop μ-loop
 returns c =
     let l = c .before in
     let a = l .before .args in
     let e : l .loop .i ≡ block = omega arith in
-    subst (λ (n : ℕ). PutAt (a .at) n (a .part .now) (a .row .now) (l .loop .row)) e (l .loop .inv .1)
+    subst (λ (n : ℕ). Changed (a .at) n (λ k. getD (a .part .now) (k - a .at) 0) (a .row .now) (l .loop .row)) e (l .loop .inv .1)
 
 pub put-spec : {M : Type 1} → statement M
 put-spec =

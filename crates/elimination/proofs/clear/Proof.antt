@@ -6,7 +6,7 @@ use lib.ListN.{length}
 use Rattle.definitions.specs.Field.{sixteen}
 use Rattle.definitions.specs.Limits.{greatestLimit}
 use Rattle.elimination.proofs.Blocks.{lower-none, lower-more, listed-rows}
-use Rattle.elimination.specs.System.{LoweredIn, columnOf}
+use Rattle.elimination.specs.System.{DoneIn, LoweredIn, columnOf}
 use Rattle.instances.proofs.Codes.{sixteen-field}
 use Rattle.blocks.specs.Row.{block, InRow}
 use borrow.Author.Needs.{needs}
@@ -61,12 +61,14 @@ loop-again c =
     let f = l .before in
     let a = f .before .before .before .before .args in
     let x = c .before .clear-block in
+    let e : l .loop .next * block + block ≡ (l .loop .next + 1) * block = omega arith in
     let h : a .j / block ≤ l .loop .next + 1 = omega arith in
     let g : l .loop .next + 1 ≤ a .blocks = omega arith in (
       h,
       g,
-      lower-more sixteen sixteen-field (l .loop .next) (a .j / block) (a .rows) (a .j) (f .factors .result) (columnOf (a .system .now) (a .j)) (f .factors .last .1 .1 .1 .0)
-          (f .factors .last .1 .1 .1 .1 .0) (a .system .now) (l .loop .system) (x .last .0) (l .loop .inv .0) (f .factors .ensures .1) (l .loop .inv .2) (x .ensures),
+      lower-more sixteen sixteen-field (a .j / block * block) (l .loop .next * block) ((l .loop .next + 1) * block) (a .rows) (a .j) (f .factors .result) (columnOf (a .system .now) (a .j))
+          (f .factors .last .1 .1 .1 .0) (f .factors .last .1 .1 .1 .1 .0) (a .system .now) (l .loop .system) (x .last .0) (omega arith) (omega arith) (f .factors .ensures .1) (l .loop .inv .2)
+          (subst (λ (to : ℕ). DoneIn sixteen (l .loop .next * block) to (a .j) (f .factors .result) (f .factors .last .1 .1 .1 .0) (f .factors .last .1 .1 .1 .1 .0) (l .loop .system) (x .last .0)) e (x .ensures)),
     )
 
 same-length : tie.Need-same-length Inv-loop μ-loop

@@ -1,11 +1,11 @@
 -- Each pass takes from one row more of those listed.
 use mathlib.Core.List.{[]}
-use mathlib.Core.Path.{_≡_, subst}
+use mathlib.Core.Path.{_≡_, _∙_, subst}
 use Prim.Native.Nat.{ℕ, _+_, _-_, _≤_, _<_}
 use native.Mathlib.Omega.{arith}
 use lib.ListN.{length, getD}
 use Rattle.definitions.specs.Field.{sixteen}
-use Rattle.elimination.proofs.Blocks.{rows-undone, rows-done}
+use Rattle.elimination.proofs.Blocks.{rows-undone, less-block, rows-done}
 use Rattle.elimination.specs.System.{DoneIn}
 use Rattle.instances.proofs.Codes.{sixteen-field}
 use Rattle.blocks.proofs.Blocks.{block-symbols}
@@ -30,7 +30,7 @@ loop-holds : tie.Need-loop-holds Inv-loop μ-loop
 loop-holds c =
     let s = c .before .before .before .before in
     let a = s .args in
-    (omega arith, rows-undone sixteen (a .at) (a .j) (a .places .now) (a .c .now) (a .system .now) (s .pre .0))
+    (omega arith, rows-undone sixteen (a .at) (a .at + block) (a .j) (a .places .now) (a .c .now) (a .system .now) (s .pre .0))
 
 abbrev entry : tie.In-loop Inv-loop μ-loop → tie.Start Inv-loop μ-loop
 entry c = c .before .before .before .before .before .before
@@ -53,29 +53,21 @@ factor c =
     let f = c .wide2 .ensures .0 in
     omega arith
 
-index-1-block-2 : tie.Need-index-1-block-2 Inv-loop μ-loop
-index-1-block-2 c = let h = target (c .before .before) in omega arith
+index-1-add : tie.Need-index-1-add Inv-loop μ-loop
+index-1-add c = target (c .before .before)
 
-index-1-summed : tie.Need-index-1-summed Inv-loop μ-loop
-index-1-summed c = let h = factor (c .before .before .before) in omega arith
+index-1-add-2 : tie.Need-index-1-add-2 Inv-loop μ-loop
+index-1-add-2 c = factor (c .before)
 
-abbrev read : tie.After-summed Inv-loop μ-loop → tie.After-wide2 Inv-loop μ-loop
-read c = c .before .before .before .before .before
-
-index-1-put : tie.Need-index-1-put Inv-loop μ-loop
-index-1-put c = let h = target (read c .before .before) in omega arith
-
-put-requires : tie.Need-put-requires Inv-loop μ-loop
-put-requires c κs =
-    let w = read (c .before .before) .before .before in
+add-requires : tie.Need-add-requires Inv-loop μ-loop
+add-requires c κs =
+    let w = c .before .before .before .before in
     let n = w .before .before in
     (entry n .pre .1 .0 .0, n .before .loop .inv .1 .system .wide (w .wide .result) (target w))
 
 loop-again : tie.Need-loop-again Inv-loop μ-loop
 loop-again c =
-    let m = c .before .before .before in
-    let k = m .before .before .before in
-    let x = read m in
+    let x = c .before .before .before in
     let w = x .before .before in
     let n = w .before .before in
     let l = n .before in
@@ -83,11 +75,12 @@ loop-again c =
     let f = t .before .before in
     let s = entry n in
     let a = s .args in
-    let low = n .loop-test .taken in (
+    let old = getD (l .loop .system) (w .wide .result) [] in (
       omega arith,
-      rows-done sixteen sixteen-field (a .at) (a .j) (a .places .now) (a .c .now) (l .loop .i) (a .n) (a .system .now) (l .loop .system) (w .wide .result) (x .wide2 .result)
-          (f .block .result) (k .block2 .result) (m .summed .result) (c .put .last .0) (t .multiples .result) low (s .pre .0) (s .pre .1 .1 .0) (l .loop .inv .1)
-          (w .wide .ensures .0) (x .wide2 .ensures .0) (factor x) (f .block .ensures) (t .multiples .ensures) (k .block2 .ensures) (m .summed .ensures) (c .put .ensures),
+      rows-done sixteen sixteen-field (a .at) (a .at + block) (a .j) (a .places .now) (a .c .now) (l .loop .i) (a .n) (a .system .now) (l .loop .system) (w .wide .result) (x .wide2 .result)
+          (c .add .last .0) (n .loop-test .taken) (s .pre .0) (s .pre .1 .1 .0) (l .loop .inv .1) (w .wide .ensures .0) (x .wide2 .ensures .0) (factor x)
+          (c .add .ensures .size ∙ l .loop .inv .1 .system .wide (w .wide .result) (target w))
+          (less-block sixteen (a .at) (x .wide2 .result) (getD (a .system .now) (a .j) []) (f .block .result) old (c .add .last .0) (t .multiples .result) (factor x) (f .block .ensures) (t .multiples .ensures) (c .add .ensures)),
     )
 
 same-length : tie.Need-same-length Inv-loop μ-loop
@@ -116,14 +109,10 @@ clear-block-spec =
     (λ c. search needs)
     (λ c κs. search needs)
     (λ c. search needs)
-    index-1-block-2
-    (λ c κs. search needs)
+    index-1-add
     (λ c. search needs)
-    index-1-summed
-    (λ c κs. search needs)
-    (λ c. search needs)
-    index-1-put
-    put-requires
+    index-1-add-2
+    add-requires
     (λ c. search needs)
     (λ c. search needs)
     loop-again
