@@ -7,7 +7,7 @@ use native.Mathlib.Decide.{decLt, ℕ-discrete}
 use native.Mathlib.Omega.{arith}
 use lib.ListN.{length, getD, set, replicate, length-set, getD-replicate}
 use lib.Seq.{getD-set-same, getD-set-other}
-use Rattle.algebra.proofs.Elements.{zero-symbol, plus-symbol, times-symbol, times-grouped, times-joined, once-times, none-times}
+use Rattle.algebra.proofs.Elements.{zero-symbol, times-symbol, times-grouped, times-joined, once-times, none-times}
 use Rattle.algebra.specs.FieldOf.{FieldOf}
 use Rattle.definitions.proofs.Zeros.{zero-at}
 use Rattle.definitions.specs.Code.{Symbols}
@@ -53,16 +53,9 @@ changed-more at n x f old new h d is = record {
 pub block-symbols : (C : Code) (at : ℕ) (row a : List ℕ) → Symbols C row → BlockOf at row a → SymbolBlock C a
 block-symbols C at row a s e k l = subst (λ (x : ℕ). x < C .symbols) (sym (e k l)) (s (at + k))
 
-module _ (C : Code) (F : FieldOf C) where
-  -- so is a sum of such blocks
-  pub summed-symbols : (a b r : List ℕ) → SymbolBlock C a → SymbolBlock C b → SummedBlock C a b r → SymbolBlock C r
-  summed-symbols a b r sa sb e k l =
-      subst (λ (x : ℕ). x < C .symbols) (sym (e k l)) (plus-symbol C F (getD a k 0) (getD b k 0) (sa k l) (sb k l))
-
-  -- and a multiple of one
-  pub scaled-symbols : (u : ℕ) (a r : List ℕ) → u < C .symbols → SymbolBlock C a → ScaledBlock C u a r → SymbolBlock C r
-  scaled-symbols u a r h sa e k l =
-      subst (λ (x : ℕ). x < C .symbols) (sym (e k l)) (times-symbol C F u (getD a k 0) h (sa k l))
+-- so is a multiple of one
+pub scaled-symbols : (C : Code) → FieldOf C → (u : ℕ) (a r : List ℕ) → u < C .symbols → SymbolBlock C a → ScaledBlock C u a r → SymbolBlock C r
+scaled-symbols C F u a r h sa e k l = subst (λ (x : ℕ). x < C .symbols) (sym (e k l)) (times-symbol C F u (getD a k 0) h (sa k l))
 
 -- ---- multiples
 

@@ -51,7 +51,7 @@ pub fn add(row: &mut [u8; WIDTH], at: usize, part: &[u8; BLOCK])
     }
 }
 
-pub fn summed(a: &[u8; BLOCK], b: &[u8; BLOCK]) -> [u8; BLOCK]
+fn summed(a: &[u8; BLOCK], b: &[u8; BLOCK]) -> [u8; BLOCK]
     ensures { λ r. ⌜ SummedBlock sixteen (now (a .entry)) (now (b .entry)) r ⌝ }
 {
     let mut sum = [0u8; BLOCK];

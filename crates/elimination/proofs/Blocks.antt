@@ -1,7 +1,7 @@
 -- A step of the elimination by blocks: two rows change places, and the rows listed lose a multiple of the pivot row.
 -- Assumes nothing.
 use mathlib.Core.List.{List, []}
-use mathlib.Core.Path.{_≡_, refl, sym, _∙_, ap, ap₂, subst}
+use mathlib.Core.Path.{_≡_, refl, sym, _∙_, ap, subst}
 use Prim.Native.Nat.{ℕ, _+_, _*_, _/_, _-_, _≤_, _<_}
 use native.Mathlib.Decide.{ℕ-discrete}
 use native.Mathlib.Numerals.{add-one}
@@ -100,7 +100,7 @@ module _ (C : Code) where
 pub rows-undone : (C : Code) (from to j : ℕ) (places c : List ℕ) (m : List (List ℕ)) → System C m → DoneIn C from to j 0 places c m m
 rows-undone C from to j places c m s = record { size = refl; system = s; done = done-none C from to j (λ (i : ℕ). getD places i 0) (λ (i : ℕ). getD c i 0) (entryOf m) }
 
--- row t has lost x times another in some columns
+-- a row has lost x times another in some columns
 abbrev pub Less : Code → ℕ → ℕ → ℕ → List ℕ → List ℕ → List ℕ → Type 0
 Less C from to x first old new = Patched from to (λ (k : ℕ). C .plus (getD old k 0) (C .times x (getD first k 0))) (λ (k : ℕ). getD old k 0) (λ (k : ℕ). getD new k 0)
 

@@ -11,7 +11,7 @@ use Rattle.algebra.specs.Ring.{Ring}
 use Rattle.algebra.proofs.Polynomials.{coefficient-plus, coefficient-scaled}
 use Rattle.algebra.proofs.RingLaws.{ring}
 use Rattle.definitions.specs.Field.{Ops}
-use Rattle.definitions.specs.Roots.{plus, scaled}
+use Rattle.definitions.specs.Roots.{scaled}
 use Rattle.root_tree.specs.Columns.{shift}
 
 -- twice a number

@@ -7,14 +7,13 @@ use mathlib.Core.Path.{_≡_, refl, sym, _∙_, ap, ap₂, subst}
 use Prim.Native.Nat.{ℕ, suc, _+_, _*_, _^_, _≤_, _<_}
 use native.Mathlib.Decide.{decLt, ℕ-discrete}
 use native.Mathlib.Nat.{not-suc-le-zero}
-use native.Mathlib.Numerals.{add-one}
 use native.Mathlib.Omega.{arith}
 use borrow.Author.Tests.{eq-eqb, ne-eqb}
 use lib.Bits.{bitAnd}
 use lib.Dec.{eqb}
 use lib.ListN.{length, getD, drop, set}
 use lib.Seq.{getD-set-same, getD-set-other}
-use Rattle.algebra.proofs.Elements.{zero-symbol, times-symbol, plus-none, times-none}
+use Rattle.algebra.proofs.Elements.{zero-symbol, plus-none, times-none}
 use Rattle.algebra.specs.FieldOf.{FieldOf}
 use Rattle.definitions.specs.Code.{Symbols}
 use Rattle.definitions.specs.Field.{Code, numbers}
@@ -38,12 +37,12 @@ module _ (C : Code) (h w to from c : ℕ) (l : List ℕ) where
   added-more a y r d ha ht hf differ room e =
       let i = place-within h a to w ha ht in
       record {
-        hit = λ b p q. elim (ℕ-discrete b a) [
+        hit = λ b p. elim (ℕ-discrete b a) [
           | yes k ↦
               subst (λ (j : ℕ). getD (set r (a * h + to) y) (j * h + to) 0 ≡ C .plus (getD l (j * h + to) 0) (C .times c (getD l (j * h + from) 0))) (sym k)
               (getD-set-same r (a * h + to) y 0 (omega arith) ∙ e
               ∙ ap₂ (λ (x z : ℕ). C .plus x (C .times c z)) (d .miss a to ha ht (λ m _. let z : ⊥ = omega arith in z)) (d .miss a from ha hf (λ m _. let z : ⊥ = omega arith in z)))
-          | no n ↦ getD-set-other r (a * h + to) (b * h + to) y 0 (λ k. n (place-once h b to a to ht ht k .0)) ∙ d .hit b (omega arith) q
+          | no n ↦ getD-set-other r (a * h + to) (b * h + to) y 0 (λ k. n (place-once h b to a to ht ht k .0)) ∙ d .hit b (omega arith)
         ];
         miss = λ b t p q n.
             getD-set-other r (a * h + to) (b * h + t) y 0
@@ -83,7 +82,7 @@ module _ (C : Code) (h w bit c : ℕ) (l : List ℕ) where
           done = λ a t ha lt ht. elim (ℕ-discrete t n) [
             | yes is ↦
                 subst (λ (j : ℕ). getD q (a * h + j) 0 ≡ folded (numbers C) bit c (column a) j) (sym is)
-                (k .hit a ha ha
+                (k .hit a ha
                 ∙ ap₂ (λ (x y : ℕ). C .plus x (C .times c y)) (d .rest a n ha (omega arith) (omega arith)) (d .rest a (n + bit) ha (omega arith) inside)
                 ∙ folded-without a n e)
             | no m ↦ k .miss a t ha ht (λ _ is. m is) ∙ d .done a t ha (omega arith) ht

@@ -34,7 +34,7 @@ isOther l i = not (eqb (getD l i 0) 0)
 module _ (C : Code) where
   -- r is l with c times entry `from` added to entry `to`, in the first n columns
   pub record Added (h w n to from c : ℕ) (l r : List ℕ) : Type 0 where
-    pub hit : (a : ℕ) → a < n → a < w → getD r (a * h + to) 0 ≡ C .plus (getD l (a * h + to) 0) (C .times c (getD l (a * h + from) 0))
+    pub hit : (a : ℕ) → a < n → getD r (a * h + to) 0 ≡ C .plus (getD l (a * h + to) 0) (C .times c (getD l (a * h + from) 0))
     pub miss : (a t : ℕ) → a < w → t < h → (a < n → t ≡ to → ⊥) → getD r (a * h + t) 0 ≡ getD l (a * h + t) 0
 
   -- the columns of an array, w of height h

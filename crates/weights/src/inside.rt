@@ -1,5 +1,4 @@
 // Weights and cost of what is within limits already.
-ghost use mathlib.Core.Bool.{Bool};
 ghost use mathlib.Core.List.{_++_};
 ghost use mathlib.Core.Path.{_≡_};
 ghost use Prim.Native.Nat.{_+_, _*_, _≤_, _<_};
