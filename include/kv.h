@@ -64,10 +64,11 @@ struct kv_answer kv_encode(size_t n, size_t k,
 /*
  * count: 16n.
  * Memory: position i, symbol b lies at 16i + b in both lists. out[j], for j from 0 to 16n-1, is the
- * whole part of level * reliabilities[j] / 4096; out from 16n on stays.
+ * whole part of level * reliabilities[j] / 4096, whatever its position's numbers sum to; out from
+ * 16n on stays. An erased mark is sixteen zeros, and its multiplicities are zeros.
  * Refusals: 1 unless 2 <= n <= 15; 2 unless 1 <= level <= 4; 3 where reliabilities_len, in numbers,
- * is not 16n; 4 where out_len is below 16n; 6 where a position's sixteen reliabilities do not sum
- * to 4096, place that position, the first one's.
+ * is not 16n; 4 where out_len is below 16n; 6 where a position's sixteen reliabilities sum to more
+ * than 4096, place that position, the first one's.
  */
 struct kv_answer kv_multiplicities(size_t n, size_t level,
                                    const uint16_t *reliabilities, size_t reliabilities_len,
@@ -142,7 +143,7 @@ struct kv_answer kv_list_of_multiplicities(size_t n, size_t k, size_t limit,
  * count, memory: as kv_list_of_multiplicities answers and leaves them for the matrix.
  * Refusals: 1 unless 2 <= k <= n <= 15; 2 unless 1 <= level <= 4 and limit <= 150; 3 where
  * reliabilities_len, in numbers, is not 16n; 4 where rows_len is below 16k or scores_len, in
- * numbers, below 16; 6 where a position's sixteen reliabilities do not sum to 4096, place that
+ * numbers, below 16; 6 where a position's sixteen reliabilities sum to more than 4096, place that
  * position, the first one's; 7 where the matrix's cost is above limit.
  */
 struct kv_answer kv_list_of_reliabilities(size_t n, size_t k, size_t level, size_t limit,

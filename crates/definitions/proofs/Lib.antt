@@ -10,6 +10,7 @@ pub mod Bound
 pub mod Monomials
 pub mod Listing
 pub mod Refusals
+pub mod Columns
 pub mod Table
 pub mod Loops
 pub mod Sums

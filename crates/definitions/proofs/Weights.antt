@@ -7,13 +7,13 @@ use native.Mathlib.Nat.{mul-le-mul}
 use native.Mathlib.Omega.{arith}
 use lib.ListN.{length, getD, take, length-map}
 use lib.Seq.{take-suc}
-use Rattle.definitions.specs.Limits.{columnSum}
+use Rattle.definitions.specs.Limits.{greatestSum}
 use Rattle.definitions.specs.Tools.{sum}
 use Rattle.definitions.specs.Weights.{multiplicity, matrix}
 use Rattle.definitions.proofs.Tools.{sum-bound, map-at}
 
 -- "the whole part of L times the reliability over 4,096"
-pub multiplicity-whole : (L r : ℕ) → (multiplicity L r * columnSum ≤ L * r) × (L * r < (multiplicity L r + 1) * columnSum)
+pub multiplicity-whole : (L r : ℕ) → (multiplicity L r * greatestSum ≤ L * r) × (L * r < (multiplicity L r + 1) * greatestSum)
 multiplicity-whole L r = omega arith
 
 -- a matrix has an entry for each reliability

@@ -1,10 +1,10 @@
--- The limits of document 01, each named once.
+-- The limits of document 01, and of document 02 where an order of it replaced them, each named once.
 -- Assumes nothing.
 use Prim.Native.Nat.{ℕ}
 
--- "Each position's sixteen numbers sum to exactly 4,096"
-abbrev pub columnSum : ℕ
-columnSum = 4096
+-- "From now a column may sum to anything from 0 to 4,096" (document 02, order 1)
+abbrev pub greatestSum : ℕ
+greatestSum = 4096
 
 -- "The level L is 1 to 4"; no entry of a matrix is greater
 abbrev pub greatestLevel : ℕ

@@ -1,4 +1,4 @@
--- "Refusals, in the order they are tried": the lines of document 01's table, and for each entry the lines that it tries.
+-- "Refusals, in the order they are tried": the lines of document 01's table, 6 by document 02, and for each entry the lines that it tries.
 -- Assumes nothing.
 use mathlib.Core.Bool.{Bool, cond, not, _&&_}
 use mathlib.Core.List.{List, [], _∷_}
@@ -7,7 +7,7 @@ use lib.Dec.{eqb, leb, ltb}
 use lib.ListN.{length}
 use Rattle.definitions.specs.Bound.{count}
 use Rattle.definitions.specs.Field.{Code}
-use Rattle.definitions.specs.Limits.{columnSum, greatestLevel, greatestLimit, greatestCount, coefficientRoom, greatestRows}
+use Rattle.definitions.specs.Limits.{greatestSum, greatestLevel, greatestLimit, greatestCount, coefficientRoom, greatestRows}
 use Rattle.definitions.specs.Polynomial.{isZero}
 use Rattle.definitions.specs.Tools.{smallest}
 use Rattle.definitions.specs.Weights.{matrix, cost, sumOfColumn}
@@ -76,9 +76,9 @@ symbols C l = noneAbove (C .symbols - 1) l
 abbrev pub entriesOf : List ℕ → Line
 entriesOf m = noneAbove greatestLevel m
 
--- "6 column: a position's reliabilities do not sum to 4,096", at "the first bad position"
+-- "refusal 6 is given exactly when a sum is greater" than 4,096 (document 02, order 1), at "the first bad position"
 abbrev pub badColumn : Code → List ℕ → ℕ → Bool
-badColumn C r i = not (eqb (sumOfColumn C r i) columnSum)
+badColumn C r i = ltb greatestSum (sumOfColumn C r i)
 
 abbrev pub columns : Code → ℕ → List ℕ → Line
 columns C n r = record { number = 6; given = ltb (smallest (badColumn C r) n) n; place = smallest (badColumn C r) n }

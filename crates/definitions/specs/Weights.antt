@@ -1,11 +1,12 @@
--- Weights to multiplicities, cost and score of document 01.
+-- Weights to multiplicities, cost and score of document 01, and the erased marks of document 02.
 -- Assumes nothing.
 use mathlib.Core.List.{List, map}
-use Prim.Native.Nat.{ℕ, _+_, _*_, _/_}
+use mathlib.Core.Path.{_≡_}
+use Prim.Native.Nat.{ℕ, _+_, _*_, _/_, _<_}
 use lib.ListN.{length, getD}
 use Rattle.definitions.specs.Code.{codeword}
 use Rattle.definitions.specs.Field.{Code}
-use Rattle.definitions.specs.Limits.{columnSum}
+use Rattle.definitions.specs.Limits.{greatestSum}
 use Rattle.definitions.specs.Tools.{sum}
 
 -- "position i, symbol b is at 16i + b"; what lies past the end is zero, as "unused columns are zero"
@@ -16,9 +17,13 @@ entry C m i b = getD m (C .symbols * i + b) 0
 abbrev pub sumOfColumn : Code → List ℕ → ℕ → ℕ
 sumOfColumn C r i = sum (C .symbols) (entry C r i)
 
+-- "A column of zeros is an erased mark" (document 02, order 1), of the reliabilities or of a matrix
+abbrev pub Erased : Code → List ℕ → ℕ → Type 0
+Erased C r i = (b : ℕ) → b < C .symbols → entry C r i b ≡ 0
+
 -- "The multiplicity is the whole part of L times the reliability over 4,096"
 abbrev pub multiplicity : ℕ → ℕ → ℕ
-multiplicity L r = L * r / columnSum
+multiplicity L r = L * r / greatestSum
 
 -- "Lent as bytes it has the same 16n layout"
 abbrev pub matrix : ℕ → List ℕ → List ℕ

@@ -7,7 +7,7 @@ pub const POSITIONS: usize = 15;
 
 pub const ENTRIES: usize = SYMBOLS * POSITIONS;
 
-pub const COLUMN_SUM: usize = 4096;
+pub const GREATEST_SUM: usize = 4096;
 
 pub const GREATEST_LEVEL: usize = 4;
 

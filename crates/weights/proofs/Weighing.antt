@@ -1,6 +1,6 @@
 -- The steps of the loops over weights and columns, and that their numbers fit.
 -- Assumes nothing.
-use mathlib.Core.Bool.{false, not}
+use mathlib.Core.Bool.{false}
 use mathlib.Core.List.{List, _++_, map}
 use mathlib.Core.Path.{_≡_, sym, _∙_, ap}
 use Prim.Native.Nat.{ℕ, _+_, _*_, _≤_, _<_}
@@ -8,14 +8,14 @@ use native.Mathlib.Nat.{mul-le-mul}
 use native.Mathlib.Numerals.{add-one}
 use native.Mathlib.Omega.{arith}
 use borrow.Author.Count.{below-more}
-use borrow.Author.Tests.{eq-eqb, ne-eqb}
 use lib.ListN.{length, take, drop, getD, set, length-map}
 use lib.Seq.{length-take-le}
+use Rattle.definitions.proofs.Columns.{column-taken, column-refused}
 use Rattle.definitions.proofs.Loops.{put-more, map-more}
 use Rattle.definitions.proofs.Tools.{below-zero, smallest-is}
 use Rattle.definitions.proofs.Weights.{map-take}
 use Rattle.definitions.specs.Field.{Code}
-use Rattle.definitions.specs.Limits.{columnSum, greatestLevel}
+use Rattle.definitions.specs.Limits.{greatestSum, greatestLevel}
 use Rattle.definitions.specs.Refusals.{badColumn}
 use Rattle.definitions.specs.Tools.{below, smallest}
 use Rattle.definitions.specs.Weights.{sumOfColumn, multiplicity, matrix}
@@ -46,14 +46,13 @@ cost-fits m h = mul-le-mul {n₁ = m} {m₁ = m + 1} {n₂ = 255} {m₂ = 256} (
 pub none-loaded : (C : Code) (m : List ℕ) → zeroColumns C ≡ matrixOf C m 0
 none-loaded C m = ap (λ (l : List ℕ). map (columnOf C m) l ++ zeroColumns C) (sym below-zero)
 
--- the columns that a search has passed sum to 4,096
+-- the columns that a search has passed sum to at most 4,096
 module _ (C : Code) (r : List ℕ) (n i : ℕ) (passed : (j : ℕ) → j < i → badColumn C r j ≡ false) where
-  pub column-found : (total : ℕ) → i < n → total ≡ sumOfColumn C r i → (total ≡ columnSum → ⊥) → i ≡ smallest (badColumn C r) n
-  column-found total h e bad =
-      sym (smallest-is (badColumn C r) n i (omega arith) passed (λ _. ap not (ne-eqb (sumOfColumn C r i) columnSum (λ q. bad (e ∙ q)))))
+  pub column-found : (total : ℕ) → i < n → total ≡ sumOfColumn C r i → greatestSum < total → i ≡ smallest (badColumn C r) n
+  column-found total h e bad = sym (smallest-is (badColumn C r) n i (omega arith) passed (λ _. column-refused C r i (rw e at bad)))
 
-  pub column-passed : (total : ℕ) → total ≡ sumOfColumn C r i → total ≡ columnSum → (j : ℕ) → j < i + 1 → badColumn C r j ≡ false
-  column-passed total e right = below-more (λ (j : ℕ). badColumn C r j ≡ false) i passed (ap not (eq-eqb (sumOfColumn C r i) columnSum (sym e ∙ right)))
+  pub column-passed : (total : ℕ) → total ≡ sumOfColumn C r i → total ≤ greatestSum → (j : ℕ) → j < i + 1 → badColumn C r j ≡ false
+  column-passed total e good = below-more (λ (j : ℕ). badColumn C r j ≡ false) i passed (column-taken C r i (rw e at good))
 
-  pub no-column : i ≤ n → n ≤ i → i ≡ smallest (badColumn C r) n
-  no-column h k = sym (smallest-is (badColumn C r) n i h passed (λ l. let z : ⊥ = omega arith in absurd z))
+  pub no-column : n ≤ i → n ≡ smallest (badColumn C r) n
+  no-column h = sym (smallest-is (badColumn C r) n n (omega arith) (λ j l. passed j (omega arith)) (λ l. let z : ⊥ = omega arith in absurd z))

@@ -12,7 +12,7 @@ ghost use Rattle.refusals.specs.Checked.{orLine, toldChecked};
 ghost use Rattle.weights.specs.Matrix.{columnOf, matrixOf, columnCost, matrixCost};
 use refusals::Checked;
 use refusals::Refusal;
-use refusals::limits::COLUMN_SUM;
+use refusals::limits::GREATEST_SUM;
 use refusals::limits::POSITIONS;
 use refusals::limits::SYMBOLS;
 
@@ -36,19 +36,19 @@ fn column_sum(reliabilities: &[u16], i: usize) -> usize
     total
 }
 
-// The first position whose reliabilities do not sum to 4,096, or n.
+// The first position whose reliabilities sum to more than 4,096, or n.
 fn first_bad_column(reliabilities: &[u16], n: usize) -> usize
     requires { ⌜ (n ≤ sixteen .positions) × (sixteen .symbols * n ≤ length (now reliabilities)) ⌝ }
     ensures { λ r. ⌜ r ≡ smallest (badColumn sixteen (now (reliabilities .entry))) n ⌝ }
 {
-    let mut i = 0;
-    while i < n {
-        if column_sum(reliabilities, i) != COLUMN_SUM {
-            return i;
+    let mut position = 0;
+    while position < n {
+        if GREATEST_SUM < column_sum(reliabilities, position) {
+            return position;
         }
-        i += 1;
+        position += 1;
     }
-    i
+    n
 }
 
 pub fn columns_checked(checked: Checked, reliabilities: &[u16], n: usize) -> Checked
@@ -72,7 +72,7 @@ fn multiplicity_of(level: usize, reliability: u16) -> u8
     requires { ⌜ level ≤ greatestLevel ⌝ }
     ensures { λ r. ⌜ r ≡ multiplicity level reliability ⌝ }
 {
-    (level * wide(reliability) / COLUMN_SUM) as u8
+    (level * wide(reliability) / GREATEST_SUM) as u8
 }
 
 // The multiplicity of each reliability, to the front of out.

@@ -6,7 +6,8 @@ use second::field::SYMBOLS;
 use second::weights::{GREATEST_LEVEL, WHOLE};
 use tags::Random;
 use tags::{
-    close_codewords, matrix_of, random_codeword, shared_weights, soft_weights, with_wrong_marks,
+    close_codewords, matrix_of, random_codeword, shared_weights, soft_weights, with_erased_marks,
+    with_wrong_marks,
 };
 
 const SEED: u64 = 8;
@@ -46,7 +47,7 @@ fn headers() -> Vec<Vec<u8>> {
     let mut inputs = Vec::new();
     for n in SIZES {
         let good = plain_weights(n.into());
-        let bad = vec![1; good.len()];
+        let bad = vec![u16::MAX; good.len()];
         for k in SIZES {
             inputs.push(input([n, k, 4, LIMIT], &good));
             inputs.push(input([n, k, 0, LIMIT + 1], &bad));
@@ -55,7 +56,7 @@ fn headers() -> Vec<Vec<u8>> {
     for level in LEVELS {
         for limit in LIMITS {
             inputs.push(input([4, 2, level, limit], &plain_weights(4)));
-            inputs.push(input([4, 2, level, limit], &vec![1; SYMBOLS * 4]));
+            inputs.push(input([4, 2, level, limit], &[u16::MAX; SYMBOLS * 4]));
         }
     }
     inputs
@@ -81,21 +82,26 @@ fn lengths() -> Vec<Vec<u8>> {
         .collect()
 }
 
-/// A column that is off at each position, by one less or one more.
-fn bad_columns() -> Vec<Vec<u8>> {
+/// At each position a column of less than the whole, which is taken, or of more, which is not; with
+/// the latter the last column, too, is one too great.
+fn columns() -> Vec<Vec<u8>> {
     let n = MOST_POSITIONS;
-    let off = |place: usize, weight: u16| {
+    let with = |place: usize, weight: u16, last: u16| {
         let mut weights = plain_weights(n);
+        weights[SYMBOLS * n - 1] = last;
         weights[place] = weight;
-        weights[SYMBOLS * n - 1] += 1;
         input([n as u8, 7, 4, LIMIT], &weights)
     };
-    let less = (0..n).map(|position| off(SYMBOLS * position + 1, WHOLE as u16 - 1));
-    let more = (0..n).map(|position| off(SYMBOLS * position, u16::MAX));
-    less.chain(more).collect()
+    let position = |position: usize| {
+        let (other, own) = (SYMBOLS * position, SYMBOLS * position + 1);
+        let less = [0, 1, WHOLE as u16 - 3, WHOLE as u16 - 1].map(|weight| with(own, weight, 0));
+        let more = [1, WHOLE as u16, u16::MAX].map(|weight| with(other, weight, 1));
+        less.into_iter().chain(more)
+    };
+    (0..n).flat_map(position).collect()
 }
 
-/// Worn tags with limits from just below the cost on, and tags that several codewords share.
+/// Worn tags, some marks erased, with limits from just below the cost on, and tags that several codewords share.
 fn tags() -> Vec<Vec<u8>> {
     let mut random = Random::new(SEED);
     let mut inputs = Vec::new();
@@ -107,7 +113,9 @@ fn tags() -> Vec<Vec<u8>> {
             let right = random_codeword(&mut random, n, k);
             let wrong = random.between(0, (n - k) / 2);
             let word = with_wrong_marks(&mut random, &right, wrong);
-            soft_weights(&mut random, &word, WHOLE as usize * 3 / 4)
+            let soft = soft_weights(&mut random, &word, WHOLE as usize * 3 / 4);
+            let erased = random.between(0, (n - k) / 2);
+            with_erased_marks(&mut random, &soft, erased)
         } else {
             shared_weights(&close_codewords(&mut random, n, k, 2))
         };
@@ -122,5 +130,5 @@ fn tags() -> Vec<Vec<u8>> {
 }
 
 pub fn all() -> Vec<Vec<u8>> {
-    [short_inputs(), headers(), lengths(), bad_columns(), tags()].concat()
+    [short_inputs(), headers(), lengths(), columns(), tags()].concat()
 }

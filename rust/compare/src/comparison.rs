@@ -65,7 +65,7 @@ impl Comparison {
             }
         }
         self.tally.call(*answer);
-        self.seen.list(*answer, memory.scores.part());
+        self.seen.list(call, *answer, memory.scores.part());
         *answer
     }
 

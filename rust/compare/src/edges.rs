@@ -1,20 +1,34 @@
-//! What document 01 says of single numbers, asked of the proved library and of the second program:
+//! What the documents say of single numbers, asked of the proved library and of the second program:
 //! a misreading that both share would not show in a comparison.
 
 use crate::call::Call;
 use crate::entry::{Entry, Program};
 use crate::{cost_and_bound, encode, field, multiplicities};
+use second::bound::GREATEST_LIMIT;
 use second::field::{ALPHA, SYMBOLS};
+use second::list::MOST_ROWS;
 use second::weights::WHOLE;
 use std::process::exit;
 use tags::hard_word;
 
-const LEAST_LINES: usize = 29;
+const LEAST_LINES: usize = 35;
 
 const POWERS_OF_ALPHA: [u16; 16] = [1, 2, 4, 8, 3, 6, 12, 11, 5, 10, 7, 14, 15, 13, 9, 1];
 const PRODUCTS: [(u8, u8, u16); 2] = [(3, 5, 15), (7, 7, 6)];
 const INVERSES: [(u8, u16); 2] = [(2, 9), (3, 14)];
-const MULTIPLICITIES_AT_LEVEL_4: [(u16, u16); 4] = [(1023, 0), (1024, 1), (4095, 3), (4096, 4)];
+const MULTIPLICITIES_AT_LEVEL_4: [(u16, u16); 5] =
+    [(1023, 0), (1024, 1), (4093, 3), (4095, 3), (4096, 4)];
+/// What a column sums to, and the number of the refusal: document 02, order 1.
+const SUMS: [(usize, u16); 8] = [
+    (0, 0),
+    (1, 0),
+    (4_093, 0),
+    (4_095, 0),
+    (4_096, 0),
+    (4_097, 6),
+    (69_632, 6),
+    (1_048_560, 6),
+];
 /// A word, its multiplicity at each of its symbols, k, the cost and the bound.
 const COSTS_AND_BOUNDS: [(&[u8], u8, usize, u16, u16); 5] = [
     (&[1, 1, 1], 1, 2, 3, 2),
@@ -24,7 +38,7 @@ const COSTS_AND_BOUNDS: [(&[u8], u8, usize, u16, u16); 5] = [
     (&[1; 15], 4, 7, 150, 39),
 ];
 
-/// What document 01 has written, and what a program answered.
+/// What the documents have written, and what a program answered.
 pub struct Line {
     pub text: String,
     pub written: Vec<u16>,
@@ -68,24 +82,73 @@ fn codeword_line(program: Program) -> Line {
 }
 
 fn multiplicity_line(program: Program, (reliability, written): (u16, u16)) -> Line {
-    let (level, whole) = (4, WHOLE as u16);
-    let mut weights = vec![0; 2 * SYMBOLS];
+    let whole = WHOLE as u16;
+    let mut weights = [0; 2 * SYMBOLS];
     weights[0] = reliability;
     weights[1] = whole - reliability;
     weights[SYMBOLS] = whole;
-    let call = Call {
-        level,
-        room: weights.len(),
-        reliabilities: weights,
-        ..Call::of_sizes(2, 0)
-    };
     Line {
-        text: format!("the multiplicity of {reliability} at level {level}"),
+        text: format!("the multiplicity of {reliability} at level 4"),
         written: vec![written],
-        answered: multiplicities::ENTRY
-            .outcome(program, &call)
-            .numbers(&[], 1),
+        answered: matrix_at_level_4(program, &weights, 1),
     }
+}
+
+/// The same reliability in a column that has no other, and then an erased mark.
+fn alone_line(program: Program, (reliability, written): (u16, u16)) -> Line {
+    let (mut weights, mut matrix) = ([0; 2 * SYMBOLS], vec![0; 2 * SYMBOLS]);
+    weights[0] = reliability;
+    matrix[0] = written;
+    Line {
+        text: format!("the matrix of {reliability} alone and an erased mark at level 4"),
+        written: matrix,
+        answered: matrix_at_level_4(program, &weights, weights.len()),
+    }
+}
+
+/// The first entries of the matrix that is written.
+fn matrix_at_level_4(program: Program, weights: &[u16], entries: usize) -> Vec<u16> {
+    let call = Call {
+        level: 4,
+        room: weights.len(),
+        reliabilities: weights.to_vec(),
+        ..Call::of_sizes(weights.len() / SYMBOLS, 0)
+    };
+    let outcome = multiplicities::ENTRY.outcome(program, &call);
+    outcome.numbers(&[], entries)
+}
+
+/// A column with the given sum, as much as it holds at each of its first symbols.
+fn column(sum: usize) -> [u16; SYMBOLS] {
+    let mut left = sum;
+    [0; SYMBOLS].map(|_| {
+        let weight = u16::try_from(left).unwrap_or(u16::MAX);
+        left -= usize::from(weight);
+        weight
+    })
+}
+
+/// Of an entry that takes reliabilities: between two whole columns, which sums are taken.
+pub fn sum_lines(entry: &Entry, program: Program) -> Vec<Line> {
+    let whole = column(WHOLE as usize);
+    let line = |(sum, number): (usize, u16)| {
+        let weights = [whole, column(sum), whole].concat();
+        let call = Call {
+            level: 1,
+            limit: GREATEST_LIMIT,
+            room: weights.len(),
+            room_for_scores: MOST_ROWS,
+            reliabilities: weights,
+            ..Call::of_sizes(3, 2)
+        };
+        let answer = entry.outcome(program, &call).answer;
+        Line {
+            text: format!("a column at position 1 that sums to {sum}"),
+            written: vec![number, u16::from(number != 0)],
+            answered: vec![answer.number, answer.place],
+        }
+    };
+    SUMS.map(line).into()
 }
 
 fn cost_and_bound_line(
@@ -108,6 +171,7 @@ fn lines(program: Program) -> Vec<Line> {
     let mut lines = field_lines(program);
     lines.push(codeword_line(program));
     lines.extend(MULTIPLICITIES_AT_LEVEL_4.map(|line| multiplicity_line(program, line)));
+    lines.extend(MULTIPLICITIES_AT_LEVEL_4.map(|line| alone_line(program, line)));
     lines.extend(COSTS_AND_BOUNDS.map(|line| cost_and_bound_line(program, line)));
     lines
 }
@@ -115,12 +179,12 @@ fn lines(program: Program) -> Vec<Line> {
 fn hold_for(entries: &str, program: &str, lines: &[Line]) {
     if let Some(line) = lines.iter().find(|line| line.answered != line.written) {
         eprintln!("{program}: {}", line.text);
-        eprintln!("document 01: {:?}", line.written);
+        eprintln!("written: {:?}", line.written);
         eprintln!("answered: {:?}", line.answered);
         exit(1);
     }
     println!(
-        "compared {entries}, {program}: {} lines of document 01 hold",
+        "compared {entries}, {program}: {} lines of the documents hold",
         lines.len()
     );
 }
@@ -133,7 +197,7 @@ pub fn hold(entries: &str, lines: impl Fn(Program) -> Vec<Line>) {
 
 pub fn compare() {
     if lines(Program::Second).len() < LEAST_LINES {
-        eprintln!("fewer than {LEAST_LINES} lines of document 01 were asked");
+        eprintln!("fewer than {LEAST_LINES} lines of the documents were asked");
         exit(1);
     }
     hold("first layer", lines);

@@ -22,6 +22,7 @@ const LEAST_SEEN: Seen = Seen {
     equal_scores: 2_300,
     scores_just_above: 1_600,
     scores_at_bound: 1_900,
+    lists_with_erased_marks: 280,
 };
 const SEED: u64 = 6;
 const RANDOM_MATRICES: usize = 5;

@@ -1,7 +1,7 @@
 use crate::call::Call;
+use crate::columns::RELIABILITIES;
 use crate::comparison::Comparison;
-use crate::contents::RELIABILITIES;
-use crate::edges::hold;
+use crate::edges::{hold, sum_lines};
 use crate::entry::Entry;
 use crate::faults::{length, Made, LEVEL, LIMIT, ROOM_FOR_ROWS, ROOM_FOR_SCORES};
 use crate::lists::{lines, with_room, Seen};
@@ -11,17 +11,19 @@ use second::bound::{cost, GREATEST_LIMIT};
 use second::field::SYMBOLS;
 use second::weights::{GREATEST_LEVEL, LEAST_LEVEL, WHOLE};
 use tags::{
-    close_codewords, matrix_of, random_codeword, shared_weights, soft_weights, with_wrong_marks,
+    close_codewords, matrix_of, random_codeword, rounded_down, shared_weights, soft_weights,
+    with_erased_marks, with_wrong_marks,
 };
 
-const LEAST_CALLS: usize = 645_000;
+const LEAST_CALLS: usize = 690_000;
 const LEAST_SEEN: Seen = Seen {
-    lists: 5_500,
-    lists_of_many: 1_300,
+    lists: 13_000,
+    lists_of_many: 1_400,
     longest: 4,
     equal_scores: 2_000,
-    scores_just_above: 250,
-    scores_at_bound: 1_100,
+    scores_just_above: 1_300,
+    scores_at_bound: 3_400,
+    lists_with_erased_marks: 3_400,
 };
 const SEED: u64 = 7;
 const WORN_TAGS: usize = 8;
@@ -78,7 +80,16 @@ impl Comparison {
         self.compare_good(with_limit(above));
     }
 
-    /// Soft words with as many wrong marks as may still be read and some more, at every level.
+    /// At every level, with what is seen of the right word.
+    fn worn_tag(&mut self, k: usize, right: &[u8], weights: &[u16]) {
+        for level in LEAST_LEVEL..=GREATEST_LEVEL {
+            self.seen.word(k, &matrix_of(weights, level), right);
+            self.read(k, level, weights);
+        }
+    }
+
+    /// Soft words with as many wrong marks as may still be read and some more, also rounded down,
+    /// and with marks erased.
     fn worn_tags(&mut self, n: usize, k: usize) {
         for _ in 0..WORN_TAGS {
             let right = random_codeword(&mut self.random, n, k);
@@ -86,11 +97,20 @@ impl Comparison {
             let word = with_wrong_marks(&mut self.random, &right, wrong);
             let share = self.random.between(0, WHOLE as usize);
             let weights = soft_weights(&mut self.random, &word, share);
-            for level in LEAST_LEVEL..=GREATEST_LEVEL {
-                self.seen.word(k, &matrix_of(&weights, level), &right);
-                self.read(k, level, &weights);
-            }
+            let rounded = rounded_down(&mut self.random, &weights);
+            self.worn_tag(k, &right, &weights);
+            self.worn_tag(k, &right, &rounded);
+            self.erased_tag(k, &right);
         }
+    }
+
+    /// A clear word with as many marks erased as may still be read, one more or one fewer.
+    fn erased_tag(&mut self, k: usize, right: &[u8]) {
+        let most = right.len() - k;
+        let weights = soft_weights(&mut self.random, right, WHOLE as usize);
+        let erased = self.random.between(most.saturating_sub(1), most + 1);
+        let weights = with_erased_marks(&mut self.random, &weights, erased);
+        self.worn_tag(k, right, &weights);
     }
 
     /// Codewords that share each position evenly, which often have equal scores.
@@ -129,5 +149,9 @@ pub fn compare() {
     }
     comparison.finish(LEAST_CALLS);
     comparison.seen.suffices(&LEAST_SEEN);
-    hold(ENTRY.name, |program| lines(&ENTRY, program, put_weights));
+    hold(ENTRY.name, |program| {
+        let mut all = lines(&ENTRY, program, put_weights);
+        all.extend(sum_lines(&ENTRY, program));
+        all
+    });
 }

@@ -8,7 +8,7 @@ use second::bound::{cost_and_bound, cost_of_entry, GREATEST_LIMIT};
 use second::field::SYMBOLS;
 use second::list::MOST_ROWS;
 use std::process::exit;
-use tags::hard_word;
+use tags::{hard_word, ERASED};
 
 /// A call of these sizes with room for a list.
 pub fn with_room(n: usize, k: usize) -> Call {
@@ -32,6 +32,14 @@ pub fn bound(k: usize, matrix: &[u8]) -> usize {
         .into()
 }
 
+/// Whether a column of the reliabilities or of the matrix has nothing but zeros.
+fn has_erased_mark(call: &Call) -> bool {
+    let mut weights = call.reliabilities.chunks(SYMBOLS);
+    let mut entries = call.symbols.chunks(SYMBOLS);
+    weights.any(|column| column.iter().all(|&weight| weight == 0))
+        || entries.any(|column| column.iter().all(|&entry| entry == 0))
+}
+
 /// What the lists that were compared had in them.
 #[derive(Default)]
 pub struct Seen {
@@ -41,14 +49,16 @@ pub struct Seen {
     pub equal_scores: usize,
     pub scores_just_above: usize,
     pub scores_at_bound: usize,
+    pub lists_with_erased_marks: usize,
 }
 
 impl Seen {
-    pub fn list(&mut self, answer: Answer, scores: &[u16]) {
+    pub fn list(&mut self, call: &Call, answer: Answer, scores: &[u16]) {
         let Some(listed) = scores.get(..answer.count.into()) else {
             return;
         };
         self.lists += usize::from(!listed.is_empty());
+        self.lists_with_erased_marks += usize::from(!listed.is_empty() && has_erased_mark(call));
         self.lists_of_many += usize::from(listed.len() > 1);
         self.longest = self.longest.max(listed.len());
         let ties = listed.windows(2).filter(|pair| pair[0] == pair[1]);
@@ -61,7 +71,7 @@ impl Seen {
         self.scores_just_above += usize::from(score == bound + 1);
     }
 
-    fn by_name(&self) -> [(&'static str, usize); 6] {
+    fn by_name(&self) -> [(&'static str, usize); 7] {
         [
             ("lists with rows", self.lists),
             ("with several", self.lists_of_many),
@@ -69,6 +79,7 @@ impl Seen {
             ("equal scores", self.equal_scores),
             ("scores just above the bound", self.scores_just_above),
             ("scores at the bound", self.scores_at_bound),
+            ("with erased marks", self.lists_with_erased_marks),
         ]
     }
 
@@ -85,10 +96,12 @@ impl Seen {
     }
 }
 
+const E: u8 = ERASED;
+
 /// A word, its multiplicity at each symbol, k, and the list: each row's score, then its message.
 type Written = (&'static [u8], u8, usize, &'static [&'static [u16]]);
 
-const WORDS: [Written; 6] = [
+const WORDS: [Written; 10] = [
     (&[1, 1, 1], 1, 2, &[&[3, 1, 0]]),
     (&[1, 1, 2], 1, 2, &[]),
     (&[1, 1, 1, 2], 1, 2, &[&[3, 1, 0]]),
@@ -100,6 +113,15 @@ const WORDS: [Written; 6] = [
         &[&[40, 0, 0, 0, 0, 0, 0, 0]],
     ),
     (&[0, 5, 0, 0, 4, 0, 0, 3, 0, 0, 2, 0, 0, 1, 8], 4, 7, &[]),
+    (&[1, 1, 1, E], 1, 2, &[&[3, 1, 0]]),
+    (&[E, E, E], 4, 2, &[]),
+    (
+        &[0, 0, E, 0, E, E, 0, E, E, 0, E, 0, E, E, 0],
+        4,
+        7,
+        &[&[28, 0, 0, 0, 0, 0, 0, 0]],
+    ),
+    (&[0, 0, E, 0, E, E, 0, E, E, 0, E, 0, E, E, E], 4, 7, &[]),
 ];
 
 /// Puts into a call what the entry takes for a matrix with m at the symbols of a word.
@@ -118,7 +140,7 @@ fn listed(entry: &Entry, program: Program, call: &Call) -> Vec<u16> {
     numbers
 }
 
-/// What document 01 says of single lists, and that a cost at the limit is taken.
+/// What the documents say of single lists, and that a cost at the limit is taken.
 pub fn lines(entry: &Entry, program: Program, put: PutWord) -> Vec<Line> {
     let answered = |word: &[u8], m: u8, k: usize, limit: usize| {
         let mut call = Call {

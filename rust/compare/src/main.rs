@@ -2,6 +2,7 @@
 //! answer and what they leave in lent memory. The first difference ends the run with status 1.
 
 mod call;
+mod columns;
 mod comparison;
 mod contents;
 mod cost_and_bound;

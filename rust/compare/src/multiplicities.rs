@@ -1,14 +1,15 @@
 use crate::call::Call;
+use crate::columns::{columns, good_sums, GOOD_SUMS, GREATEST_SUM, RELIABILITIES};
 use crate::comparison::Comparison;
-use crate::contents::{columns, GOOD_SUM, RELIABILITIES};
+use crate::edges::{hold, sum_lines};
 use crate::entry::Entry;
 use crate::faults::{length, room, Choice, LEVEL};
-use crate::sizes::{huge_sizes, looks_like, Sizes};
+use crate::sizes::{huge_sizes, looks_like, with_entry, Sizes};
 use second::code::{LEAST_SIZE, MOST_POSITIONS};
 use second::field::SYMBOLS;
 use second::weights::{GREATEST_LEVEL, LEAST_LEVEL};
 
-const LEAST_CALLS: usize = 205_000;
+const LEAST_CALLS: usize = 230_000;
 const SEED: u64 = 2;
 const RANDOM_WEIGHTS: usize = 100;
 
@@ -46,26 +47,41 @@ impl Comparison {
         });
     }
 
-    fn good_columns(&mut self, n: usize) -> Vec<u16> {
-        columns(&mut self.random, &vec![GOOD_SUM; n])
-    }
-
+    /// In a column that has the greatest sum, or nothing else.
     fn every_reliability(&mut self, level: usize) {
-        for reliability in 0..=GOOD_SUM {
-            let mut weights = self.good_columns(LEAST_SIZE);
+        for reliability in 0..=GREATEST_SUM {
+            let sums = good_sums(&mut self.random, LEAST_SIZE);
+            let mut weights = columns(&mut self.random, &sums);
             let position = self.random.between(0, LEAST_SIZE - 1);
             let symbol = self.random.between(0, SYMBOLS - 1);
-            let column = &mut weights[SYMBOLS * position..][..SYMBOLS];
-            column.fill(0);
-            column[symbol] = reliability as u16;
-            column[SYMBOLS - 1 - symbol] = (GOOD_SUM - reliability) as u16;
-            self.weighed(level, weights);
+            for rest in [GREATEST_SUM - reliability, 0] {
+                let column = &mut weights[SYMBOLS * position..][..SYMBOLS];
+                column.fill(0);
+                column[symbol] = reliability as u16;
+                column[SYMBOLS - 1 - symbol] = rest as u16;
+                self.weighed(level, weights.clone());
+            }
+        }
+    }
+
+    /// Each good sum at each position, the others having the greatest or some good ones.
+    fn every_good_sum(&mut self, n: usize, level: usize) {
+        for position in 0..n {
+            for sum in GOOD_SUMS {
+                for others in [vec![GREATEST_SUM; n], good_sums(&mut self.random, n)] {
+                    let sums = with_entry(&others, position, sum);
+                    let weights = columns(&mut self.random, &sums);
+                    self.weighed(level, weights);
+                }
+            }
         }
     }
 
     fn random_weights(&mut self, n: usize, level: usize) {
         for _ in 0..RANDOM_WEIGHTS {
-            let weights = self.good_columns(n);
+            let mut sum = || self.random.between(0, GREATEST_SUM);
+            let sums: Vec<usize> = (0..n).map(|_| sum()).collect();
+            let weights = columns(&mut self.random, &sums);
             self.weighed(level, weights);
         }
     }
@@ -77,8 +93,10 @@ pub fn compare() {
     for level in LEAST_LEVEL..=GREATEST_LEVEL {
         comparison.every_reliability(level);
         for n in LEAST_SIZE..=MOST_POSITIONS {
+            comparison.every_good_sum(n, level);
             comparison.random_weights(n, level);
         }
     }
     comparison.finish(LEAST_CALLS);
+    hold(ENTRY.name, |program| sum_lines(&ENTRY, program));
 }

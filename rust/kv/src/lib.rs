@@ -44,7 +44,8 @@ pub use symbols::{encode, inverse, product, sum};
 pub const SYMBOLS: usize = 16;
 /// The most positions that a codeword has.
 pub const POSITIONS: usize = 15;
-/// What the reliabilities of each position sum to.
+/// The most that the reliabilities of a position may sum to: those of a clear mark do, those of an
+/// erased one are all 0.
 pub const WHOLE: u16 = 4096;
 /// The greatest level, and the greatest entry of a matrix.
 pub const GREATEST_LEVEL: usize = 4;

@@ -68,7 +68,7 @@ pub fn list_of_multiplicities(
 /// reliabilities.
 ///
 /// Refused with [`Refusal::Sizes`], [`Refusal::Setting`], [`Refusal::Length`] where there are not
-/// 16n reliabilities, [`Refusal::Column`] where those of a position do not sum to 4096,
+/// 16n reliabilities, [`Refusal::Column`] where those of a position sum to more than 4096,
 /// [`Refusal::Cost`] where the matrix costs more than the limit.
 ///
 /// ```
@@ -77,7 +77,7 @@ pub fn list_of_multiplicities(
 /// let mut reliabilities = [256; 32];
 /// let listed = kv::list_of_reliabilities(sizes, settings, &reliabilities)?;
 /// assert!(listed.rows.is_empty());
-/// reliabilities[20] = 0;
+/// reliabilities[20] = 257;
 /// assert_eq!(
 ///     kv::list_of_reliabilities(sizes, settings, &reliabilities),
 ///     Err(kv::Refusal::Column(1))

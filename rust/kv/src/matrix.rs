@@ -2,19 +2,25 @@
 
 use crate::{lent, Refusal, Sizes, POSITIONS, SYMBOLS};
 
-/// The matrix of the reliabilities: each entry is the whole part of level times reliability / 4096.
+/// The matrix of the reliabilities: each entry is the whole part of level times reliability / 4096,
+/// whatever those of its position sum to. An erased mark, all zeros, has a column of zeros.
 ///
 /// Refused with [`Refusal::Sizes`] unless 2 <= n <= 15, [`Refusal::Setting`] unless
 /// 1 <= level <= 4, [`Refusal::Length`] where there are not 16n reliabilities, [`Refusal::Column`]
-/// where those of a position do not sum to 4096.
+/// where those of a position sum to more than 4096.
 ///
 /// ```
-/// let mut reliabilities = [0; 32];
+/// let mut reliabilities = [0; 48];
 /// reliabilities[3] = 4095;
-/// reliabilities[4] = 1;
 /// reliabilities[16] = 4096;
-/// let matrix = kv::multiplicities(2, 4, &reliabilities)?;
-/// assert_eq!((matrix[3], matrix[4], matrix[16]), (3, 0, 4));
+/// let matrix = kv::multiplicities(3, 4, &reliabilities)?;
+/// assert_eq!((matrix[3], matrix[16]), (3, 4));
+/// assert_eq!(matrix[32..], [0; 16]);
+/// reliabilities[17] = 1;
+/// assert_eq!(
+///     kv::multiplicities(3, 4, &reliabilities),
+///     Err(kv::Refusal::Column(1))
+/// );
 /// # Ok::<(), kv::Refusal>(())
 /// ```
 pub fn multiplicities(n: usize, level: usize, reliabilities: &[u16]) -> Result<Vec<u8>, Refusal> {

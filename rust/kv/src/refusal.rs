@@ -23,7 +23,7 @@ pub enum Refusal {
     Room,
     /// 5: the entry at this index is above the greatest one allowed, and none before it is.
     Symbol(usize),
-    /// 6: the reliabilities of this position do not sum to 4096, and those before it do.
+    /// 6: the reliabilities of this position sum to more than 4096, and those of none before it do.
     Column(usize),
     /// 7: the matrix costs more than the limit.
     Cost,

@@ -1,6 +1,6 @@
-//! The second program: the public entries written anew from document 01 alone, by the most literal
-//! reading, by brute force, and by other methods than the proved library's where that would take
-//! too long. It shares no code and no table with that library, and is slow.
+//! The second program: the public entries written anew from documents 01 and 02 alone, by the most
+//! literal reading, by brute force, and by other methods than the proved library's where that would
+//! take too long. It shares no code and no table with that library, and is slow.
 
 mod answer;
 pub mod bound;

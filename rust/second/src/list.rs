@@ -6,7 +6,7 @@ use crate::field::SYMBOLS;
 use crate::refusal::{symbol_above, unless_refused, Refusal};
 use crate::roots::FEW_SYMBOLS;
 use crate::search::messages_above;
-use crate::weights::{column_off, entries, multiplicity, GREATEST_LEVEL, LEAST_LEVEL};
+use crate::weights::{column_above, entries, multiplicity, GREATEST_LEVEL, LEAST_LEVEL};
 use crate::Answer;
 use std::cmp::Reverse;
 use std::sync::OnceLock;
@@ -105,7 +105,7 @@ pub fn list_of_reliabilities(
         (!level_allowed || limit > GREATEST_LIMIT).then_some(Refusal::Setting),
         (reliabilities.len() as u128 != entries(n)).then_some(Refusal::Length),
         too_little_room(k, rows, scores).then_some(Refusal::Room),
-        column_off(reliabilities),
+        column_above(reliabilities),
     ];
     unless_refused(&tests, || {
         let entry = |&reliability| multiplicity(level, reliability);

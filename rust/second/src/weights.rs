@@ -5,7 +5,7 @@ use crate::field::SYMBOLS;
 use crate::refusal::{unless_refused, Refusal};
 use crate::Answer;
 
-/// What the reliabilities of each position sum to.
+/// The most that the reliabilities of a position sum to, and what a multiplicity is a part of.
 pub const WHOLE: u64 = 4096;
 pub const LEAST_LEVEL: usize = 1;
 pub const GREATEST_LEVEL: usize = 4;
@@ -15,11 +15,12 @@ pub fn entries(n: usize) -> u128 {
     SYMBOLS as u128 * n as u128
 }
 
-pub fn column_off(reliabilities: &[u16]) -> Option<Refusal> {
+/// The first position whose reliabilities sum to more than the whole.
+pub fn column_above(reliabilities: &[u16]) -> Option<Refusal> {
     let sum = |column: &[u16]| column.iter().map(|&r| u64::from(r)).sum::<u64>();
     reliabilities
         .chunks(SYMBOLS)
-        .position(|column| sum(column) != WHOLE)
+        .position(|column| sum(column) > WHOLE)
         .map(Refusal::Column)
 }
 
@@ -34,7 +35,7 @@ pub fn multiplicities(n: usize, level: usize, reliabilities: &[u16], out: &mut [
         (!(LEAST_LEVEL..=GREATEST_LEVEL).contains(&level)).then_some(Refusal::Setting),
         (reliabilities.len() as u128 != entries(n)).then_some(Refusal::Length),
         ((out.len() as u128) < entries(n)).then_some(Refusal::Room),
-        column_off(reliabilities),
+        column_above(reliabilities),
     ];
     unless_refused(&tests, || {
         for index in 0..reliabilities.len() {

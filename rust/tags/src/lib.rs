@@ -18,9 +18,7 @@ pub fn random_codeword(random: &mut Random, n: usize, k: usize) -> Vec<u8> {
 /// Codewords that agree with one another at k-1 positions and nowhere else.
 pub fn close_codewords(random: &mut Random, n: usize, k: usize, count: usize) -> Vec<Vec<u8>> {
     let base = random_codeword(random, n, k);
-    let mut positions: Vec<usize> = (0..n).collect();
-    let mut position = || positions.swap_remove(random.between(0, positions.len() - 1));
-    let agreed: Vec<usize> = (1..k).map(|_| position()).collect();
+    let agreed = some_positions(random, n, k - 1);
     let difference = |i: usize| {
         let factors = agreed.iter().map(|&j| plus(x_of(i), x_of(j)));
         factors.fold(1, times)
@@ -38,22 +36,32 @@ pub fn words_of_one_more(random: &mut Random, n: usize, k: usize, count: usize) 
     (0..count).map(word).collect()
 }
 
+/// So many of the positions, all of them where there are fewer.
+fn some_positions(random: &mut Random, n: usize, count: usize) -> Vec<usize> {
+    let mut positions: Vec<usize> = (0..n).collect();
+    let mut position = || positions.swap_remove(random.between(0, positions.len() - 1));
+    (0..count.min(n)).map(|_| position()).collect()
+}
+
 /// The word with other symbols at so many of its positions.
 pub fn with_wrong_marks(random: &mut Random, word: &[u8], wrong: usize) -> Vec<u8> {
-    let mut positions: Vec<usize> = (0..word.len()).collect();
     let mut changed = word.to_vec();
-    for _ in 0..wrong.min(word.len()) {
-        let position = positions.swap_remove(random.between(0, positions.len() - 1));
+    for position in some_positions(random, word.len(), wrong) {
         changed[position] ^= random.between(1, GREATEST_SYMBOL.into()) as u8;
     }
     changed
 }
 
-/// The matrix with m at each symbol of the word.
+/// Stands for a mark that cannot be read.
+pub const ERASED: u8 = u8::MAX;
+
+/// The matrix with m at each symbol of the word, and zeros at its erased marks.
 pub fn hard_word(word: &[u8], m: u8) -> Vec<u8> {
     let mut matrix = vec![0; SYMBOLS * word.len()];
     for (position, &symbol) in word.iter().enumerate() {
-        matrix[SYMBOLS * position + usize::from(symbol)] = m;
+        if symbol != ERASED {
+            matrix[SYMBOLS * position + usize::from(symbol)] = m;
+        }
     }
     matrix
 }
@@ -85,6 +93,21 @@ pub fn soft_weights(random: &mut Random, word: &[u8], least_share: usize) -> Vec
         }
     }
     weights
+}
+
+/// The weights as a camera gives them that rounds each down: some of them lose one.
+pub fn rounded_down(random: &mut Random, weights: &[u16]) -> Vec<u16> {
+    let rounded = |&weight: &u16| weight.saturating_sub(random.between(0, 1) as u16);
+    weights.iter().map(rounded).collect()
+}
+
+/// The weights with so many of the marks erased.
+pub fn with_erased_marks(random: &mut Random, weights: &[u16], erased: usize) -> Vec<u16> {
+    let mut changed = weights.to_vec();
+    for position in some_positions(random, weights.len() / SYMBOLS, erased) {
+        changed[SYMBOLS * position..][..SYMBOLS].fill(0);
+    }
+    changed
 }
 
 /// The weights of words that share each position evenly, the last one taking what is left over.

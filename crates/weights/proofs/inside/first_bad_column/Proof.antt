@@ -1,7 +1,7 @@
 -- The loop has passed good columns only.
 use mathlib.Core.Bool.{false}
 use mathlib.Core.Path.{_≡_}
-use Prim.Native.Nat.{ℕ, _-_, _≤_, _<_}
+use Prim.Native.Nat.{ℕ, _-_, _<_}
 use native.Mathlib.Nat.{not-suc-le-zero}
 use Rattle.definitions.specs.Field.{sixteen}
 use Rattle.definitions.specs.Refusals.{badColumn}
@@ -11,13 +11,13 @@ use Rattle.weights.proofs.inside.first_bad_column.Statement.{statement}
 use Rattle.weights.proofs.inside.first_bad_column.Tie as tie
 
 abbrev Inv-loop : tie.InvT-loop
-Inv-loop reliabilities n i₀ i = (i ≤ n) × ((j : ℕ) → j < i → badColumn sixteen reliabilities j ≡ false)
+Inv-loop reliabilities n position₀ position = (j : ℕ) → j < position → badColumn sixteen reliabilities j ≡ false
 
 abbrev μ-loop : tie.MeasureT-loop
-μ-loop reliabilities n i₀ i = n - i
+μ-loop reliabilities n position₀ position = n - position
 
 loop-holds : tie.Need-loop-holds Inv-loop μ-loop
-loop-holds c = (omega arith, λ j h. absurd (not-suc-le-zero h))
+loop-holds c j h = absurd (not-suc-le-zero h)
 
 column-sum-requires : tie.Need-column-sum-requires Inv-loop μ-loop
 column-sum-requires c κs = omega arith
@@ -26,11 +26,11 @@ returns : tie.Need-returns Inv-loop μ-loop
 returns c =
     let l = c .before .before .before in
     let s = l .before .before in
-    column-found sixteen (s .args .reliabilities .now) (s .args .n) (l .loop .i) (l .loop .inv .1) (c .before .column-sum .result) (c .before .before .loop-test .taken)
+    column-found sixteen (s .args .reliabilities .now) (s .args .n) (l .loop .position) (l .loop .inv) (c .before .column-sum .result) (c .before .before .loop-test .taken)
     (c .before .column-sum .ensures) (c .if1 .taken)
 
-add-i : tie.Need-add-i Inv-loop μ-loop
-add-i c = omega arith
+add-position : tie.Need-add-position Inv-loop μ-loop
+add-position c = omega arith
 
 loop-less : tie.Need-loop-less Inv-loop μ-loop
 loop-less c = omega arith
@@ -38,17 +38,15 @@ loop-less c = omega arith
 loop-again : tie.Need-loop-again Inv-loop μ-loop
 loop-again c =
     let l = c .before .before .before in
-    let s = l .before .before in (
-      omega arith,
-      column-passed sixteen (s .args .reliabilities .now) (s .args .n) (l .loop .i) (l .loop .inv .1) (c .before .column-sum .result)
-          (c .before .column-sum .ensures) (c .if1 .left),
-    )
+    let s = l .before .before in
+    column-passed sixteen (s .args .reliabilities .now) (s .args .n) (l .loop .position) (l .loop .inv) (c .before .column-sum .result)
+    (c .before .column-sum .ensures) (c .if1 .left)
 
 returns-2 : tie.Need-returns-2 Inv-loop μ-loop
 returns-2 c =
     let l = c .before in
     let s = l .before .before in
-    no-column sixteen (s .args .reliabilities .now) (s .args .n) (l .loop .i) (l .loop .inv .1) (l .loop .inv .0) (c .loop-test .left)
+    no-column sixteen (s .args .reliabilities .now) (s .args .n) (l .loop .position) (l .loop .inv) (c .loop-test .left)
 
 pub first-bad-column-spec : {M : Type 1} → statement M
 first-bad-column-spec =
@@ -59,7 +57,7 @@ first-bad-column-spec =
     loop-holds
     column-sum-requires
     returns
-    add-i
+    add-position
     loop-less
     loop-again
     returns-2)
