@@ -14,7 +14,11 @@ use Rattle.definitions.specs.Field.{Code}
 use Rattle.definitions.specs.Limits.{greatestSum}
 use Rattle.definitions.specs.Refusals.{badColumn, columns}
 use Rattle.definitions.specs.Tools.{smallest}
-use Rattle.definitions.specs.Weights.{entry, sumOfColumn, multiplicity, matrix, Erased}
+use Rattle.definitions.specs.Weights.{entry, sumOfColumn, multiplicity, matrix}
+
+-- "A column of zeros is an erased mark" (document 02, order 1): of the reliabilities, or of a matrix
+abbrev pub Erased : Code → List ℕ → ℕ → Type 0
+Erased C r i = (b : ℕ) → b < C .symbols → entry C r i b ≡ 0
 
 module _ (C : Code) (r : List ℕ) where
   -- "a column may sum to anything from 0 to 4,096"

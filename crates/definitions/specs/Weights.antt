@@ -1,8 +1,7 @@
--- Weights to multiplicities, cost and score of document 01, and the erased marks of document 02.
+-- Weights to multiplicities, cost and score of document 01.
 -- Assumes nothing.
 use mathlib.Core.List.{List, map}
-use mathlib.Core.Path.{_≡_}
-use Prim.Native.Nat.{ℕ, _+_, _*_, _/_, _<_}
+use Prim.Native.Nat.{ℕ, _+_, _*_, _/_}
 use lib.ListN.{length, getD}
 use Rattle.definitions.specs.Code.{codeword}
 use Rattle.definitions.specs.Field.{Code}
@@ -16,10 +15,6 @@ entry C m i b = getD m (C .symbols * i + b) 0
 -- a position's sixteen numbers, summed
 abbrev pub sumOfColumn : Code → List ℕ → ℕ → ℕ
 sumOfColumn C r i = sum (C .symbols) (entry C r i)
-
--- "A column of zeros is an erased mark" (document 02, order 1), of the reliabilities or of a matrix
-abbrev pub Erased : Code → List ℕ → ℕ → Type 0
-Erased C r i = (b : ℕ) → b < C .symbols → entry C r i b ≡ 0
 
 -- "The multiplicity is the whole part of L times the reliability over 4,096"
 abbrev pub multiplicity : ℕ → ℕ → ℕ

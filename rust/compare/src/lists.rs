@@ -140,7 +140,8 @@ fn listed(entry: &Entry, program: Program, call: &Call) -> Vec<u16> {
     numbers
 }
 
-/// What the documents say of single lists, and that a cost at the limit is taken.
+/// What the documents say of single lists, also with erased marks, and that a cost at the limit is
+/// taken.
 pub fn lines(entry: &Entry, program: Program, put: PutWord) -> Vec<Line> {
     let answered = |word: &[u8], m: u8, k: usize, limit: usize| {
         let mut call = Call {
