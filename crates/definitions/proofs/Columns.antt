@@ -25,6 +25,7 @@ module _ (C : Code) (r : List ℕ) where
   pub column-taken : (i : ℕ) → sumOfColumn C r i ≤ greatestSum → badColumn C r i ≡ false
   column-taken i h = le-ltb greatestSum (sumOfColumn C r i) h
 
+  -- "refusal 6 is given exactly when a sum is greater"
   pub column-refused : (i : ℕ) → greatestSum < sumOfColumn C r i → badColumn C r i ≡ true
   column-refused i h = lt-ltb greatestSum (sumOfColumn C r i) h
 

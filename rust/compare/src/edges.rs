@@ -2,16 +2,17 @@
 //! a misreading that both share would not show in a comparison.
 
 use crate::call::Call;
+use crate::columns::{columns, GREATEST_SUM};
 use crate::entry::{Entry, Program};
 use crate::{cost_and_bound, encode, field, multiplicities};
 use second::bound::GREATEST_LIMIT;
 use second::field::{ALPHA, SYMBOLS};
 use second::list::MOST_ROWS;
-use second::weights::WHOLE;
 use std::process::exit;
-use tags::hard_word;
+use tags::{hard_word, Random};
 
 const LEAST_LINES: usize = 35;
+const SEED: u64 = 9;
 
 const POWERS_OF_ALPHA: [u16; 16] = [1, 2, 4, 8, 3, 6, 12, 11, 5, 10, 7, 14, 15, 13, 9, 1];
 const PRODUCTS: [(u8, u8, u16); 2] = [(3, 5, 15), (7, 7, 6)];
@@ -82,7 +83,7 @@ fn codeword_line(program: Program) -> Line {
 }
 
 fn multiplicity_line(program: Program, (reliability, written): (u16, u16)) -> Line {
-    let whole = WHOLE as u16;
+    let whole = GREATEST_SUM as u16;
     let mut weights = [0; 2 * SYMBOLS];
     weights[0] = reliability;
     weights[1] = whole - reliability;
@@ -118,21 +119,11 @@ fn matrix_at_level_4(program: Program, weights: &[u16], entries: usize) -> Vec<u
     outcome.numbers(&[], entries)
 }
 
-/// A column with the given sum, as much as it holds at each of its first symbols.
-fn column(sum: usize) -> [u16; SYMBOLS] {
-    let mut left = sum;
-    [0; SYMBOLS].map(|_| {
-        let weight = u16::try_from(left).unwrap_or(u16::MAX);
-        left -= usize::from(weight);
-        weight
-    })
-}
-
 /// Of an entry that takes reliabilities: between two whole columns, which sums are taken.
 pub fn sum_lines(entry: &Entry, program: Program) -> Vec<Line> {
-    let whole = column(WHOLE as usize);
+    let mut random = Random::new(SEED);
     let line = |(sum, number): (usize, u16)| {
-        let weights = [whole, column(sum), whole].concat();
+        let weights = columns(&mut random, &[GREATEST_SUM, sum, GREATEST_SUM]);
         let call = Call {
             level: 1,
             limit: GREATEST_LIMIT,

@@ -32,12 +32,10 @@ pub fn bound(k: usize, matrix: &[u8]) -> usize {
         .into()
 }
 
-/// Whether a column of the reliabilities or of the matrix has nothing but zeros.
-fn has_erased_mark(call: &Call) -> bool {
-    let mut weights = call.reliabilities.chunks(SYMBOLS);
-    let mut entries = call.symbols.chunks(SYMBOLS);
-    weights.any(|column| column.iter().all(|&weight| weight == 0))
-        || entries.any(|column| column.iter().all(|&entry| entry == 0))
+/// Whether a column of reliabilities or of a matrix has nothing but zeros.
+fn has_erased_mark<T: Copy + Into<u16>>(numbers: &[T]) -> bool {
+    let is_erased = |column: &[T]| column.iter().all(|&number| number.into() == 0);
+    numbers.chunks(SYMBOLS).any(is_erased)
 }
 
 /// What the lists that were compared had in them.
@@ -57,8 +55,9 @@ impl Seen {
         let Some(listed) = scores.get(..answer.count.into()) else {
             return;
         };
+        let erased = has_erased_mark(&call.reliabilities) || has_erased_mark(&call.symbols);
         self.lists += usize::from(!listed.is_empty());
-        self.lists_with_erased_marks += usize::from(!listed.is_empty() && has_erased_mark(call));
+        self.lists_with_erased_marks += usize::from(!listed.is_empty() && erased);
         self.lists_of_many += usize::from(listed.len() > 1);
         self.longest = self.longest.max(listed.len());
         let ties = listed.windows(2).filter(|pair| pair[0] == pair[1]);
