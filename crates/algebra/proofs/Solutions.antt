@@ -16,7 +16,7 @@ use Rattle.algebra.proofs.Elements.{element-zero}
 use Rattle.algebra.proofs.Linear.{dot-equal, dot-ended, carry-dot, passes-plus}
 use Rattle.algebra.proofs.Numbers.{elements, numbers-elements, number-at, numbers-symbols, number-hasse}
 use Rattle.algebra.proofs.Passing.{pointElement, multiplicityOf, elements-pass, numbers-pass}
-use Rattle.algebra.proofs.RingLaws.{plus-zero, zero-times}
+use Rattle.algebra.proofs.RingLaws.{plus-zero, times-zero}
 
 module _ (C : Code) (F : FieldOf C) where
   -- the operations on elements
@@ -70,11 +70,11 @@ module _ (C : Code) (F : FieldOf C) where
         carry-dot G N (F .number) n (λ k. F .element (r k)) (λ k. F .element (q k))
         ∙ dot-equal N n _ r _ q (λ k h. F .number-element (r k) (sr k)) (λ k h. F .number-element (q k) (sq k))
 
-    -- symbols that are 0 from j on add nothing
-    pub symbols-ended : (n j : ℕ) → j ≤ n → ((k : ℕ) → j ≤ k → k < n → r k ≡ 0) → dot (numbers C) n r q ≡ dot (numbers C) j r q
+    -- where the symbols are 0 from j on, the row adds nothing from there on
+    pub symbols-ended : (n j : ℕ) → j ≤ n → ((k : ℕ) → j ≤ k → k < n → q k ≡ 0) → dot (numbers C) n r q ≡ dot (numbers C) j r q
     symbols-ended n j h ends =
         sym (number-dot n)
         ∙ ap φ
         (dot-ended G (plus-zero (F .ring)) n j (λ k. F .element (r k)) (λ k. F .element (q k)) h (λ k l f.
-        ap (λ (x : G .K). G .mul x (F .element (q k))) (ap (F .element) (ends k l f) ∙ element-zero C F) ∙ zero-times (F .ring) (F .element (q k))))
+        ap (G .mul (F .element (r k))) (ap (F .element) (ends k l f) ∙ element-zero C F) ∙ times-zero (F .ring) (F .element (r k))))
         ∙ number-dot j

@@ -2,23 +2,33 @@
 -- Assumes nothing.
 use mathlib.Core.List.{List, [], _++_, map}
 use mathlib.Core.Path.{_≡_}
-use Prim.Native.Nat.{ℕ, _+_, _-_, _≤_, _<_}
+use Prim.Native.Nat.{ℕ, _+_, _-_, _*_, _/_, _≤_, _<_}
 use lib.ListN.{length, drop, getD, replicate}
 use Rattle.algebra.specs.Grid.{Patched}
 use Rattle.definitions.specs.Field.{Code}
+use Rattle.definitions.specs.Limits.{greatestLimit}
 use Rattle.definitions.specs.Tools.{below}
-
--- the entries of a row: for a cost within the greatest limit there are at most so many monomials up to the bound
-abbrev pub width : ℕ
-width = 160
 
 -- the columns that are worked on at a time
 abbrev pub block : ℕ
 block = 16
 
+-- so many blocks that they hold more columns than the cost
+abbrev pub blocksFor : ℕ → ℕ
+blocksFor cost = cost / block + 1
+
+-- the entries of a row
+abbrev pub width : ℕ
+width = blocksFor greatestLimit * block
+
 -- the row whose entry k is f k, for k below n, and zero from n on
 unfoldable pub filled : ℕ → (ℕ → ℕ) → List ℕ
 filled n f = map f (below n) ++ drop n (replicate width 0)
+
+-- a row that is zero from n on
+pub record ZeroFrom (n : ℕ) (row : List ℕ) : Type 0 where
+  pub wide : length row ≡ width
+  pub zeros : (k : ℕ) → n ≤ k → getD row k 0 ≡ 0
 
 -- the first n entries of a list are those of f
 abbrev pub Front : ℕ → (ℕ → ℕ) → List ℕ → Type 0

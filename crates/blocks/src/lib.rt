@@ -5,13 +5,14 @@ ghost use lib.ListN.{length};
 ghost use Rattle.definitions.specs.Field.{sixteen};
 ghost use Rattle.field.specs.Table.{Products};
 ghost use Rattle.blocks.specs.Row.{width, InRow, SymbolBlock, BlockOf, PutBlock, AddedBlock, SummedBlock, ScaledBlock, FilledTo, MultiplesBlock};
+use refusals::limits::GREATEST_LIMIT;
 use refusals::limits::SYMBOLS;
-
-// The entries of a row: for a cost within the greatest limit there are at most so many monomials up to the bound.
-pub const WIDTH: usize = 160;
 
 // The columns that are worked on at a time.
 pub const BLOCK: usize = 16;
+
+// The entries of a row: as many blocks as the greatest cost needs.
+pub const WIDTH: usize = (GREATEST_LIMIT / BLOCK + 1) * BLOCK;
 
 // The block of a row from a place on.
 pub fn block(row: &[u8; WIDTH], at: usize) -> [u8; BLOCK]

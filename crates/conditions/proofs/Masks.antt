@@ -2,11 +2,12 @@
 -- Assumes nothing.
 use mathlib.Core.Bool.{Bool, cond}
 use mathlib.Core.List.{List, [], flatMap}
-use mathlib.Core.Path.{_≡_, sym, _∙_, ap}
-use Prim.Native.Nat.{ℕ, zero, suc, _-_, _≤_, _<_}
+use mathlib.Core.Path.{_≡_, sym, _∙_, ap, ap₂}
+use Prim.Native.Nat.{ℕ, zero, suc, _+_, _-_, _≤_, _<_}
 use native.Mathlib.Decide.{decLt}
 use native.Mathlib.Omega.{arith}
 use borrow.Author.Tests.{eq-eqb, ne-eqb}
+use lib.Bits.{bitAnd}
 use lib.Dec.{eqb, eqb·suc-zero}
 use lib.ListN.{length, getD}
 use Rattle.algebra.proofs.Elements.{one-symbol}
@@ -18,10 +19,10 @@ use Rattle.definitions.specs.Code.{Symbols}
 use Rattle.definitions.specs.Field.{Code, numbers, power}
 use Rattle.definitions.specs.Tools.{below}
 use Rattle.blocks.proofs.Filled.{filled-at, filled-rest, filled-symbols}
-use Rattle.blocks.specs.Row.{width, filled}
+use Rattle.blocks.specs.Row.{width, block, Front, BlockOf, filled}
 use Rattle.conditions.proofs.Walk.{walked-le}
 use Rattle.conditions.specs.Walk.{walked}
-use Rattle.conditions.specs.Masks.{exponentRows, Places, powersRow, keptRow, askedAt, baseAt, orderAt, keptOrders}
+use Rattle.conditions.specs.Masks.{exponentRows, Places, powersRow, maskByte, keptEntry, KeptBlock, keptRow, askedAt, baseAt, orderAt, keptOrders}
 
 module _ (m n x y : ℕ) where
   -- the choice where two numbers are equal
@@ -32,14 +33,19 @@ module _ (m n x y : ℕ) where
   pub chosen-unequal : (m ≡ n → ⊥) → y ≡ cond (eqb m n) x y
   chosen-unequal d = sym (ap (λ (b : Bool). cond b x y) (ne-eqb m n d))
 
+-- what is left of a block of a row
+pub kept-left : (n : ℕ) (row es a powers left : List ℕ) (asked order : ℕ) → BlockOf n row a → BlockOf n es powers → KeptBlock a powers asked order left
+    → Front block (λ k. keptEntry row es asked order (n + k)) left
+kept-left n row es a powers left asked order ea ep el k h = el k h ∙ ap₂ (λ (x e : ℕ). bitAnd x (maskByte e asked order)) (ea k h) (ep k h)
+
 -- the rows of one order by x are as many as orders by y are left
-pub length-orderAt : (row : List ℕ) (es : List (List ℕ)) (b m s : ℕ) → length (orderAt row es b m s) ≡ m - s
-length-orderAt row es b m s = length-map-below (λ (t : ℕ). keptRow (keptRow row (getD es 0 []) s s) (getD es 1 []) (askedAt b t) t) (m - s)
+pub length-orderAt : (blocks : ℕ) (row : List ℕ) (es : List (List ℕ)) (b m s : ℕ) → length (orderAt blocks row es b m s) ≡ m - s
+length-orderAt blocks row es b m s = length-map-below (λ (t : ℕ). keptRow blocks (keptRow blocks row (getD es 0 []) s s) (getD es 1 []) (askedAt b t) t) (m - s)
 
 -- a point without multiplicity has none
-pub orders-none : (row : List ℕ) (es : List (List ℕ)) (b m : ℕ) → m ≡ 0 → keptOrders row es b m ≡ []
-orders-none row es b m e =
-    ap (λ (n : ℕ). flatMap (orderAt row es b m) (below n)) e ∙ ap (flatMap (orderAt row es b m)) below-zero ∙ join-nil (orderAt row es b m)
+pub orders-none : (blocks : ℕ) (row : List ℕ) (es : List (List ℕ)) (b m : ℕ) → m ≡ 0 → keptOrders blocks row es b m ≡ []
+orders-none blocks row es b m e =
+    ap (λ (n : ℕ). flatMap (orderAt blocks row es b m) (below n)) e ∙ ap (flatMap (orderAt blocks row es b m)) below-zero ∙ join-nil (orderAt blocks row es b m)
 
 module _ (C : Code) (F : FieldOf C) where
   -- a row of powers of a symbol is a row of symbols

@@ -4,8 +4,7 @@ use mathlib.Core.Bool.{Bool, true, false, cond}
 use mathlib.Core.List.{List, []}
 use mathlib.Core.Logic.{_≢_}
 use mathlib.Core.Path.{_≡_, refl, sym, _∙_, ap, ap₂, subst}
-use Prim.Native.Nat.{ℕ, zero, suc, _+_, _/_, _≤_, _<_}
-use native.Mathlib.Decide.{decLt}
+use Prim.Native.Nat.{ℕ, zero, suc, _+_, _*_, _/_, _≤_, _<_}
 use native.Mathlib.Nat.{mod-eq-of-lt}
 use native.Mathlib.Omega.{arith}
 use lib.Bits.{bitAnd, and-mask, and-zero-r}
@@ -25,12 +24,12 @@ use Rattle.definitions.specs.Bound.{count}
 use Rattle.definitions.specs.Code.{Symbols}
 use Rattle.definitions.specs.Field.{Code, numbers, power}
 use Rattle.definitions.specs.Polynomial.{terms, monomials, hasse}
-use Rattle.blocks.proofs.Filled.{length-filled, filled-at, filled-rest}
-use Rattle.blocks.specs.Row.{width}
-use Rattle.conditions.proofs.Masks.{base-symbol}
+use Rattle.blocks.proofs.Filled.{length-filled, filled-at, filled-symbols}
+use Rattle.blocks.specs.Row.{width, block}
+use Rattle.conditions.proofs.Masks.{powers-symbols, base-symbol}
 use Rattle.conditions.proofs.Walk.{walked-le, x-within, y-within, walked-monomial}
 use Rattle.conditions.specs.Walk.{walked}
-use Rattle.conditions.specs.Masks.{exponentRows, powersRow, valuesRow, maskByte, keptRow, askedAt, baseAt}
+use Rattle.conditions.specs.Masks.{exponentRows, powersRow, valuesRow, maskByte, keptEntry, keptRow, askedAt, baseAt}
 
 -- all bits of a byte
 all-bits : (x : ℕ) → x < 256 → bitAnd x 255 ≡ x
@@ -45,6 +44,11 @@ kept-byte false x h = and-zero-r x
 kept-less : (p : Bool) (x : ℕ) → x < 256 → cond p x 0 < 256
 kept-less true x h = h
 kept-less false x h = omega arith
+
+-- of a symbol it is a symbol
+kept-symbol : (C : Code) → FieldOf C → (p : Bool) (x : ℕ) → x < C .symbols → cond p x 0 < C .symbols
+kept-symbol C F true x h = h
+kept-symbol C F false x h = zero-symbol C F
 
 -- two masks leave what both let through
 kept-twice : (C : Code) (p q : Bool) (x : ℕ) → x < 256 → bitAnd (bitAnd x (cond p 255 0)) (cond q 255 0) ≡ masked (numbers C) p q x
@@ -71,40 +75,49 @@ vanish-at C F l q sq s t a (suc b) ha na hb =
 
 -- the row of order (s, t) at (x, b)
 abbrev pub conditionRow : Code → ℕ → ℕ → ℕ → ℕ → ℕ → ℕ → ℕ → List ℕ
-conditionRow C v d count x b s t =
-    keptRow (keptRow (valuesRow C count (powersRow C (d + 1) x) (powersRow C (d / v + 1) (baseAt b)) (exponentRows v count)) (getD (exponentRows v count) 0 []) s s)
-    (getD (exponentRows v count) 1 []) (askedAt b t) t
+conditionRow C v d blocks x b s t =
+    keptRow blocks
+    (keptRow blocks (valuesRow C (blocks * block) (powersRow C (d + 1) x) (powersRow C (d / v + 1) (baseAt b)) (exponentRows v (blocks * block)))
+    (getD (exponentRows v (blocks * block)) 0 []) s s) (getD (exponentRows v (blocks * block)) 1 []) (askedAt b t) t
 
 -- it has `width` entries
-pub length-conditionRow : (C : Code) (v d count x b s t : ℕ) → length (conditionRow C v d count x b s t) ≡ width
-length-conditionRow C v d count x b s t = length-filled _ width (omega arith)
+pub length-conditionRow : (C : Code) (v d blocks x b s t : ℕ) → blocks * block ≤ width → length (conditionRow C v d blocks x b s t) ≡ width
+length-conditionRow C v d blocks x b s t inside = length-filled _ (blocks * block) inside
 
 -- where the symbols are bytes
-module _ (C : Code) (F : FieldOf C) (bytes : C .symbols ≤ 256) (v : ℕ) (pos : 0 < v) (D : ℕ) (fits : count v D ≤ width) (a b s t : ℕ) where
-  -- the values at (a, b)
-  abbrev point-values : List ℕ
-  point-values = valuesRow C (count v D) (powersRow C (D + 1) a) (powersRow C (D / v + 1) (baseAt b)) (exponentRows v (count v D))
+module _ (C : Code) (F : FieldOf C) (bytes : C .symbols ≤ 256) where
+  -- what a mask leaves of symbols are symbols
+  kept-symbols : (blocks : ℕ) (row es : List ℕ) (asked order : ℕ) → Symbols C row → Symbols C (keptRow blocks row es asked order)
+  kept-symbols blocks row es asked order sr =
+      filled-symbols C F (keptEntry row es asked order) (blocks * block) (λ k _.
+      subst (λ (x : ℕ). x < C .symbols) (sym (kept-byte (eqb (bitAnd (getD es k 0) asked) order) (getD row k 0) (let h = sr k in omega arith)))
+      (kept-symbol C F (eqb (bitAnd (getD es k 0) asked) order) (getD row k 0) (sr k)))
 
-  -- an entry of a masked row is what the masks leave of the value
-  kept-entry : (k : ℕ) → k < width
-      → getD (conditionRow C v D (count v D) a b s t) k 0
-      ≡ bitAnd (bitAnd (getD point-values k 0) (maskByte (entryOf (exponentRows v (count v D)) 0 k) s s)) (maskByte (entryOf (exponentRows v (count v D)) 1 k) (askedAt b t) t)
-  kept-entry k h =
-      filled-at _ width k h
-      ∙ ap (λ (x : ℕ). bitAnd x (maskByte (entryOf (exponentRows v (count v D)) 1 k) (askedAt b t) t)) (filled-at _ width k h)
+  module _ (v D blocks a b s t : ℕ) (ha : a < C .symbols) (hb : b < C .symbols) where
+    -- the columns of the blocks
+    abbrev wide : ℕ
+    wide = blocks * block
 
-  -- after the monomials it is zero
-  entry-rest : (k : ℕ) → count v D ≤ k → getD (conditionRow C v D (count v D) a b s t) k 0 ≡ 0
-  entry-rest k h =
-      elim (decLt k width) [
-        | yes l ↦
-            kept-entry k l
-            ∙ ap (λ (x : ℕ). bitAnd (bitAnd x (maskByte (entryOf (exponentRows v (count v D)) 0 k) s s)) (maskByte (entryOf (exponentRows v (count v D)) 1 k) (askedAt b t) t))
-            (filled-rest _ (count v D) k h)
-        | no l ↦ filled-rest _ width k (omega arith)
-      ]
+    -- the values at (a, b)
+    abbrev point-values : List ℕ
+    point-values = valuesRow C wide (powersRow C (D + 1) a) (powersRow C (D / v + 1) (baseAt b)) (exponentRows v wide)
 
-  module _ (ha : a < C .symbols) (hb : b < C .symbols) where
+    -- the row is one of symbols
+    pub conditionRow-symbols : Symbols C (conditionRow C v D blocks a b s t)
+    conditionRow-symbols =
+        kept-symbols blocks (keptRow blocks point-values (getD (exponentRows v wide) 0 []) s s) (getD (exponentRows v wide) 1 []) (askedAt b t) t
+        (kept-symbols blocks point-values (getD (exponentRows v wide) 0 []) s s
+        (filled-symbols C F _ wide (λ k _.
+        times-symbol C F _ _ (powers-symbols C F (D + 1) a ha (entryOf (exponentRows v wide) 0 k))
+        (powers-symbols C F (D / v + 1) (baseAt b) (base-symbol C F b hb) (entryOf (exponentRows v wide) 1 k)))))
+
+    -- an entry of it is what the masks leave of the value
+    kept-entry : (k : ℕ) → k < wide
+        → getD (conditionRow C v D blocks a b s t) k 0
+        ≡ bitAnd (bitAnd (getD point-values k 0) (maskByte (entryOf (exponentRows v wide) 0 k) s s)) (maskByte (entryOf (exponentRows v wide) 1 k) (askedAt b t) t)
+    kept-entry k h =
+        filled-at _ wide k h ∙ ap (λ (x : ℕ). bitAnd x (maskByte (entryOf (exponentRows v wide) 1 k) (askedAt b t) t)) (filled-at _ wide k h)
+
     -- the value of a monomial is a byte
     value-byte : (e f : ℕ) → C .times (power (numbers C) a e) (power (numbers C) (baseAt b) f) < 256
     value-byte e f =
@@ -113,69 +126,64 @@ module _ (C : Code) (F : FieldOf C) (bytes : C .symbols ≤ 256) (v : ℕ) (pos 
         (power-symbol C F (baseAt b) (base-symbol C F b hb) f) in
         omega arith
 
-    module _ (k : ℕ) (h : k < count v D) where
-      -- the power of x at place k
-      x-power : entryOf (exponentRows v (count v D)) 0 k ≡ walked v k .0
-      x-power = filled-at (λ k. walked v k .0) (count v D) k h
+    module _ (pos : 0 < v) (inside : wide ≤ width) where
+      -- at a place of the blocks that is one of a monomial up to the degree
+      module _ (k : ℕ) (h : k < wide) (l : k < count v D) where
+        -- the power of x
+        x-power : entryOf (exponentRows v wide) 0 k ≡ walked v k .0
+        x-power = filled-at (λ k. walked v k .0) wide k h
 
-      -- and that of y
-      y-power : entryOf (exponentRows v (count v D)) 1 k ≡ walked v k .1
-      y-power = filled-at (λ k. walked v k .1) (count v D) k h
+        -- and that of y
+        y-power : entryOf (exponentRows v wide) 1 k ≡ walked v k .1
+        y-power = filled-at (λ k. walked v k .1) wide k h
 
-      -- the monomial's value at place k
-      value-entry : getD point-values k 0 ≡ C .times (power (numbers C) a (walked v k .0)) (power (numbers C) (baseAt b) (walked v k .1))
-      value-entry =
-          filled-at _ (count v D) k h
-          ∙ ap₂ (λ (x y : ℕ). C .times (getD (powersRow C (D + 1) a) x 0) (getD (powersRow C (D / v + 1) (baseAt b)) y 0)) x-power y-power
-          ∙ ap₂ (C .times) (filled-at (λ e. power (numbers C) a e) (D + 1) (walked v k .0) (x-within v pos D k h))
-          (filled-at (λ e. power (numbers C) (baseAt b) e) (D / v + 1) (walked v k .1) (y-within v pos D k h))
+        -- the monomial's value
+        value-entry : getD point-values k 0 ≡ C .times (power (numbers C) a (walked v k .0)) (power (numbers C) (baseAt b) (walked v k .1))
+        value-entry =
+            filled-at _ wide k h
+            ∙ ap₂ (λ (x y : ℕ). C .times (getD (powersRow C (D + 1) a) x 0) (getD (powersRow C (D / v + 1) (baseAt b)) y 0)) x-power y-power
+            ∙ ap₂ (C .times) (filled-at (λ e. power (numbers C) a e) (D + 1) (walked v k .0) (x-within v pos D k l))
+            (filled-at (λ e. power (numbers C) (baseAt b) e) (D / v + 1) (walked v k .1) (y-within v pos D k l))
 
-      -- the entry at place k
-      entry-is : getD (conditionRow C v D (count v D) a b s t) k 0 ≡ maskedRow (numbers C) (testAt b) (monomials v D) s t a (baseAt b) k
-      entry-is =
-          kept-entry k (omega arith)
-          ∙ ap (λ (x : ℕ). bitAnd (bitAnd x (maskByte (entryOf (exponentRows v (count v D)) 0 k) s s)) (maskByte (entryOf (exponentRows v (count v D)) 1 k) (askedAt b t) t)) value-entry
-          ∙ ap₂ (λ (x y : ℕ). bitAnd (bitAnd value (maskByte x s s)) (maskByte y (askedAt b t) t)) x-power y-power
-          ∙ ap (λ (q : Bool). bitAnd (bitAnd value (maskByte (walked v k .0) s s)) (cond q 255 0)) (asked-test b (walked v k .1) t low)
-          ∙ kept-twice C (within (walked v k .0) s) (testAt b (walked v k .1) t) value (value-byte (walked v k .0) (walked v k .1))
-          ∙ ap
-          (λ (m : ℕ × ℕ).
-          masked (numbers C) (within (m .0) s) (testAt b (m .1) t) (C .times (power (numbers C) a (m .0)) (power (numbers C) (baseAt b) (m .1))))
-          (sym (walked-monomial v pos D k h))
-        where
-          value : ℕ
-          value = C .times (power (numbers C) a (walked v k .0)) (power (numbers C) (baseAt b) (walked v k .1))
+        -- the entry
+        entry-is : getD (conditionRow C v D blocks a b s t) k 0 ≡ maskedRow (numbers C) (testAt b) (monomials v D) s t a (baseAt b) k
+        entry-is =
+            kept-entry k h
+            ∙ ap (λ (x : ℕ). bitAnd (bitAnd x (maskByte (entryOf (exponentRows v wide) 0 k) s s)) (maskByte (entryOf (exponentRows v wide) 1 k) (askedAt b t) t)) value-entry
+            ∙ ap₂ (λ (x y : ℕ). bitAnd (bitAnd value (maskByte x s s)) (maskByte y (askedAt b t) t)) x-power y-power
+            ∙ ap (λ (q : Bool). bitAnd (bitAnd value (maskByte (walked v k .0) s s)) (cond q 255 0)) (asked-test b (walked v k .1) t low)
+            ∙ kept-twice C (within (walked v k .0) s) (testAt b (walked v k .1) t) value (value-byte (walked v k .0) (walked v k .1))
+            ∙ ap
+            (λ (m : ℕ × ℕ).
+            masked (numbers C) (within (m .0) s) (testAt b (m .1) t) (C .times (power (numbers C) a (m .0)) (power (numbers C) (baseAt b) (m .1))))
+            (sym (walked-monomial v pos D k l))
+          where
+            value : ℕ
+            value = C .times (power (numbers C) a (walked v k .0)) (power (numbers C) (baseAt b) (walked v k .1))
 
-          low : walked v k .1 < 256
-          low = let w = walked-le v pos k .1 in omega arith
+            low : walked v k .1 < 256
+            low = let w = walked-le v pos k .1 in omega arith
 
-    -- it is a row of symbols
-    pub conditionRow-symbols : Symbols C (conditionRow C v D (count v D) a b s t)
-    conditionRow-symbols k =
-        elim (decLt k (count v D)) [
-          | yes h ↦
-              subst (λ (x : ℕ). x < C .symbols) (sym (entry-is k h))
-              (masked-symbol C F (testAt b) (monomials v D) s t a (baseAt b) ha (base-symbol C F b hb) k)
-          | no l ↦ subst (λ (x : ℕ). x < C .symbols) (sym (entry-rest k (omega arith))) (zero-symbol C F)
-        ]
+      -- coefficients that end at such a place
+      module _ (na : a ≢ 0) (q : List ℕ) (sq : Symbols C q) (e : ℕ) (made : e ≤ wide) (few : e ≤ count v D) (ends : (k : ℕ) → e ≤ k → getD q k 0 ≡ 0) where
+        -- the row times them is the masked row times them
+        row-dot : dot (numbers C) wide (λ k. getD (conditionRow C v D blocks a b s t) k 0) (λ k. getD q k 0)
+            ≡ dot (numbers C) (length (monomials v D)) (maskedRow (numbers C) (testAt b) (monomials v D) s t a (baseAt b)) (λ k. getD q k 0)
+        row-dot =
+            symbols-ended C F (λ k. getD (conditionRow C v D blocks a b s t) k 0) (λ k. getD q k 0) conditionRow-symbols sq wide e made (λ k h _. ends k h)
+            ∙ dot-equal (numbers C) e (λ k. getD (conditionRow C v D blocks a b s t) k 0) (maskedRow (numbers C) (testAt b) (monomials v D) s t a (baseAt b))
+            (λ k. getD q k 0) (λ k. getD q k 0) (λ k h. entry-is k (omega arith) (omega arith)) (λ k h. refl)
+            ∙ sym
+            (symbols-ended C F (maskedRow (numbers C) (testAt b) (monomials v D) s t a (baseAt b)) (λ k. getD q k 0)
+            (masked-symbol C F (testAt b) (monomials v D) s t a (baseAt b) ha (base-symbol C F b hb)) sq (count v D) e few (λ k h _. ends k h))
+            ∙ ap (λ (n : ℕ). dot (numbers C) n (maskedRow (numbers C) (testAt b) (monomials v D) s t a (baseAt b)) (λ k. getD q k 0))
+            (sym (monomials-in-order v pos D .size))
 
-    module _ (na : a ≢ 0) (q : List ℕ) (sq : Symbols C q) where
-      -- times the coefficients it is the masked row times them
-      row-dot : dot (numbers C) width (λ k. getD (conditionRow C v D (count v D) a b s t) k 0) (λ k. getD q k 0)
-          ≡ dot (numbers C) (length (monomials v D)) (maskedRow (numbers C) (testAt b) (monomials v D) s t a (baseAt b)) (λ k. getD q k 0)
-      row-dot =
-          symbols-ended C F (λ k. getD (conditionRow C v D (count v D) a b s t) k 0) (λ k. getD q k 0) conditionRow-symbols sq width (count v D) fits
-          (λ k h _. entry-rest k h)
-          ∙ dot-equal (numbers C) (count v D) (λ k. getD (conditionRow C v D (count v D) a b s t) k 0)
-          (maskedRow (numbers C) (testAt b) (monomials v D) s t a (baseAt b)) (λ k. getD q k 0) (λ k. getD q k 0) entry-is (λ k h. refl)
-          ∙ ap (λ (n : ℕ). dot (numbers C) n (maskedRow (numbers C) (testAt b) (monomials v D) s t a (baseAt b)) (λ k. getD q k 0))
-          (sym (monomials-in-order v pos D .size))
-
-      -- so it vanishes where the Hasse derivative does, and only there
-      pub row-vanishes : (dot (numbers C) width (λ k. getD (conditionRow C v D (count v D) a b s t) k 0) (λ k. getD q k 0) ≡ 0
-          → hasse (numbers C) (terms (numbers C) q (monomials v D)) s t a b ≡ 0)
-          × (hasse (numbers C) (terms (numbers C) q (monomials v D)) s t a b ≡ 0
-          → dot (numbers C) width (λ k. getD (conditionRow C v D (count v D) a b s t) k 0) (λ k. getD q k 0) ≡ 0)
-      row-vanishes =
-          let r = vanish-at C F (monomials v D) q sq s t a b ha na hb in
-          (λ h. r .0 (sym row-dot ∙ h), λ h. row-dot ∙ r .1 h)
+        -- so it vanishes where the Hasse derivative does, and only there
+        pub row-vanishes : (dot (numbers C) wide (λ k. getD (conditionRow C v D blocks a b s t) k 0) (λ k. getD q k 0) ≡ 0
+            → hasse (numbers C) (terms (numbers C) q (monomials v D)) s t a b ≡ 0)
+            × (hasse (numbers C) (terms (numbers C) q (monomials v D)) s t a b ≡ 0
+            → dot (numbers C) wide (λ k. getD (conditionRow C v D blocks a b s t) k 0) (λ k. getD q k 0) ≡ 0)
+        row-vanishes =
+            let r = vanish-at C F (monomials v D) q sq s t a b ha na hb in
+            (λ h. r .0 (sym row-dot ∙ h), λ h. row-dot ∙ r .1 h)

@@ -2,18 +2,22 @@
 -- Assumes nothing.
 use mathlib.Core.Bool.{cond}
 use mathlib.Core.List.{List, [], _∷_, map, flatMap}
-use Prim.Native.Nat.{ℕ, _+_, _-_, _/_, _<_}
+use Prim.Native.Nat.{ℕ, _+_, _-_, _*_, _/_, _≤_, _<_}
 use lib.Bits.{bitAnd}
 use lib.Dec.{eqb}
-use lib.ListN.{getD}
+use lib.ListN.{length, getD}
 use Rattle.algebra.specs.Grid.{entryOf}
 use Rattle.definitions.specs.Code.{point}
 use Rattle.definitions.specs.Field.{Code, numbers, power}
 use Rattle.definitions.specs.Tools.{below}
 use Rattle.conditions.specs.Walk.{walked}
-use Rattle.blocks.specs.Row.{width, filled}
+use Rattle.blocks.specs.Row.{width, block, ZeroFrom, Front, filled}
 
--- the powers of x that the monomials have, and those of y
+-- the rows from a place on are zero from a column on
+abbrev pub Clear : ℕ → ℕ → List (List ℕ) → Type 0
+Clear at n rows = (r : ℕ) → at ≤ r → r < length rows → ZeroFrom n (getD rows r [])
+
+-- the powers of x that the first monomials have, and those of y
 abbrev pub exponentRows : ℕ → ℕ → List (List ℕ)
 exponentRows v count = filled count (λ (k : ℕ). walked v k .0) ∷ filled count (λ (k : ℕ). walked v k .1) ∷ []
 
@@ -33,9 +37,17 @@ valuesRow C count px py es = filled count (λ (k : ℕ). C .times (getD px (entr
 abbrev pub maskByte : ℕ → ℕ → ℕ → ℕ
 maskByte e asked order = cond (eqb (bitAnd e asked) order) 255 0
 
--- what the masks of an order leave of a row
-abbrev pub keptRow : List ℕ → List ℕ → ℕ → ℕ → List ℕ
-keptRow row es asked order = filled width (λ (k : ℕ). bitAnd (getD row k 0) (maskByte (getD es k 0) asked order))
+-- entry k of what the masks of an order leave
+abbrev pub keptEntry : List ℕ → List ℕ → ℕ → ℕ → ℕ → ℕ
+keptEntry row es asked order k = bitAnd (getD row k 0) (maskByte (getD es k 0) asked order)
+
+-- what they leave of a block
+abbrev pub KeptBlock : List ℕ → List ℕ → ℕ → ℕ → List ℕ → Type 0
+KeptBlock a es asked order r = Front block (keptEntry a es asked order) r
+
+-- and of the first blocks of a row
+abbrev pub keptRow : ℕ → List ℕ → List ℕ → ℕ → ℕ → List ℕ
+keptRow blocks row es asked order = filled (blocks * block) (keptEntry row es asked order)
 
 -- of a power of y the bits of the order are asked for, and at y = 0 all bits
 abbrev pub askedAt : ℕ → ℕ → ℕ
@@ -46,33 +58,33 @@ abbrev pub baseAt : ℕ → ℕ
 baseAt b = cond (eqb b 0) 1 b
 
 -- the rows of the orders 0 to m - 1 by y
-abbrev pub keptOrder : List ℕ → List ℕ → ℕ → ℕ → List (List ℕ)
-keptOrder row ys b m = map (λ (t : ℕ). keptRow row ys (askedAt b t) t) (below m)
+abbrev pub keptOrder : ℕ → List ℕ → List ℕ → ℕ → ℕ → List (List ℕ)
+keptOrder blocks row ys b m = map (λ (t : ℕ). keptRow blocks row ys (askedAt b t) t) (below m)
 
 -- the rows of the order s by x, of a point of multiplicity m
-abbrev pub orderAt : List ℕ → List (List ℕ) → ℕ → ℕ → ℕ → List (List ℕ)
-orderAt row es b m s = keptOrder (keptRow row (getD es 0 []) s s) (getD es 1 []) b (m - s)
+abbrev pub orderAt : ℕ → List ℕ → List (List ℕ) → ℕ → ℕ → ℕ → List (List ℕ)
+orderAt blocks row es b m s = keptOrder blocks (keptRow blocks row (getD es 0 []) s s) (getD es 1 []) b (m - s)
 
 -- the rows of the orders (s, t) with s + t < m
-abbrev pub keptOrders : List ℕ → List (List ℕ) → ℕ → ℕ → List (List ℕ)
-keptOrders row es b m = flatMap (orderAt row es b m) (below m)
+abbrev pub keptOrders : ℕ → List ℕ → List (List ℕ) → ℕ → ℕ → List (List ℕ)
+keptOrders blocks row es b m = flatMap (orderAt blocks row es b m) (below m)
 
 -- the rows of a point of multiplicity m
 abbrev pub maskedPoint : Code → List ℕ → ℕ → ℕ → List (List ℕ) → ℕ → ℕ → List (List ℕ)
-maskedPoint C px n count es b m = keptOrders (valuesRow C count px (powersRow C n (baseAt b)) es) es b m
+maskedPoint C px n blocks es b m = keptOrders blocks (valuesRow C (blocks * block) px (powersRow C n (baseAt b)) es) es b m
 
 -- the rows of a symbol at a position
 abbrev pub pointAt : Code → List ℕ → ℕ → ℕ → List (List ℕ) → List ℕ → ℕ → List (List ℕ)
-pointAt C px n count es column b = maskedPoint C px n count es b (getD column b 0)
+pointAt C px n blocks es column b = maskedPoint C px n blocks es b (getD column b 0)
 
 -- the rows of a position
 abbrev pub maskedColumn : Code → List ℕ → ℕ → ℕ → List (List ℕ) → List ℕ → List (List ℕ)
-maskedColumn C px n count es column = flatMap (pointAt C px n count es column) (below (C .symbols))
+maskedColumn C px n blocks es column = flatMap (pointAt C px n blocks es column) (below (C .symbols))
 
 -- the rows of position i of a matrix
 abbrev pub columnAt : Code → ℕ → ℕ → ℕ → List (List ℕ) → ℕ → List (List ℕ)
-columnAt C v d count a i = maskedColumn C (powersRow C (d + 1) (point C i)) (d / v + 1) count (exponentRows v count) (getD a i [])
+columnAt C v d blocks a i = maskedColumn C (powersRow C (d + 1) (point C i)) (d / v + 1) blocks (exponentRows v (blocks * block)) (getD a i [])
 
 -- the rows of a matrix
 abbrev pub maskedRows : Code → ℕ → ℕ → ℕ → List (List ℕ) → List (List ℕ)
-maskedRows C v d count a = flatMap (columnAt C v d count a) (below (C .positions))
+maskedRows C v d blocks a = flatMap (columnAt C v d blocks a) (below (C .positions))

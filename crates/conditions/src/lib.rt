@@ -1,20 +1,21 @@
 // The rows of the Hasse conditions, for inner use: what they are made of is within limits already.
 ghost use mathlib.Core.Path.{_≡_};
-ghost use Prim.Native.Nat.{_+_, _≤_, _<_};
+ghost use Prim.Native.Nat.{_+_, _*_, _≤_, _<_};
 ghost use lib.ListN.{length};
 ghost use lib.Seq.{sets};
 ghost use Rattle.definitions.specs.Code.{Symbols};
 ghost use Rattle.definitions.specs.Field.{sixteen};
 ghost use Rattle.field.specs.Table.{Products};
-ghost use Rattle.conditions.specs.Masks.{exponentRows, Places, powersRow, valuesRow, maskByte, keptRow, askedAt, baseAt, keptOrder, keptOrders, maskedPoint, maskedColumn, maskedRows};
-ghost use Rattle.blocks.specs.Row.{width};
+ghost use Rattle.conditions.specs.Masks.{Clear, exponentRows, Places, powersRow, valuesRow, maskByte, KeptBlock, keptRow, askedAt, baseAt, keptOrder, keptOrders, maskedPoint, maskedColumn, maskedRows};
+ghost use Rattle.blocks.specs.Row.{width, block, ZeroFrom};
+use blocks::BLOCK;
 use blocks::WIDTH;
 use field::inside::ALPHA;
 use refusals::limits::GREATEST_SYMBOL;
 use refusals::limits::POSITIONS;
 use refusals::limits::SYMBOLS;
 
-// The powers of x that the monomials have, in their order, and those of y.
+// The powers of x that the first monomials have, in their order, and those of y.
 fn exponents(v: usize, count: usize) -> [[u8; WIDTH]; 2]
     requires { ⌜ (0 < v) × (count ≤ width) ⌝ }
     ensures { λ r. ⌜ r ≡ exponentRows v count ⌝ }
@@ -41,13 +42,12 @@ fn exponents(v: usize, count: usize) -> [[u8; WIDTH]; 2]
     [xs, ys]
 }
 
-// The first n powers of x.
-fn powers(table: &[u8; 256], x: u8, n: usize) -> [u8; WIDTH]
+// The first n powers of x, to the front of a row.
+fn powers(table: &[u8; 256], x: u8, n: usize, row: &mut [u8; WIDTH])
     requires { ⌜ Products sixteen (now table) ⌝ }
-    requires { ⌜ (x < sixteen .symbols) × (n ≤ width) ⌝ }
-    ensures { λ r. ⌜ r ≡ powersRow sixteen n x ⌝ }
+    requires { ⌜ (x < sixteen .symbols) × (n ≤ width) × ZeroFrom n (now row) ⌝ }
+    ensures { λ _. ⌜ now (row .exit) ≡ powersRow sixteen n x ⌝ }
 {
-    let mut row = [0u8; WIDTH];
     let mut next = 1u8;
     let mut e = 0;
     while e < n {
@@ -55,23 +55,22 @@ fn powers(table: &[u8; 256], x: u8, n: usize) -> [u8; WIDTH]
         next = field::inside::look(table, x, next);
         e += 1;
     }
-    row
 }
 
-// The monomials' values at a point, in their order, of the powers of its coordinates.
+// The monomials' values at a point, in their order, of the powers of its coordinates, to the front of a row.
 fn values(
     table: &[u8; 256],
     px: &[u8; WIDTH],
     py: &[u8; WIDTH],
     es: &[[u8; WIDTH]; 2],
     count: usize,
-) -> [u8; WIDTH]
+    row: &mut [u8; WIDTH],
+)
     requires { ⌜ Products sixteen (now table) ⌝ }
     requires { ⌜ Symbols sixteen (now px) × Symbols sixteen (now py) ⌝ }
-    requires { ⌜ Places (now es) × (count ≤ width) ⌝ }
-    ensures { λ r. ⌜ r ≡ valuesRow sixteen count (now (px .entry)) (now (py .entry)) (now (es .entry)) ⌝ }
+    requires { ⌜ Places (now es) × (count ≤ width) × ZeroFrom count (now row) ⌝ }
+    ensures { λ _. ⌜ now (row .exit) ≡ valuesRow sixteen count (now (px .entry)) (now (py .entry)) (now (es .entry)) ⌝ }
 {
-    let mut row = [0u8; WIDTH];
     let mut place = 0;
     while place < count {
         let x = field::inside::wide(es[0][place]);
@@ -79,7 +78,6 @@ fn values(
         row[place] = field::inside::look(table, px[x], py[y]);
         place += 1;
     }
-    row
 }
 
 // 255 where a power has, of the bits asked for, just those of the order, else 0.
@@ -92,17 +90,40 @@ fn mask(e: u8, asked: u8, order: u8) -> u8
     0
 }
 
-// A row, where the masks of the powers let it.
-fn kept(row: &[u8; WIDTH], es: &[u8; WIDTH], asked: u8, order: u8) -> [u8; WIDTH]
-    ensures { λ r. ⌜ r ≡ keptRow (now (row .entry)) (now (es .entry)) asked order ⌝ }
+// What the masks of the powers leave of a block.
+fn kept_block(a: &[u8; BLOCK], es: &[u8; BLOCK], asked: u8, order: u8) -> [u8; BLOCK]
+    ensures { λ r. ⌜ KeptBlock (now (a .entry)) (now (es .entry)) asked order r ⌝ }
 {
-    let mut part = [0u8; WIDTH];
+    let mut part = [0u8; BLOCK];
     let mut k = 0;
-    while k < WIDTH {
-        part[k] = row[k] & mask(es[k], asked, order);
+    while k < BLOCK {
+        part[k] = a[k] & mask(es[k], asked, order);
         k += 1;
     }
     part
+}
+
+// What they leave of the first blocks of a row, to the front of another.
+fn keep(
+    row: &[u8; WIDTH],
+    es: &[u8; WIDTH],
+    asked: u8,
+    order: u8,
+    blocks: usize,
+    out: &mut [u8; WIDTH],
+)
+    requires { ⌜ (blocks * block ≤ width) × ZeroFrom (blocks * block) (now out) ⌝ }
+    ensures { λ _. ⌜ now (out .exit) ≡ keptRow blocks (now (row .entry)) (now (es .entry)) asked order ⌝ }
+{
+    let mut p = 0;
+    while p < blocks {
+        let at = p * BLOCK;
+        let a = blocks::block(row, at);
+        let powers = blocks::block(es, at);
+        let left = kept_block(&a, &powers, asked, order);
+        blocks::put(out, at, &left);
+        p += 1;
+    }
 }
 
 // At y = 0 the power of y has to be the order itself.
@@ -132,16 +153,16 @@ fn order_rows(
     ys: &[u8; WIDTH],
     b: u8,
     m: u8,
+    blocks: usize,
 ) -> usize
-    requires { ⌜ at + m ≤ length (now rows) ⌝ }
+    requires { ⌜ (at + m ≤ length (now rows)) × (blocks * block ≤ width) × Clear at (blocks * block) (now rows) ⌝ }
     ensures { λ r. ⌜ r ≡ at + m ⌝ }
-    ensures { λ _. ⌜ now (rows .exit) ≡ sets (now (rows .entry)) at (keptOrder (now (row .entry)) (now (ys .entry)) b m) ⌝ }
+    ensures { λ _. ⌜ now (rows .exit) ≡ sets (now (rows .entry)) at (keptOrder blocks (now (row .entry)) (now (ys .entry)) b m) ⌝ }
 {
     let mut next = at;
     let mut t = 0u8;
     while t < m {
-        let condition = kept(row, ys, asked_at(b, t), t);
-        rows[next] = condition;
+        keep(row, ys, asked_at(b, t), t, blocks, &mut rows[next]);
         next += 1;
         t += 1;
     }
@@ -156,16 +177,18 @@ fn orders_rows(
     es: &[[u8; WIDTH]; 2],
     b: u8,
     m: u8,
+    blocks: usize,
 ) -> usize
-    requires { ⌜ at + length (keptOrders (now row) (now es) b m) ≤ length (now rows) ⌝ }
-    ensures { λ r. ⌜ r ≡ at + length (keptOrders (now (row .entry)) (now (es .entry)) b m) ⌝ }
-    ensures { λ _. ⌜ now (rows .exit) ≡ sets (now (rows .entry)) at (keptOrders (now (row .entry)) (now (es .entry)) b m) ⌝ }
+    requires { ⌜ (at + length (keptOrders blocks (now row) (now es) b m) ≤ length (now rows)) × (blocks * block ≤ width) × Clear at (blocks * block) (now rows) ⌝ }
+    ensures { λ r. ⌜ r ≡ at + length (keptOrders blocks (now (row .entry)) (now (es .entry)) b m) ⌝ }
+    ensures { λ _. ⌜ now (rows .exit) ≡ sets (now (rows .entry)) at (keptOrders blocks (now (row .entry)) (now (es .entry)) b m) ⌝ }
 {
+    let mut part = [0u8; WIDTH];
     let mut next = at;
     let mut s = 0u8;
     while s < m {
-        let part = kept(row, &es[0], s, s);
-        next = order_rows(rows, next, &part, &es[1], b, m - s);
+        keep(row, &es[0], s, s, blocks, &mut part);
+        next = order_rows(rows, next, &part, &es[1], b, m - s, blocks);
         s += 1;
     }
     next
@@ -181,21 +204,23 @@ fn point_rows(
     b: u8,
     m: u8,
     n: usize,
-    count: usize,
+    blocks: usize,
 ) -> usize
     requires { ⌜ Products sixteen (now table) ⌝ }
     requires { ⌜ Symbols sixteen (now px) × Places (now es) ⌝ }
-    requires { ⌜ (b < sixteen .symbols) × (n ≤ width) × (count ≤ width) ⌝ }
-    requires { ⌜ at + length (maskedPoint sixteen (now px) n count (now es) b m) ≤ length (now rows) ⌝ }
-    ensures { λ r. ⌜ r ≡ at + length (maskedPoint sixteen (now (px .entry)) n count (now (es .entry)) b m) ⌝ }
-    ensures { λ _. ⌜ now (rows .exit) ≡ sets (now (rows .entry)) at (maskedPoint sixteen (now (px .entry)) n count (now (es .entry)) b m) ⌝ }
+    requires { ⌜ (b < sixteen .symbols) × (n ≤ width) × (blocks * block ≤ width) ⌝ }
+    requires { ⌜ (at + length (maskedPoint sixteen (now px) n blocks (now es) b m) ≤ length (now rows)) × Clear at (blocks * block) (now rows) ⌝ }
+    ensures { λ r. ⌜ r ≡ at + length (maskedPoint sixteen (now (px .entry)) n blocks (now (es .entry)) b m) ⌝ }
+    ensures { λ _. ⌜ now (rows .exit) ≡ sets (now (rows .entry)) at (maskedPoint sixteen (now (px .entry)) n blocks (now (es .entry)) b m) ⌝ }
 {
     if m == 0 {
         return at;
     }
-    let py = powers(table, base_at(b), n);
-    let row = values(table, px, &py, es, count);
-    orders_rows(rows, at, &row, es, b, m)
+    let mut py = [0u8; WIDTH];
+    powers(table, base_at(b), n, &mut py);
+    let mut row = [0u8; WIDTH];
+    values(table, px, &py, es, blocks * BLOCK, &mut row);
+    orders_rows(rows, at, &row, es, b, m, blocks)
 }
 
 // The conditions of one position.
@@ -207,47 +232,48 @@ fn column_rows(
     es: &[[u8; WIDTH]; 2],
     column: &[u8; SYMBOLS],
     n: usize,
-    count: usize,
+    blocks: usize,
 ) -> usize
     requires { ⌜ Products sixteen (now table) ⌝ }
     requires { ⌜ Symbols sixteen (now px) × Places (now es) ⌝ }
-    requires { ⌜ (n ≤ width) × (count ≤ width) ⌝ }
-    requires { ⌜ at + length (maskedColumn sixteen (now px) n count (now es) (now column)) ≤ length (now rows) ⌝ }
-    ensures { λ r. ⌜ r ≡ at + length (maskedColumn sixteen (now (px .entry)) n count (now (es .entry)) (now (column .entry))) ⌝ }
-    ensures { λ _. ⌜ now (rows .exit) ≡ sets (now (rows .entry)) at (maskedColumn sixteen (now (px .entry)) n count (now (es .entry)) (now (column .entry))) ⌝ }
+    requires { ⌜ (n ≤ width) × (blocks * block ≤ width) ⌝ }
+    requires { ⌜ (at + length (maskedColumn sixteen (now px) n blocks (now es) (now column)) ≤ length (now rows)) × Clear at (blocks * block) (now rows) ⌝ }
+    ensures { λ r. ⌜ r ≡ at + length (maskedColumn sixteen (now (px .entry)) n blocks (now (es .entry)) (now (column .entry))) ⌝ }
+    ensures { λ _. ⌜ now (rows .exit) ≡ sets (now (rows .entry)) at (maskedColumn sixteen (now (px .entry)) n blocks (now (es .entry)) (now (column .entry))) ⌝ }
 {
     let mut next = at;
     let mut b = 0u8;
     while b <= GREATEST_SYMBOL {
         let m = column[field::inside::wide(b)];
-        next = point_rows(rows, next, table, px, es, b, m, n, count);
+        next = point_rows(rows, next, table, px, es, b, m, n, blocks);
         b += 1;
     }
     next
 }
 
-// The conditions of a whole matrix, from the first row on. Answers how many there are.
+// The conditions of a whole matrix, from the first row on, in so many blocks of columns. Answers how many there are.
 pub fn matrix_rows(
     rows: &mut [[u8; WIDTH]],
     table: &[u8; 256],
     matrix: &[[u8; SYMBOLS]; POSITIONS],
     v: usize,
     d: usize,
-    count: usize,
+    blocks: usize,
 ) -> usize
     requires { ⌜ Products sixteen (now table) ⌝ }
-    requires { ⌜ (0 < v) × (d < width) × (count ≤ width) ⌝ }
-    requires { ⌜ length (maskedRows sixteen v d count (now matrix)) ≤ length (now rows) ⌝ }
-    ensures { λ r. ⌜ r ≡ length (maskedRows sixteen v d count (now (matrix .entry))) ⌝ }
-    ensures { λ _. ⌜ now (rows .exit) ≡ sets (now (rows .entry)) 0 (maskedRows sixteen v d count (now (matrix .entry))) ⌝ }
+    requires { ⌜ (0 < v) × (d < width) × (blocks * block ≤ width) ⌝ }
+    requires { ⌜ (length (maskedRows sixteen v d blocks (now matrix)) ≤ length (now rows)) × Clear 0 (blocks * block) (now rows) ⌝ }
+    ensures { λ r. ⌜ r ≡ length (maskedRows sixteen v d blocks (now (matrix .entry))) ⌝ }
+    ensures { λ _. ⌜ now (rows .exit) ≡ sets (now (rows .entry)) 0 (maskedRows sixteen v d blocks (now (matrix .entry))) ⌝ }
 {
-    let es = exponents(v, count);
+    let es = exponents(v, blocks * BLOCK);
+    let mut px = [0u8; WIDTH];
     let mut next = 0;
     let mut a = 1u8;
     let mut i = 0;
     while i < POSITIONS {
-        let px = powers(table, a, d + 1);
-        next = column_rows(rows, next, table, &px, &es, &matrix[i], d / v + 1, count);
+        powers(table, a, d + 1, &mut px);
+        next = column_rows(rows, next, table, &px, &es, &matrix[i], d / v + 1, blocks);
         a = field::inside::look(table, ALPHA, a);
         i += 1;
     }

@@ -14,3 +14,4 @@ pub mod Columns
 pub mod Table
 pub mod Loops
 pub mod Sums
+pub mod Powers

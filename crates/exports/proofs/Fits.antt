@@ -11,6 +11,7 @@ use lib.Dec.{eqb}
 use lib.ListN.{length}
 use Rattle.algebra.proofs.Elements.{plus-symbol, times-symbol}
 use Rattle.definitions.proofs.Bound.{bound-le, count-above}
+use Rattle.definitions.proofs.Powers.{coefficients-fit}
 use Rattle.definitions.proofs.Table.{Whatever, last, or, whatever, sizes-mean, size-means, limit-means, degree-means, entries-mean, above-means, cost-means}
 use Rattle.definitions.proofs.Tools.{smallest-le}
 use Rattle.definitions.specs.Answers.{Answer, refused, valued, counted, costed, sumAnswer, productAnswer, inverseAnswer, encodeAnswer, multiplicitiesAnswer, costAnswer, interpolated, Interpolated, InterpolationAnswers, rootsAnswer, listAnswer, readAnswer}
@@ -24,7 +25,6 @@ use Rattle.definitions.specs.Tools.{smallest}
 use Rattle.definitions.specs.Weights.{matrix, cost}
 use Rattle.exports.specs.Crossing.{Narrow}
 use Rattle.instances.proofs.Codes.{sixteen-field}
-use Rattle.interpolation.proofs.Width.{width-fits}
 use Rattle.root_tree.proofs.Roots.{roots-at-most}
 use Rattle.weights.proofs.Cost.{cost-small}
 
@@ -128,7 +128,7 @@ interpolation-narrow n k G m out answer after =
     let paid = cost-means G m c in
     last (λ found.
     let size = found .1 .size in
-    let wide = width-fits (k - 1) (cost m) (omega arith) (omega arith) in
+    let wide = coefficients-fit (k - 1) (omega arith) (cost m) (omega arith) in
     let degree = bound-le (k - 1) (omega arith) (cost m) in
     rw (found .2) (interpolated-narrow (bound (k - 1) (cost m)) (length (found .0)) (omega arith) (omega arith))))))))))
   where

@@ -1,33 +1,35 @@
 -- A system of zeros.
 -- Assumes nothing.
 use mathlib.Core.List.{List, []}
-use mathlib.Core.Path.{sym, _∙_, ap, subst}
+use mathlib.Core.Path.{sym, ap, subst}
 use Prim.Native.Nat.{ℕ, _<_}
 use native.Mathlib.Decide.{decLt}
 use native.Mathlib.Omega.{arith}
 use lib.ListN.{length, getD, replicate, getD-replicate, length-replicate, List·getD-eq-default}
 use Rattle.algebra.proofs.Elements.{zero-symbol}
 use Rattle.algebra.specs.FieldOf.{FieldOf}
-use Rattle.definitions.proofs.Symbols.{replicate-symbols}
-use Rattle.definitions.specs.Code.{Symbols}
+use Rattle.blocks.proofs.Filled.{zeros-from}
+use Rattle.blocks.specs.Row.{width, ZeroFrom}
+use Rattle.conditions.specs.Masks.{Clear}
 use Rattle.definitions.specs.Field.{Code}
 use Rattle.elimination.specs.System.{System}
-use Rattle.blocks.specs.Row.{width}
 
-module _ (C : Code) (F : FieldOf C) where
-  -- rows of zeros are rows of symbols
-  zero-rows : (n c : ℕ) → (r : ℕ) → Symbols C (getD (replicate n (replicate c 0)) r [])
-  zero-rows n c r k =
-      elim (decLt r n) [
-        | yes h ↦ subst (λ (l : List ℕ). getD l k 0 < C .symbols) (sym (getD-replicate n r (replicate c 0) [] h)) (replicate-symbols C c 0 (zero-symbol C F) k)
-        | no l ↦
-            subst (λ (l : List ℕ). getD l k 0 < C .symbols)
-            (sym (List·getD-eq-default (replicate n (replicate c 0)) [] {n = r} (rw (length-replicate n (replicate {A = ℕ} c 0)) (omega arith)))) (zero-symbol C F)
-      ]
+-- rows of zeros are clear
+pub empty-clear : (n : ℕ) → Clear 0 0 (replicate n (replicate width 0))
+empty-clear n r _ h =
+    subst (ZeroFrom 0) (sym (getD-replicate n r (replicate width 0) [] (let e = length-replicate n (replicate {A = ℕ} width 0) in omega arith))) (zeros-from 0)
 
-  -- a system of zeros
-  pub empty-system : (n : ℕ) → System C (replicate n (replicate width 0))
-  empty-system n = record {
-    wide = λ t h. ap length (getD-replicate n t (replicate width 0) [] (let e = length-replicate n (replicate {A = ℕ} width 0) in omega arith)) ∙ length-replicate {A = ℕ} width 0;
-    symbols = zero-rows n width;
+module _ (o : List (List ℕ)) (clear : Clear 0 0 o) where
+  -- from each column on
+  pub clear-from : (n : ℕ) → Clear 0 n o
+  clear-from n r l h = record { wide = clear r l h .wide; zeros = λ k _. clear r l h .zeros k (omega arith) }
+
+  -- and a system
+  pub clear-system : (C : Code) → FieldOf C → System C o
+  clear-system C F = record {
+    wide = λ t h. clear t (omega arith) h .wide;
+    symbols = λ r k. elim (decLt r (length o)) [
+      | yes h ↦ subst (λ (x : ℕ). x < C .symbols) (sym (clear r (omega arith) h .zeros k (omega arith))) (zero-symbol C F)
+      | no l ↦ subst (λ (x : ℕ). x < C .symbols) (sym (ap (λ (row : List ℕ). getD row k 0) (List·getD-eq-default o [] {n = r} (omega arith)))) (zero-symbol C F)
+    ];
   }

@@ -4,11 +4,16 @@ use mathlib.Core.List.{List, _++_}
 use mathlib.Core.Path.{_≡_}
 use Prim.Native.Nat.{ℕ, _*_, _≤_, _<_}
 use lib.ListN.{length, drop}
+use Rattle.blocks.specs.Row.{block}
 use Rattle.definitions.specs.Bound.{bound, count}
 use Rattle.definitions.specs.Field.{Code}
 use Rattle.definitions.specs.Limits.{greatestLimit}
 use Rattle.definitions.specs.Polynomial.{Interpolates, leading}
 use Rattle.weights.specs.Matrix.{matrixOf, matrixCost}
+
+-- no tag costs more up to level 3
+abbrev pub middleRows : ℕ
+middleRows = 6 * block
 
 -- a matrix within limits, its cost, its bound and how many coefficients that has, for which there is room
 pub record Given (C : Code) (a : List (List ℕ)) (v D w cost : ℕ) (out : List ℕ) : Type 0 where

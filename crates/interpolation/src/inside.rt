@@ -5,9 +5,9 @@ ghost use lib.ListN.{length};
 ghost use Rattle.definitions.specs.Bound.{bound};
 ghost use Rattle.definitions.specs.Field.{sixteen};
 ghost use Rattle.definitions.specs.Limits.{greatestLimit};
-ghost use Rattle.elimination.specs.System.{System};
+ghost use Rattle.conditions.specs.Masks.{Clear};
 ghost use Rattle.linear.specs.Rows.{Led};
-ghost use Rattle.interpolation.specs.Found.{Given, Found};
+ghost use Rattle.interpolation.specs.Found.{middleRows, Given, Found};
 ghost use Rattle.blocks.specs.Row.{block};
 ghost use Rattle.weights.specs.Matrix.{matrixCost};
 use blocks::BLOCK;
@@ -15,6 +15,9 @@ use blocks::WIDTH;
 use refusals::limits::GREATEST_LIMIT;
 use refusals::limits::POSITIONS;
 use refusals::limits::SYMBOLS;
+
+// No tag costs more up to level 3.
+const MIDDLE_ROWS: usize = 6 * BLOCK;
 
 // 1 at place j, and zeros behind it.
 fn lead(j: usize, count: usize, out: &mut [u8])
@@ -29,7 +32,7 @@ fn lead(j: usize, count: usize, out: &mut [u8])
     }
 }
 
-// The polynomial of a matrix within limits, worked out in a system of rows that has room for its conditions.
+// The polynomial of a matrix within limits, worked out in a system of zeros that has room for its conditions.
 fn polynomial_in(
     system: &mut [[u8; WIDTH]],
     matrix: &[[u8; SYMBOLS]; POSITIONS],
@@ -40,12 +43,12 @@ fn polynomial_in(
     out: &mut [u8],
 ) -> usize
     requires { ⌜ Given sixteen (now matrix) v d count cost (now out) ⌝ }
-    requires { ⌜ System sixteen (now system) × (cost ≤ length (now system)) ⌝ }
+    requires { ⌜ Clear 0 0 (now system) × (cost ≤ length (now system)) ⌝ }
     ensures { λ r. ⌜ Found sixteen (now (matrix .entry)) v d (now (out .entry)) r (now (out .exit)) ⌝ }
 {
     let table = field::inside::products();
     let blocks = cost / BLOCK + 1;
-    let rows = conditions::matrix_rows(system, &table, matrix, v, d, count);
+    let rows = conditions::matrix_rows(system, &table, matrix, v, d, blocks);
     let leading = elimination::first_dependent(system, &table, rows, blocks);
     lead(leading, count, out);
     elimination::solve(system, &table, leading, out);
@@ -65,6 +68,22 @@ fn small_polynomial(
     ensures { λ r. ⌜ Found sixteen (now (matrix .entry)) v d (now (out .entry)) r (now (out .exit)) ⌝ }
 {
     let mut system = [[0u8; WIDTH]; BLOCK];
+    polynomial_in(&mut system, matrix, v, d, count, cost, out)
+}
+
+// In a system of some blocks of rows.
+fn middle_polynomial(
+    matrix: &[[u8; SYMBOLS]; POSITIONS],
+    v: usize,
+    d: usize,
+    count: usize,
+    cost: usize,
+    out: &mut [u8],
+) -> usize
+    requires { ⌜ Given sixteen (now matrix) v d count cost (now out) × (cost ≤ middleRows) ⌝ }
+    ensures { λ r. ⌜ Found sixteen (now (matrix .entry)) v d (now (out .entry)) r (now (out .exit)) ⌝ }
+{
+    let mut system = [[0u8; WIDTH]; MIDDLE_ROWS];
     polynomial_in(&mut system, matrix, v, d, count, cost, out)
 }
 
@@ -99,6 +118,9 @@ pub fn polynomial(
     let cost = weights::inside::cost(matrix);
     if cost <= BLOCK {
         return small_polynomial(matrix, v, d, count, cost, out);
+    }
+    if cost <= MIDDLE_ROWS {
+        return middle_polynomial(matrix, v, d, count, cost, out);
     }
     large_polynomial(matrix, v, d, count, cost, out)
 }

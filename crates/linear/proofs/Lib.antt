@@ -1,7 +1,6 @@
 pub mod Combinations
 pub mod Triangle
 pub mod Symbols
-pub mod Narrow
 pub mod Columns
 pub mod Listed
 pub mod Back

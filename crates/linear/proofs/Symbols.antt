@@ -9,15 +9,12 @@ use native.Mathlib.Decide.{ℕ-discrete, decLt}
 use native.Mathlib.Omega.{arith}
 use lib.ListN.{getD}
 use Rattle.algebra.proofs.Elements.{number-injective, symbol-injective, zero-element, zero-symbol, one-symbol, plus-symbol, times-symbol, element-zero, element-one, element-plus, element-times, plus-none, none-times}
-use Rattle.algebra.proofs.Linear.{dot-equal, carry-dot}
 use Rattle.algebra.proofs.Solutions.{number-dot}
-use Rattle.algebra.specs.Dot.{dot}
 use Rattle.algebra.proofs.RingLaws.{plus-self, zero-times, equal-of-sum}
 use Rattle.algebra.specs.FieldOf.{FieldOf}
 use Rattle.algebra.specs.Grid.{entryOf}
 use Rattle.definitions.specs.Code.{Symbols}
 use Rattle.definitions.specs.Field.{Ops, Code, numbers}
-use Rattle.linear.proofs.Combinations.{dot-ends}
 use Rattle.linear.proofs.Triangle.{Sol, TriangleColumns, Stepped, solves-after, solves-before, triangle-more, back-solves, none-before, carry-behind, behind-none, behind-more, behind-equal}
 use Rattle.linear.specs.Rows.{SymbolRows, Solves, SameSolutions, Triangle, Reduced, behind, Back}
 
@@ -101,23 +98,6 @@ module _ (C : Code) (F : FieldOf C) where
     numbers-solve : (m : List (List ℕ)) → SymbolRows C m → (q : List ℕ) → Symbols C q → Sol G rows w (grid m) (vector q) → Solves C rows w m q
     unfolding grid vector
     numbers-solve m sm q sq s r h = sym (number-dot C F (entryOf m r) (λ k. getD q k 0) (sm r) sq w) ∙ ap (F .number .φ) (s r h) ∙ F .number .φ-zero
-
-    -- a vector that ends before a column needs no more columns than that, and no more of the rows
-    pub solves-narrow : (n : ℕ) (m b : List (List ℕ)) → SymbolRows C m → SymbolRows C b → (q : List ℕ) → Symbols C q → n ≤ w
-        → ((k : ℕ) → n ≤ k → k < w → getD q k 0 ≡ 0) → ((r k : ℕ) → r < rows → k < n → entryOf b r k ≡ entryOf m r k)
-        → (Solves C rows w m q → Solves C rows n b q) × (Solves C rows n b q → Solves C rows w m q)
-    unfolding grid vector
-    solves-narrow n m b sm sb q sq l ends same = (λ s r h. sym (narrow r h) ∙ s r h, λ s r h. narrow r h ∙ s r h)
-      where
-        narrow : (r : ℕ) → r < rows → dot N w (entryOf m r) (λ k. getD q k 0) ≡ dot N n (entryOf b r) (λ k. getD q k 0)
-        narrow r h =
-            sym (number-dot C F (entryOf m r) (λ k. getD q k 0) (sm r) sq w)
-            ∙ ap (F .number .φ) (dot-ends (F .ring) w n (grid m r) (vector q) l (λ k g f. ap (F .element) (ends k g f) ∙ element-zero C F))
-            ∙ carry-dot G N (F .number) n (grid m r) (vector q)
-            ∙ dot-equal N n _ (entryOf b r) _ (λ k. getD q k 0) (λ k g. entry-number r k ∙ sym (same r k h g)) (λ k g. F .number-element (getD q k 0) (sq k))
-          where
-            entry-number : (r k : ℕ) → F .number .φ (grid m r k) ≡ entryOf m r k
-            entry-number r k = F .number-element (entryOf m r k) (sm r k)
 
     -- ---- a step
 

@@ -1,4 +1,3 @@
-pub mod Degrees
 pub mod Listing
 pub mod Found
 pub mod Answers

@@ -7,9 +7,9 @@ ghost use Rattle.definitions.specs.Limits.{greatestLimit, greatestRows};
 ghost use Rattle.list.specs.Within.{Loaded, Rooted, RootsOf, ListsOf, PricedOf};
 ghost use Rattle.refusals.specs.Counted.{toldCounted};
 ghost use Rattle.weights.specs.Matrix.{matrixCost};
-use blocks::WIDTH;
 use refusals::Counted;
 use refusals::Refusal;
+use refusals::limits::COEFFICIENT_ROOM;
 use refusals::limits::GREATEST_ROWS;
 use refusals::limits::POSITIONS;
 use refusals::limits::SYMBOLS;
@@ -58,7 +58,7 @@ pub fn list_within(
     let v = k - 1;
     let bound = bound::bound(v, cost);
     let count = bound::count(v, bound);
-    let mut polynomial = [0u8; WIDTH];
+    let mut polynomial = [0u8; COEFFICIENT_ROOM];
     interpolation::inside::polynomial(matrix, v, bound, count, &mut polynomial);
     listed(
         matrix,

@@ -1,13 +1,14 @@
 -- The loop puts the rows of one symbol more behind those of the symbols below it.
 use mathlib.Core.List.{flatMap}
 use mathlib.Core.Path.{_≡_, refl, sym, _∙_, ap, subst}
-use Prim.Native.Nat.{ℕ, _+_, _-_, _≤_}
+use Prim.Native.Nat.{ℕ, _+_, _-_, _*_, _≤_}
 use native.Mathlib.Omega.{arith}
 use borrow.Author.Needs.{needs}
 use lib.ListN.{length, getD}
 use lib.Seq.{sets}
-use Rattle.conditions.proofs.Placed.{joined-none, none-counted, joined-more, count-more}
+use Rattle.conditions.proofs.Placed.{joined-none, none-counted, joined-more, count-more, clear-behind}
 use Rattle.conditions.specs.Masks.{maskedPoint, pointAt}
+use Rattle.blocks.specs.Row.{block}
 use Rattle.definitions.proofs.Joined.{joined-room}
 use Rattle.definitions.specs.Field.{sixteen}
 use Rattle.definitions.specs.Tools.{below}
@@ -15,17 +16,17 @@ use Rattle.conditions.proofs.column_rows.Statement.{statement}
 use Rattle.conditions.proofs.column_rows.Tie as tie
 
 abbrev Inv-loop : tie.InvT-loop
-Inv-loop rows₀ at table px es column n count next₀ b₀ rows next b =
-    (b ≤ sixteen .symbols) × (length rows ≡ length rows₀) × (next ≡ at + length (flatMap (pointAt sixteen px n count es column) (below b)))
-    × (rows ≡ sets rows₀ at (flatMap (pointAt sixteen px n count es column) (below b)))
+Inv-loop rows₀ at table px es column n blocks next₀ b₀ rows next b =
+    (b ≤ sixteen .symbols) × (length rows ≡ length rows₀) × (next ≡ at + length (flatMap (pointAt sixteen px n blocks es column) (below b)))
+    × (rows ≡ sets rows₀ at (flatMap (pointAt sixteen px n blocks es column) (below b)))
 
 abbrev μ-loop : tie.MeasureT-loop
-μ-loop rows₀ at table px es column n count next₀ b₀ rows next b = sixteen .symbols - b
+μ-loop rows₀ at table px es column n blocks next₀ b₀ rows next b = sixteen .symbols - b
 
 loop-holds : tie.Need-loop-holds Inv-loop μ-loop
 loop-holds c =
     let a = c .args in
-    let f = pointAt sixteen (a .px .now) (a .n) (a .count) (a .es .now) (a .column .now) in
+    let f = pointAt sixteen (a .px .now) (a .n) (a .blocks) (a .es .now) (a .column .now) in
     (omega arith, refl, none-counted f (a .rows .now) (a .at), joined-none f (a .rows .now) (a .at))
 
 -- the multiplicity that is read is the symbol's
@@ -39,14 +40,19 @@ point-rows-requires c κs =
     let l = w .before .before in
     let s = l .before in
     let a = s .args in
-    let fits = joined-room (pointAt sixteen (a .px .now) (a .n) (a .count) (a .es .now) (a .column .now)) (sixteen .symbols) (l .loop .b) (omega arith) in
-    let room : l .loop .next + length (pointAt sixteen (a .px .now) (a .n) (a .count) (a .es .now) (a .column .now) (l .loop .b)) ≤ length (l .loop .rows) = omega arith in (
+    let fits = joined-room (pointAt sixteen (a .px .now) (a .n) (a .blocks) (a .es .now) (a .column .now)) (sixteen .symbols) (l .loop .b) (omega arith) in
+    let clear = clear-behind (a .rows .now) (l .loop .rows) (flatMap (pointAt sixteen (a .px .now) (a .n) (a .blocks) (a .es .now) (a .column .now)) (below (l .loop .b))) (a .at) (a .blocks * block)
+    (l .loop .next) (s .pre .1 .1 .1 .1) (l .loop .inv .3) (l .loop .inv .2) in
+    let room : l .loop .next + length (pointAt sixteen (a .px .now) (a .n) (a .blocks) (a .es .now) (a .column .now) (l .loop .b)) ≤ length (l .loop .rows) = omega arith in (
       s .pre .0,
       (
         s .pre .1 .0,
         (
           (omega arith, omega arith, omega arith),
-          subst (λ (m : ℕ). l .loop .next + length (maskedPoint sixteen (a .px .now) (a .n) (a .count) (a .es .now) (l .loop .b) m) ≤ length (l .loop .rows)) (sym (multiplicity w)) room,
+          (
+            subst (λ (m : ℕ). l .loop .next + length (maskedPoint sixteen (a .px .now) (a .n) (a .blocks) (a .es .now) (l .loop .b) m) ≤ length (l .loop .rows)) (sym (multiplicity w)) room,
+            clear,
+          ),
         ),
       ),
     )
@@ -57,15 +63,15 @@ loop-again c =
     let w = p .before .before .before in
     let l = w .before .before in
     let a = l .before .args in
-    let f = pointAt sixteen (a .px .now) (a .n) (a .count) (a .es .now) (a .column .now) in (
+    let f = pointAt sixteen (a .px .now) (a .n) (a .blocks) (a .es .now) (a .column .now) in (
       omega arith,
       search needs,
       p .point-rows .ensures .0
-          ∙ ap (λ (m : ℕ). l .loop .next + length (maskedPoint sixteen (a .px .now) (a .n) (a .count) (a .es .now) (l .loop .b) m)) (multiplicity w)
+          ∙ ap (λ (m : ℕ). l .loop .next + length (maskedPoint sixteen (a .px .now) (a .n) (a .blocks) (a .es .now) (l .loop .b) m)) (multiplicity w)
           ∙ count-more f (a .rows .now) (a .at) (l .loop .b) (l .loop .next) (l .loop .inv .2),
       joined-more f (a .rows .now) (a .at) (l .loop .rows) (p .point-rows .last .0) (l .loop .b) (l .loop .next) (l .loop .inv .3) (l .loop .inv .2)
           (p .point-rows .ensures .1
-          ∙ ap (λ (m : ℕ). sets (l .loop .rows) (l .loop .next) (maskedPoint sixteen (a .px .now) (a .n) (a .count) (a .es .now) (l .loop .b) m)) (multiplicity w)),
+          ∙ ap (λ (m : ℕ). sets (l .loop .rows) (l .loop .next) (maskedPoint sixteen (a .px .now) (a .n) (a .blocks) (a .es .now) (l .loop .b) m)) (multiplicity w)),
     )
 
 returns : tie.Need-returns Inv-loop μ-loop

@@ -1,7 +1,7 @@
 -- The loop puts the rows of one position more behind those of the positions before it, and holds the next point.
 use mathlib.Core.List.{List, [], flatMap}
 use mathlib.Core.Path.{_≡_, refl, sym, _∙_, ap, ap₂, subst}
-use Prim.Native.Nat.{ℕ, _+_, _-_, _/_, _≤_, _<_}
+use Prim.Native.Nat.{ℕ, _+_, _-_, _*_, _/_, _≤_, _<_}
 use native.Mathlib.Nat.{div-le-self}
 use native.Mathlib.Numerals.{add-one}
 use native.Mathlib.Omega.{arith}
@@ -10,90 +10,96 @@ use lib.ListN.{length, getD}
 use lib.Seq.{sets}
 use Rattle.algebra.proofs.Numbers.{point-symbol}
 use Rattle.conditions.proofs.Masks.{powers-symbols, exponents-places}
-use Rattle.conditions.proofs.Placed.{joined-none, none-counted, joined-more, count-more}
+use Rattle.conditions.proofs.Placed.{joined-none, none-counted, joined-more, count-more, clear-behind}
 use Rattle.conditions.specs.Masks.{Places, powersRow, maskedColumn, columnAt, maskedRows}
 use Rattle.definitions.proofs.Codeword.{power-zero, power-suc}
 use Rattle.definitions.proofs.Joined.{joined-room}
 use Rattle.definitions.specs.Code.{Symbols, point}
-use Rattle.definitions.specs.Field.{numbers, sixteen}
+use Rattle.definitions.specs.Field.{numbers, power, sixteen}
 use Rattle.definitions.specs.Tools.{below}
 use Rattle.instances.proofs.Codes.{sixteen-field}
-use Rattle.blocks.specs.Row.{width}
+use Rattle.blocks.proofs.Filled.{filled-zeros, zeros-from}
+use Rattle.blocks.specs.Row.{width, block, ZeroFrom}
 use Rattle.conditions.proofs.matrix_rows.Statement.{statement}
 use Rattle.conditions.proofs.matrix_rows.Tie as tie
 
 abbrev Inv-loop : tie.InvT-loop
-Inv-loop rows₀ table matrix v d count es next₀ a₀ i₀ rows next a i =
-    (i ≤ sixteen .positions) × (length rows ≡ length rows₀) × (a ≡ point sixteen i) × (next ≡ 0 + length (flatMap (columnAt sixteen v d count matrix) (below i)))
-    × (rows ≡ sets rows₀ 0 (flatMap (columnAt sixteen v d count matrix) (below i)))
+Inv-loop rows₀ table matrix v d blocks es px₀ next₀ a₀ i₀ rows px next a i =
+    (i ≤ sixteen .positions) × (length rows ≡ length rows₀) × (a ≡ point sixteen i) × (next ≡ 0 + length (flatMap (columnAt sixteen v d blocks matrix) (below i)))
+    × (rows ≡ sets rows₀ 0 (flatMap (columnAt sixteen v d blocks matrix) (below i))) × ZeroFrom (d + 1) px
 
 abbrev μ-loop : tie.MeasureT-loop
-μ-loop rows₀ table matrix v d count es next₀ a₀ i₀ rows next a i = sixteen .positions - i
+μ-loop rows₀ table matrix v d blocks es px₀ next₀ a₀ i₀ rows px next a i = sixteen .positions - i
 
 loop-holds : tie.Need-loop-holds Inv-loop μ-loop
 loop-holds c =
     let a = c .before .args in
-    let f = columnAt sixteen (a .v) (a .d) (a .count) (a .matrix .now) in
-    (omega arith, refl, sym (power-zero (numbers sixteen) 2), none-counted f (a .rows .now) 0, joined-none f (a .rows .now) 0)
+    let f = columnAt sixteen (a .v) (a .d) (a .blocks) (a .matrix .now) in
+    (omega arith, refl, sym (power-zero (numbers sixteen) 2), none-counted f (a .rows .now) 0, joined-none f (a .rows .now) 0, zeros-from (a .d + 1))
 
 -- the point is a symbol
 symbol : (c : tie.At-loop Inv-loop μ-loop) → c .loop .a < sixteen .symbols
 symbol c = subst (λ (x : ℕ). x < sixteen .symbols) (sym (c .loop .inv .2)) (point-symbol sixteen sixteen-field (c .loop .i))
 
 powers-requires : tie.Need-powers-requires Inv-loop μ-loop
-powers-requires c κs = let h = symbol (c .before) in (c .before .before .before .pre .0, (h, omega arith))
+powers-requires c κs =
+    let l = c .before .before in
+    (l .before .before .pre .0, (symbol l, omega arith, l .loop .inv .5))
 
 -- the powers of the position's point
-of-x : (c : tie.After-powers Inv-loop μ-loop) → (let l = c .before .before in c .powers .result ≡ powersRow sixteen (l .before .before .args .d + 1) (point sixteen (l .loop .i)))
-of-x c = let l = c .before .before in c .powers .ensures ∙ ap (powersRow sixteen (l .before .before .args .d + 1)) (l .loop .inv .2)
+of-x : (c : tie.After-powers Inv-loop μ-loop)
+    → (let l = c .before .before .before in c .powers .last .1 .1 .1 .0 ≡ powersRow sixteen (l .before .before .args .d + 1) (point sixteen (l .loop .i)))
+of-x c = let l = c .before .before .before in c .powers .ensures ∙ ap (powersRow sixteen (l .before .before .args .d + 1)) (l .loop .inv .2)
 
 -- what is put are the rows of the position
 is-column : (c : tie.After-powers Inv-loop μ-loop)
-    → (let l = c .before .before in let a = l .before .before .args in
-    maskedColumn sixteen (c .powers .result) (a .d / a .v + 1) (a .count) (l .before .exponents .result) (getD (a .matrix .now) (l .loop .i) [])
-    ≡ columnAt sixteen (a .v) (a .d) (a .count) (a .matrix .now) (l .loop .i))
+    → (let l = c .before .before .before in let a = l .before .before .args in
+    maskedColumn sixteen (c .powers .last .1 .1 .1 .0) (a .d / a .v + 1) (a .blocks) (l .before .exponents .result) (getD (a .matrix .now) (l .loop .i) [])
+    ≡ columnAt sixteen (a .v) (a .d) (a .blocks) (a .matrix .now) (l .loop .i))
 is-column c =
-    let l = c .before .before in
+    let l = c .before .before .before in
     let a = l .before .before .args in
-    ap₂ (λ (px : List ℕ) (es : List (List ℕ)). maskedColumn sixteen px (a .d / a .v + 1) (a .count) es (getD (a .matrix .now) (l .loop .i) [])) (of-x c) (l .before .exponents .ensures)
+    ap₂ (λ (px : List ℕ) (es : List (List ℕ)). maskedColumn sixteen px (a .d / a .v + 1) (a .blocks) es (getD (a .matrix .now) (l .loop .i) [])) (of-x c) (l .before .exponents .ensures)
 
 -- the powers of y fit into a row
 few : (c : tie.Start Inv-loop μ-loop) → c .args .d / c .args .v + 1 ≤ width
 few c = let q = div-le-self (c .args .d) (c .args .v) in omega arith
 
 add-column-rows : tie.Need-add-column-rows Inv-loop μ-loop
-add-column-rows c = let h = few (c .before .before .before .before .before .before .before .before) in omega arith
+add-column-rows c = let h = few (c .before .before .before .before .before .before .before .before .before) in omega arith
 
 column-rows-requires : tie.Need-column-rows-requires Inv-loop μ-loop
 column-rows-requires c κs =
     let p = c .before .before .before .before in
-    let l = p .before .before in
+    let l = p .before .before .before in
     let s = l .before .before in
     let a = s .args in
-    let fits = joined-room (columnAt sixteen (a .v) (a .d) (a .count) (a .matrix .now)) (sixteen .positions) (l .loop .i) (omega arith) in
-    let room : l .loop .next + length (columnAt sixteen (a .v) (a .d) (a .count) (a .matrix .now) (l .loop .i)) ≤ length (l .loop .rows) = omega arith in (
+    let fits = joined-room (columnAt sixteen (a .v) (a .d) (a .blocks) (a .matrix .now)) (sixteen .positions) (l .loop .i) (omega arith) in
+    let clear = clear-behind (a .rows .now) (l .loop .rows) (flatMap (columnAt sixteen (a .v) (a .d) (a .blocks) (a .matrix .now)) (below (l .loop .i))) 0 (a .blocks * block) (l .loop .next)
+    (s .pre .1 .1 .1) (l .loop .inv .4) (l .loop .inv .3) in
+    let room : l .loop .next + length (columnAt sixteen (a .v) (a .d) (a .blocks) (a .matrix .now) (l .loop .i)) ≤ length (l .loop .rows) = omega arith in (
       s .pre .0,
       (
         (
           subst (Symbols sixteen) (sym (of-x p)) (powers-symbols sixteen sixteen-field (a .d + 1) (point sixteen (l .loop .i)) (point-symbol sixteen sixteen-field (l .loop .i))),
-          subst Places (sym (l .before .exponents .ensures)) (exponents-places (a .v) (omega arith) (a .count) (omega arith)),
+          subst Places (sym (l .before .exponents .ensures)) (exponents-places (a .v) (omega arith) (a .blocks * block) (omega arith)),
         ),
-        ((few s, omega arith), subst (λ (rows : List (List ℕ)). l .loop .next + length rows ≤ length (l .loop .rows)) (sym (is-column p)) room),
+        ((few s, omega arith), (subst (λ (rows : List (List ℕ)). l .loop .next + length rows ≤ length (l .loop .rows)) (sym (is-column p)) room, clear)),
       ),
     )
 
 look-requires : tie.Need-look-requires Inv-loop μ-loop
 look-requires c κs =
-    let l = c .before .before .before .before .before .before .before .before in
+    let l = c .before .before .before .before .before .before .before .before .before in
     (l .before .before .pre .0, (omega arith, symbol l))
 
 loop-again : tie.Need-loop-again Inv-loop μ-loop
 loop-again c =
     let m = c .before .before in
     let p = m .before .before .before .before .before in
-    let l = p .before .before in
+    let l = p .before .before .before in
     let a = l .before .before .args in
-    let f = columnAt sixteen (a .v) (a .d) (a .count) (a .matrix .now) in (
+    let f = columnAt sixteen (a .v) (a .d) (a .blocks) (a .matrix .now) in (
       omega arith,
       search needs,
       c .look .ensures ∙ ap (sixteen .times 2) (l .loop .inv .2) ∙ sym (power-suc (numbers sixteen) 2 (l .loop .i)) ∙ ap (point sixteen) (sym (add-one (l .loop .i))),
@@ -101,6 +107,7 @@ loop-again c =
           ∙ count-more f (a .rows .now) 0 (l .loop .i) (l .loop .next) (l .loop .inv .3),
       joined-more f (a .rows .now) 0 (l .loop .rows) (m .column-rows .last .0) (l .loop .i) (l .loop .next) (l .loop .inv .4) (l .loop .inv .3)
           (m .column-rows .ensures .1 ∙ ap (sets (l .loop .rows) (l .loop .next)) (is-column p)),
+      subst (ZeroFrom (a .d + 1)) (sym (of-x p)) (filled-zeros (power (numbers sixteen) (point sixteen (l .loop .i))) (a .d + 1) (omega arith)),
     )
 
 returns : tie.Need-returns Inv-loop μ-loop
@@ -108,7 +115,7 @@ returns c =
     let l = c .before in
     let a = l .before .before .args in
     let e : l .loop .i ≡ sixteen .positions = omega arith in
-    let n : l .loop .next ≡ 0 + length (maskedRows sixteen (a .v) (a .d) (a .count) (a .matrix .now)) = rw e at (l .loop .inv .3) in
+    let n : l .loop .next ≡ 0 + length (maskedRows sixteen (a .v) (a .d) (a .blocks) (a .matrix .now)) = rw e at (l .loop .inv .3) in
     (omega arith, rw e at (l .loop .inv .4))
 
 pub matrix-rows-spec : {M : Type 1} → statement M
@@ -117,6 +124,7 @@ matrix-rows-spec =
     (tie.spec
     Inv-loop
     μ-loop
+    (λ c. search needs)
     (λ c κs. search needs)
     loop-holds
     (λ c. search needs)

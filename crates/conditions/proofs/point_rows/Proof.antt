@@ -1,13 +1,15 @@
 -- The values at the point, and the rows of its orders; a point without multiplicity has none.
 use mathlib.Core.List.{List}
 use mathlib.Core.Path.{_≡_, sym, _∙_, ap, subst}
-use Prim.Native.Nat.{ℕ, _+_, _≤_}
+use Prim.Native.Nat.{ℕ, _+_, _*_, _≤_}
 use native.Mathlib.Omega.{arith}
 use borrow.Author.Needs.{needs}
 use lib.ListN.{length}
 use lib.Seq.{sets}
 use Rattle.conditions.proofs.Masks.{orders-none, powers-symbols, base-symbol}
 use Rattle.conditions.specs.Masks.{baseAt, powersRow, valuesRow, keptOrders}
+use Rattle.blocks.proofs.Filled.{zeros-from}
+use Rattle.blocks.specs.Row.{block}
 use Rattle.definitions.specs.Code.{Symbols}
 use Rattle.definitions.specs.Field.{sixteen}
 use Rattle.instances.proofs.Codes.{sixteen-field}
@@ -17,50 +19,56 @@ use Rattle.conditions.proofs.point_rows.Tie as tie
 returns : tie.Need-returns
 returns c =
     let a = c .before .args in
-    let none = orders-none (valuesRow sixteen (a .count) (a .px .now) (powersRow sixteen (a .n) (baseAt (a .b))) (a .es .now)) (a .es .now) (a .b) (a .m) (c .if1 .taken) in
+    let none = orders-none (a .blocks) (valuesRow sixteen (a .blocks * block) (a .px .now) (powersRow sixteen (a .n) (baseAt (a .b))) (a .es .now)) (a .es .now) (a .b) (a .m) (c .if1 .taken) in
     (omega (arith, ap length none), ap (sets (a .rows .now) (a .at)) (sym none))
 
 powers-requires : tie.Need-powers-requires
 powers-requires c κs =
-    let s = c .before .before in
+    let s = c .before .before .before in
     let h = base-symbol sixteen sixteen-field (s .args .b) (omega arith) in
-    let e = c .base-at .ensures in
-    (s .pre .0, (omega arith, omega arith))
+    let e = c .before .base-at .ensures in
+    (s .pre .0, (omega arith, omega arith, zeros-from (s .args .n)))
 
 -- the powers of y
-of-y : (c : tie.After-powers) → (let a = c .before .before .before .args in c .powers .result ≡ powersRow sixteen (a .n) (baseAt (a .b)))
-of-y c = c .powers .ensures ∙ ap (powersRow sixteen (c .before .before .before .args .n)) (c .before .base-at .ensures)
+of-y : (c : tie.After-powers) → (let a = c .before .before .before .before .args in c .powers .last .1 .1 .1 .0 ≡ powersRow sixteen (a .n) (baseAt (a .b)))
+of-y c = c .powers .ensures ∙ ap (powersRow sixteen (c .before .before .before .before .args .n)) (c .before .before .base-at .ensures)
 
 values-requires : tie.Need-values-requires
 values-requires c κs =
-    let p = c .before in
-    let s = p .before .before .before in
+    let p = c .before .before in
+    let s = p .before .before .before .before in
     let a = s .args in
     let y = powers-symbols sixteen sixteen-field (a .n) (baseAt (a .b)) (base-symbol sixteen sixteen-field (a .b) (omega arith)) in
-    (s .pre .0, ((s .pre .1 .0 .0, subst (Symbols sixteen) (sym (of-y p)) y), (s .pre .1 .0 .1, omega arith)))
+    (s .pre .0, ((s .pre .1 .0 .0, subst (Symbols sixteen) (sym (of-y p)) y), (s .pre .1 .0 .1, omega arith, zeros-from (a .blocks * block))))
+
+abbrev entry : tie.After-values → tie.Start
+entry c = c .before .before .before .before .before .before .before
 
 -- the values at the point
 at-point : (c : tie.After-values)
-    → (let a = c .before .before .before .before .before .args in c .values .result ≡ valuesRow sixteen (a .count) (a .px .now) (powersRow sixteen (a .n) (baseAt (a .b))) (a .es .now))
+    → (let a = entry c .args in c .values .last .1 .1 .1 .1 .1 .0 ≡ valuesRow sixteen (a .blocks * block) (a .px .now) (powersRow sixteen (a .n) (baseAt (a .b))) (a .es .now))
 at-point c =
-    let p = c .before .before in
-    let a = p .before .before .before .args in
-    c .values .ensures ∙ ap (λ (py : List ℕ). valuesRow sixteen (a .count) (a .px .now) py (a .es .now)) (of-y p)
+    let a = entry c .args in
+    c .values .ensures ∙ ap (λ (py : List ℕ). valuesRow sixteen (a .blocks * block) (a .px .now) py (a .es .now)) (of-y (c .before .before .before))
 
 orders-rows-requires : tie.Need-orders-rows-requires
 orders-rows-requires c κs =
     let v = c .before .before in
-    let s = v .before .before .before .before .before in
+    let s = entry v in
     let a = s .args in
-    subst (λ (row : List ℕ). a .at + length (keptOrders row (a .es .now) (a .b) (a .m)) ≤ length (a .rows .now)) (sym (at-point v)) (s .pre .1 .1 .1)
+    let room = s .pre .1 .1 .1 in (
+      subst (λ (row : List ℕ). a .at + length (keptOrders (a .blocks) row (a .es .now) (a .b) (a .m)) ≤ length (a .rows .now)) (sym (at-point v)) (room .0),
+      omega arith,
+      room .1,
+    )
 
 returns-2 : tie.Need-returns-2
 returns-2 c =
     let o = c .before in
     let v = o .before .before .before in
-    let a = v .before .before .before .before .before .args in (
-      o .orders-rows .ensures .0 ∙ ap (λ (row : List ℕ). a .at + length (keptOrders row (a .es .now) (a .b) (a .m))) (at-point v),
-      o .orders-rows .ensures .1 ∙ ap (λ (row : List ℕ). sets (a .rows .now) (a .at) (keptOrders row (a .es .now) (a .b) (a .m))) (at-point v),
+    let a = entry v .args in (
+      o .orders-rows .ensures .0 ∙ ap (λ (row : List ℕ). a .at + length (keptOrders (a .blocks) row (a .es .now) (a .b) (a .m))) (at-point v),
+      o .orders-rows .ensures .1 ∙ ap (λ (row : List ℕ). sets (a .rows .now) (a .at) (keptOrders (a .blocks) row (a .es .now) (a .b) (a .m))) (at-point v),
     )
 
 pub point-rows-spec : {M : Type 1} → statement M
@@ -70,6 +78,7 @@ point-rows-spec =
     returns
     (λ c κs. search needs)
     powers-requires
+    (λ c. search needs)
     values-requires
     orders-rows-requires
     (λ c. search needs)

@@ -8,19 +8,22 @@ use Rattle.algebra.proofs.Numbers.{power-symbol}
 use Rattle.definitions.proofs.Codeword.{power-zero, power-suc}
 use Rattle.definitions.specs.Field.{numbers, sixteen, power}
 use Rattle.instances.proofs.Codes.{sixteen-field}
-use Rattle.blocks.proofs.Filled.{filled-none, filled-more}
-use Rattle.blocks.specs.Row.{filled}
+use Rattle.blocks.proofs.Blocks.{front-none, front-more}
+use Rattle.blocks.proofs.Filled.{filled-is, zeros-kept}
+use Rattle.blocks.specs.Row.{ZeroFrom, Front}
 use Rattle.conditions.proofs.powers.Statement.{statement}
 use Rattle.conditions.proofs.powers.Tie as tie
 
 abbrev Inv-loop : tie.InvT-loop
-Inv-loop table x n row₀ next₀ e₀ row next e = (e ≤ n) × (next ≡ power (numbers sixteen) x e) × (row ≡ filled e (λ (j : ℕ). power (numbers sixteen) x j))
+Inv-loop table x n row₀ next₀ e₀ row next e = (e ≤ n) × (next ≡ power (numbers sixteen) x e) × ZeroFrom n row × Front e (power (numbers sixteen) x) row
 
 abbrev μ-loop : tie.MeasureT-loop
 μ-loop table x n row₀ next₀ e₀ row next e = n - e
 
 loop-holds : tie.Need-loop-holds Inv-loop μ-loop
-loop-holds c = (omega arith, sym (power-zero (numbers sixteen) (c .args .x)), filled-none (λ j. power (numbers sixteen) (c .args .x) j))
+loop-holds c =
+    let a = c .args in
+    (omega arith, sym (power-zero (numbers sixteen) (a .x)), c .pre .1 .2, front-none (power (numbers sixteen) (a .x)) (a .row .now))
 
 look-requires : tie.Need-look-requires Inv-loop μ-loop
 look-requires c κs =
@@ -31,18 +34,20 @@ look-requires c κs =
 loop-again : tie.Need-loop-again Inv-loop μ-loop
 loop-again c =
     let l = c .before .before in
-    let x = l .before .args .x in (
+    let a = l .before .args in (
       omega arith,
-      c .look .ensures ∙ ap (sixteen .times x) (l .loop .inv .1) ∙ sym (power-suc (numbers sixteen) x (l .loop .e))
-          ∙ ap (power (numbers sixteen) x) (sym (add-one (l .loop .e))),
-      filled-more (λ j. power (numbers sixteen) x j) (l .loop .row) (l .loop .e) (l .loop .next) (omega arith) (l .loop .inv .2) (l .loop .inv .1),
+      c .look .ensures ∙ ap (sixteen .times (a .x)) (l .loop .inv .1) ∙ sym (power-suc (numbers sixteen) (a .x) (l .loop .e))
+          ∙ ap (power (numbers sixteen) (a .x)) (sym (add-one (l .loop .e))),
+      zeros-kept (a .n) (l .loop .e) (l .loop .next) (l .loop .row) (omega arith) (l .loop .inv .2),
+      front-more (l .loop .e) (l .loop .next) (power (numbers sixteen) (a .x)) (l .loop .row) (let w = l .loop .inv .2 .wide in omega arith) (l .loop .inv .3) (l .loop .inv .1),
     )
 
 returns : tie.Need-returns Inv-loop μ-loop
 returns c =
     let l = c .before in
-    let e : l .loop .e ≡ l .before .args .n = omega arith in
-    rw e at (l .loop .inv .2)
+    let a = l .before .args in
+    let e : l .loop .e ≡ a .n = omega arith in
+    filled-is (power (numbers sixteen) (a .x)) (a .n) (l .loop .row) (omega arith) (l .loop .inv .2) (rw e at (l .loop .inv .3))
 
 pub powers-spec : {M : Type 1} → statement M
 powers-spec =

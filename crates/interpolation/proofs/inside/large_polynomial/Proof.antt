@@ -1,8 +1,6 @@
 -- The cost is within the greatest limit, and a system of zeros of so many rows has room for it.
-use Rattle.definitions.specs.Field.{sixteen}
 use Rattle.definitions.specs.Limits.{greatestLimit}
-use Rattle.instances.proofs.Codes.{sixteen-field}
-use Rattle.interpolation.proofs.Empty.{empty-system}
+use Rattle.interpolation.proofs.Empty.{empty-clear}
 use borrow.Author.Needs.{needs}
 use Rattle.interpolation.proofs.inside.large_polynomial.Statement.{statement}
 use Rattle.interpolation.proofs.inside.large_polynomial.Tie as tie
@@ -10,7 +8,7 @@ use Rattle.interpolation.proofs.inside.large_polynomial.Tie as tie
 polynomial-in-requires : tie.Need-polynomial-in-requires
 polynomial-in-requires c κs =
     let g = c .before .before .before .pre in
-    (g, (empty-system sixteen sixteen-field greatestLimit, g .cheap))
+    (g, (empty-clear greatestLimit, g .cheap))
 
 pub large-polynomial-spec : {M : Type 1} → statement M
 large-polynomial-spec =

@@ -1,12 +1,13 @@
 -- The conditions are a system; its first column that depends on those before it, solved for, is the polynomial.
-use Prim.Native.Nat.{_+_, _/_, _≤_, _<_}
+use Prim.Native.Nat.{_*_, _≤_, _<_}
 use native.Mathlib.Omega.{arith}
 use lib.ListN.{length}
 use Rattle.definitions.specs.Field.{sixteen}
 use Rattle.elimination.specs.System.{System, Within}
 use Rattle.instances.proofs.Codes.{sixteen-field}
-use Rattle.interpolation.proofs.Coefficients.{degree-small, row-fits, rows-priced, more, start-system, start-within, polynomial-found}
-use Rattle.blocks.specs.Row.{block, width}
+use Rattle.interpolation.proofs.Coefficients.{degree-small, blocks-fit, rows-priced, more, start-system, start-within, polynomial-found}
+use Rattle.interpolation.proofs.Empty.{clear-from, clear-system}
+use Rattle.blocks.specs.Row.{block, blocksFor, width}
 use borrow.Author.Needs.{needs}
 use Rattle.interpolation.proofs.inside.polynomial_in.Statement.{statement}
 use Rattle.interpolation.proofs.inside.polynomial_in.Tie as tie
@@ -26,9 +27,9 @@ matrix-rows-requires c κs =
         (
           g .weighted,
           degree-small sixteen (a .matrix .now) (a .v) (a .d) (a .count) (a .cost) (a .out .now) g,
-          row-fits sixteen (a .matrix .now) (a .v) (a .d) (a .count) (a .cost) (a .out .now) g,
+          blocks-fit sixteen (a .matrix .now) (a .v) (a .d) (a .count) (a .cost) (a .out .now) g,
         ),
-        omega arith,
+        (omega arith, clear-from (a .system .now) (s .pre .1 .0) (blocksFor (a .cost) * block)),
       ),
     )
 
@@ -37,11 +38,11 @@ start : (c : tie.After-matrix-rows) → System sixteen (c .matrix-rows .last .0)
 start c =
     let s = entry c in
     let a = s .args in
-    start-system sixteen sixteen-field (omega arith) (a .matrix .now) (a .v) (a .d) (a .count) (a .cost) (a .out .now) (s .pre .0) (a .system .now)
-    (c .matrix-rows .last .0) (s .pre .1 .0) (s .pre .1 .1) (c .matrix-rows .ensures .1)
+    start-system sixteen (a .matrix .now) (a .v) (a .d) (a .count) (a .cost) (a .out .now) (s .pre .0) (a .system .now)
+    (c .matrix-rows .last .0) (s .pre .1 .1) (c .matrix-rows .ensures .1) sixteen-field (omega arith) (clear-system (a .system .now) (s .pre .1 .0) sixteen sixteen-field)
 
 -- with room for their blocks
-within : (c : tie.After-matrix-rows) → Within (c .matrix-rows .result) (entry c .args .cost / block + 1) (c .matrix-rows .last .0)
+within : (c : tie.After-matrix-rows) → Within (c .matrix-rows .result) (blocksFor (entry c .args .cost)) (c .matrix-rows .last .0)
 within c =
     let s = entry c in
     let a = s .args in
@@ -82,8 +83,9 @@ solve-requires c κs =
     let a = s .args in
     let e = d .first-dependent .ensures in
     let p = place d in
-    let inside : d .first-dependent .result < width = let f = row-fits sixteen (a .matrix .now) (a .v) (a .d) (a .count) (a .cost) (a .out .now) (s .pre .0) in omega arith in
-    let there : d .first-dependent .result ≤ length (d .first-dependent .last .0) = let w = within m .there in let k = e .1 .0 .size in let low = e .0 in omega arith in
+    let w = within m in
+    let inside : d .first-dependent .result < width = let f = w .fewer in let i = w .inside in let low = e .0 in omega arith in
+    let there : d .first-dependent .result ≤ length (d .first-dependent .last .0) = let t = w .there in let k = e .1 .0 .size in let low = e .0 in omega arith in
     let room : d .first-dependent .result ≤ length (l .lead .last .1 .1 .0) = let k = l .lead .ensures .size in let r = s .pre .0 .room in omega arith in
     (m .before .before .before .products .ensures, (e .1 .0 .system .symbols, (inside, there, room)))
 
@@ -97,7 +99,7 @@ returns c =
     let a = s .args in
     let e = d .first-dependent .ensures in
     polynomial-found sixteen sixteen-field (omega arith) (λ z. omega arith) (a .matrix .now) (a .v) (a .d) (a .count) (a .cost) (a .out .now) (s .pre .0) (a .system .now)
-    (m .matrix-rows .last .0) (d .first-dependent .last .0) (s .pre .1 .0) (s .pre .1 .1) (m .matrix-rows .ensures .1) (m .matrix-rows .result)
+    (m .matrix-rows .last .0) (d .first-dependent .last .0) (clear-system (a .system .now) (s .pre .1 .0) sixteen sixteen-field) (s .pre .1 .1) (m .matrix-rows .ensures .1) (m .matrix-rows .result)
     (d .first-dependent .result) (m .matrix-rows .ensures .0) (e .0) (e .1 .0) (e .1 .1) (l .lead .last .1 .1 .0) (v .solve .last .1 .1 .1 .0)
     (l .lead .ensures) (v .solve .ensures)
 

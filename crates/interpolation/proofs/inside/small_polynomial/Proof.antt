@@ -1,7 +1,5 @@
 -- The cost is at most a block, and a system of zeros of so many rows has room for it.
-use Rattle.definitions.specs.Field.{sixteen}
-use Rattle.instances.proofs.Codes.{sixteen-field}
-use Rattle.interpolation.proofs.Empty.{empty-system}
+use Rattle.interpolation.proofs.Empty.{empty-clear}
 use Rattle.blocks.specs.Row.{block}
 use borrow.Author.Needs.{needs}
 use Rattle.interpolation.proofs.inside.small_polynomial.Statement.{statement}
@@ -10,7 +8,7 @@ use Rattle.interpolation.proofs.inside.small_polynomial.Tie as tie
 polynomial-in-requires : tie.Need-polynomial-in-requires
 polynomial-in-requires c κs =
     let s = c .before .before .before in
-    (s .pre .0, (empty-system sixteen sixteen-field block, s .pre .1))
+    (s .pre .0, (empty-clear block, s .pre .1))
 
 pub small-polynomial-spec : {M : Type 1} → statement M
 small-polynomial-spec =

@@ -5,14 +5,13 @@ use Prim.Native.Nat.{ℕ, _*_, _-_, _/_, _≤_}
 use native.Mathlib.Omega.{arith}
 use lib.ListN.{length, take, replicate}
 use lib.Seq.{length-take-le}
-use Rattle.blocks.specs.Row.{width}
+use Rattle.definitions.proofs.Powers.{powers-of-y}
 use Rattle.definitions.specs.Bound.{bound}
 use Rattle.definitions.specs.Field.{sixteen}
-use Rattle.definitions.specs.Limits.{greatestRows}
+use Rattle.definitions.specs.Limits.{coefficientRoom, greatestRows}
 use Rattle.definitions.specs.Polynomial.{Interpolates}
 use Rattle.instances.proofs.Codes.{sixteen-field}
 use Rattle.interpolation.proofs.Coefficients.{count-small}
-use Rattle.list.proofs.Degrees.{powers-of-y}
 use Rattle.list.proofs.Found.{degree-small, bound-of-cost, prefix, length-after}
 use Rattle.list.proofs.Listing.{lists}
 use Rattle.list.specs.Within.{Rooted}
@@ -32,8 +31,8 @@ count-requires c κs =
     let low = degree-small (a .k - 1) (a .cost) (c .bound .result) (omega arith) (z .4) (c .bound .ensures) in
     (omega arith, omega arith)
 
--- the coefficients fit into a row
-few : (c : tie.After-count) → c .count .result ≤ width
+-- the room holds the coefficients
+few : (c : tie.After-count) → c .count .result ≤ coefficientRoom
 few c =
     let s = entry (c .before) in
     let a = s .args in
@@ -56,12 +55,12 @@ abbrev written : tie.After-polynomial2 → List ℕ
 written c = c .polynomial2 .last .1 .1 .1 .1 .0
 
 -- is as long as before
-long : (c : tie.After-polynomial2) → length (written c) ≡ width
+long : (c : tie.After-polynomial2) → length (written c) ≡ coefficientRoom
 long c =
     let s = entry (degree c) in
     let small = few (c .before .before) in
     let n = c .before .before .count .ensures in
-    length-after sixteen (s .args .matrix .now) (s .args .k - 1) (degree c .bound .result) (c .polynomial2 .result) (replicate width 0) (written c) (c .polynomial2 .ensures) (omega arith)
+    length-after sixteen (s .args .matrix .now) (s .args .k - 1) (degree c .bound .result) (c .polynomial2 .result) (replicate coefficientRoom 0) (written c) (c .polynomial2 .ensures) (omega arith)
 
 -- and its front interpolates the bytes that the matrix was loaded from
 front : (c : tie.After-polynomial2) (m : List ℕ) → length m ≡ sixteen .symbols * entry (degree c) .args .n → entry (degree c) .args .matrix .now ≡ matrixOf sixteen m (entry (degree c) .args .n)
@@ -71,7 +70,7 @@ front c m size loaded =
     let a = s .args in
     let n = c .before .before in
     subst (Interpolates sixteen (a .n) (a .k - 1) (degree c .bound .result) m)
-    (sym (prefix sixteen (a .matrix .now) (a .k - 1) (degree c .bound .result) (c .polynomial2 .result) (replicate width 0) (written c) (c .polynomial2 .ensures) (n .count .result) (n .count .ensures)))
+    (sym (prefix sixteen (a .matrix .now) (a .k - 1) (degree c .bound .result) (c .polynomial2 .result) (replicate coefficientRoom 0) (written c) (c .polynomial2 .ensures) (n .count .result) (n .count .ensures)))
     (c .polynomial2 .ensures .interpolates m (a .n) (s .pre .0 .2) size loaded)
 
 rooted : (c : tie.After-polynomial2)
@@ -89,7 +88,7 @@ rooted c =
     record {
       sized = (z .0, z .1, z .2);
       few = omega arith;
-      low = subst (λ (x : ℕ). x / (a .k - 1) ≤ greatestRows) (sym (degree c .bound .ensures)) (powers-of-y (a .k - 1) (a .cost) (omega arith) (z .4));
+      low = subst (λ (x : ℕ). x / (a .k - 1) ≤ greatestRows) (sym (degree c .bound .ensures)) (powers-of-y (a .k - 1) (omega arith) (a .cost) (z .4));
       threshold = omega arith;
       full = i .size;
       symbols = i .symbols;
