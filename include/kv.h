@@ -22,6 +22,17 @@
 extern "C" {
 #endif
 
+enum {
+    KV_SYMBOLS = 16,       /* so many symbols there are */
+    KV_POSITIONS = 15,     /* the most positions */
+    KV_WHOLE = 4096,       /* the most that a position's reliabilities sum to */
+    KV_LEVEL = 5,          /* the greatest level, and the greatest entry of a matrix */
+    KV_LIMIT = 225,        /* the greatest limit on a matrix's cost */
+    KV_COEFFICIENTS = 246, /* the room that kv_interpolate asks for */
+    KV_MONOMIALS = 256,    /* the most coefficients that kv_roots takes */
+    KV_ROWS = 20           /* the most rows of a list, and the room that it asks for */
+};
+
 /* A field that an entry does not mention is 0. */
 struct kv_answer {
     uint16_t number; /* the refusal's number, 0 where the call is not refused */
@@ -66,9 +77,9 @@ struct kv_answer kv_encode(size_t n, size_t k,
  * Memory: position i, symbol b lies at 16i + b in both lists. out[j], for j from 0 to 16n-1, is the
  * whole part of level * reliabilities[j] / 4096, whatever its position's numbers sum to; out from
  * 16n on stays. An erased mark is sixteen zeros, and its multiplicities are zeros.
- * Refusals: 1 unless 2 <= n <= 15; 2 unless 1 <= level <= 4; 3 where reliabilities_len, in numbers,
- * is not 16n; 4 where out_len is below 16n; 6 where a position's sixteen reliabilities sum to more
- * than 4096, place that position, the first one's.
+ * Refusals: 1 unless 2 <= n <= 15; 2 unless 1 <= level <= KV_LEVEL; 3 where reliabilities_len, in
+ * numbers, is not 16n; 4 where out_len is below 16n; 6 where a position's sixteen reliabilities sum
+ * to more than KV_WHOLE, place that position, the first one's.
  */
 struct kv_answer kv_multiplicities(size_t n, size_t level,
                                    const uint16_t *reliabilities, size_t reliabilities_len,
@@ -79,8 +90,8 @@ struct kv_answer kv_multiplicities(size_t n, size_t level,
  * cost: the sum of m(m+1)/2 over its entries m.
  * bound: the smallest D such that more than cost pairs (a, b) of numbers from 0 on have
  * a + (k-1)b <= D.
- * Refusals: 1 unless 2 <= k <= n <= 15; 3 where matrix_len is not 16n; 5 where an entry is above 4,
- * place its index, the first one's.
+ * Refusals: 1 unless 2 <= k <= n <= 15; 3 where matrix_len is not 16n; 5 where an entry is above
+ * KV_LEVEL, place its index, the first one's.
  */
 struct kv_answer kv_cost_and_bound(size_t n, size_t k,
                                    const uint8_t *matrix, size_t matrix_len);
@@ -91,14 +102,14 @@ struct kv_answer kv_cost_and_bound(size_t n, size_t k,
  * first. A polynomial passes through (alpha^i, b) m times when each of its Hasse derivatives of
  * order below m is zero there.
  * bound: as kv_cost_and_bound answers it.
- * count: of the monomials of weighted degree at most bound, 167 or fewer.
+ * count: of the monomials of weighted degree at most bound, KV_COEFFICIENTS or fewer.
  * Memory: out[j], for j from 0 to count-1, is the coefficient of the monomial j in their order, of
  * the one polynomial that is not zero, passes through each (alpha^i, b) as often as the matrix
  * says, has the smallest leading monomial of all that do, and leading coefficient 1; out from count
  * on stays.
- * Refusals: 1 unless 2 <= k <= n <= 15; 2 where limit is above 150; 3 where matrix_len is not 16n;
- * 4 where out_len is below 167; 5 where an entry is above 4, place its index, the first one's; 7
- * where the matrix's cost is above limit.
+ * Refusals: 1 unless 2 <= k <= n <= 15; 2 where limit is above KV_LIMIT; 3 where matrix_len is not
+ * 16n; 4 where out_len is below KV_COEFFICIENTS; 5 where an entry is above KV_LEVEL, place its
+ * index, the first one's; 7 where the matrix's cost is above limit.
  */
 struct kv_answer kv_interpolate(size_t n, size_t k, size_t limit,
                                 const uint8_t *matrix, size_t matrix_len,
@@ -112,9 +123,9 @@ struct kv_answer kv_interpolate(size_t n, size_t k, size_t limit,
  * Memory: out[kr + j], for r from 0 to count-1 and j from 0 to k-1, is symbol j of message r; each
  * message is there once, ordered by symbol 0, then symbol 1 and so on, smaller first; out from
  * k * count on stays.
- * Refusals: 1 unless 2 <= k <= 15; 2 where N is above 256; 3 where coefficients_len is not N; 4
- * where out_len is below k times the whole part of degree / (k-1); 5 where a coefficient is above
- * 15, place its index, the first one's; 8 where all coefficients are 0.
+ * Refusals: 1 unless 2 <= k <= 15; 2 where N is above KV_MONOMIALS; 3 where coefficients_len is not
+ * N; 4 where out_len is below k times the whole part of degree / (k-1); 5 where a coefficient is
+ * above 15, place its index, the first one's; 8 where all coefficients are 0.
  */
 struct kv_answer kv_roots(size_t degree, size_t k,
                           const uint8_t *coefficients, size_t coefficients_len,
@@ -124,14 +135,15 @@ struct kv_answer kv_roots(size_t degree, size_t k,
  * The matrix has the multiplicity of position i, symbol b at 16i + b. The score of a message is the
  * sum, over positions, of the entry at its codeword's symbol.
  * count: of the messages of k symbols whose score is above the bound that kv_cost_and_bound
- * answers, 16 or fewer.
+ * answers, KV_ROWS or fewer.
  * Memory: rows[kr + j], for r from 0 to count-1 and j from 0 to k-1, is symbol j of the message of
  * row r, and scores[r] its score; each message is there once, highest score first, equal scores
  * ordered by symbol 0, then symbol 1 and so on, smaller first; rows from k * count on and scores
  * from count on stay.
- * Refusals: 1 unless 2 <= k <= n <= 15; 2 where limit is above 150; 3 where matrix_len is not 16n;
- * 4 where rows_len is below 16k or scores_len, in numbers, below 16; 5 where an entry is above 4,
- * place its index, the first one's; 7 where the matrix's cost is above limit.
+ * Refusals: 1 unless 2 <= k <= n <= 15; 2 where limit is above KV_LIMIT; 3 where matrix_len is not
+ * 16n; 4 where rows_len is below KV_ROWS * k or scores_len, in numbers, below KV_ROWS; 5 where an
+ * entry is above KV_LEVEL, place its index, the first one's; 7 where the matrix's cost is above
+ * limit.
  */
 struct kv_answer kv_list_of_multiplicities(size_t n, size_t k, size_t limit,
                                            const uint8_t *matrix, size_t matrix_len,
@@ -141,10 +153,10 @@ struct kv_answer kv_list_of_multiplicities(size_t n, size_t k, size_t limit,
 /*
  * The matrix is what kv_multiplicities writes for these reliabilities at this level.
  * count, memory: as kv_list_of_multiplicities answers and leaves them for the matrix.
- * Refusals: 1 unless 2 <= k <= n <= 15; 2 unless 1 <= level <= 4 and limit <= 150; 3 where
- * reliabilities_len, in numbers, is not 16n; 4 where rows_len is below 16k or scores_len, in
- * numbers, below 16; 6 where a position's sixteen reliabilities sum to more than 4096, place that
- * position, the first one's; 7 where the matrix's cost is above limit.
+ * Refusals: 1 unless 2 <= k <= n <= 15; 2 unless 1 <= level <= KV_LEVEL and limit <= KV_LIMIT; 3
+ * where reliabilities_len, in numbers, is not 16n; 4 where rows_len is below KV_ROWS * k or
+ * scores_len, in numbers, below KV_ROWS; 6 where a position's sixteen reliabilities sum to more than
+ * KV_WHOLE, place that position, the first one's; 7 where the matrix's cost is above limit.
  */
 struct kv_answer kv_list_of_reliabilities(size_t n, size_t k, size_t level, size_t limit,
                                           const uint16_t *reliabilities, size_t reliabilities_len,

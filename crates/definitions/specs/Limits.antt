@@ -6,22 +6,22 @@ use Prim.Native.Nat.{ℕ}
 abbrev pub greatestSum : ℕ
 greatestSum = 4096
 
--- "The level L is 1 to 4"; no entry of a matrix is greater
+-- "L up to 5, with entries up to 5" (document 02, order 2)
 abbrev pub greatestLevel : ℕ
-greatestLevel = 4
+greatestLevel = 5
 
--- "cost limit G above 150"
+-- "G may be up to 225" (document 02, order 2)
 abbrev pub greatestLimit : ℕ
-greatestLimit = 150
+greatestLimit = 225
 
 -- "N(D) above 256"
 abbrev pub greatestCount : ℕ
 greatestCount = 256
 
--- "167 (interpolation)"
+-- "Interpolation room becomes 246" (document 02, order 2)
 abbrev pub coefficientRoom : ℕ
-coefficientRoom = 167
+coefficientRoom = 246
 
--- "There are at most 16 rows"
+-- "list room 20 rows and 20 scores" (document 02, order 2): there are at most so many rows
 abbrev pub greatestRows : ℕ
-greatestRows = 16
+greatestRows = 20

@@ -40,7 +40,8 @@ sizeFits C n = leb 2 n && leb n (C .positions)
 abbrev pub size : Code → ℕ → Line
 size C n = line 1 (not (sizeFits C n))
 
--- "2 setting: L not 1 to 4; cost limit G above 150; N(D) above 256"
+-- "2 setting: L not 1 to 4; cost limit G above 150; N(D) above 256"; now "L up to 5" and "G may be up to 225; refusals 2 and 5 move
+-- accordingly" (document 02, order 2)
 abbrev pub levelFits : ℕ → Bool
 levelFits L = leb 1 L && leb L greatestLevel
 
@@ -66,7 +67,8 @@ unfoldable pub firstAbove : ℕ → List ℕ → ℕ
 firstAbove greatest [] = 0
 firstAbove greatest (x ∷ l) = cond (ltb greatest x) 0 (suc (firstAbove greatest l))
 
--- "5 symbol: a field or message symbol or coefficient above 15, a multiplicity above 4", at "the first bad index"
+-- "5 symbol: a field or message symbol or coefficient above 15, a multiplicity above 4"; now "entries up to 5" (document 02, order 2); at
+-- "the first bad index"
 abbrev pub noneAbove : ℕ → List ℕ → Line
 noneAbove greatest l = record { number = 5; given = ltb (firstAbove greatest l) (length l); place = firstAbove greatest l }
 
@@ -120,7 +122,7 @@ module _ (C : Code) where
   rootsTable D k q out =
       size C k ∷ degree (k - 1) D ∷ entries (count (k - 1) D) q ∷ room (k * (D / (k - 1))) out ∷ symbols C q ∷ zeroes q ∷ []
 
-  -- "16k bytes or 16 scores (list)"
+  -- "list room 20 rows and 20 scores" (document 02, order 2)
   abbrev pub listTable : ℕ → ℕ → ℕ → List ℕ → ℕ → ℕ → List Line
   listTable n k G m rows scores =
       sizes C n k ∷ limit G ∷ entries (C .symbols * n) m ∷ room (greatestRows * k) rows ∷ room greatestRows scores ∷ entriesOf m

@@ -9,14 +9,14 @@ pub const ENTRIES: usize = SYMBOLS * POSITIONS;
 
 pub const GREATEST_SUM: usize = 4096;
 
-pub const GREATEST_LEVEL: usize = 4;
+pub const GREATEST_LEVEL: usize = 5;
 
 pub const GREATEST_ENTRY: u8 = GREATEST_LEVEL as u8;
 
-pub const GREATEST_LIMIT: usize = 150;
+pub const GREATEST_LIMIT: usize = 225;
 
 pub const GREATEST_COUNT: usize = 256;
 
-pub const COEFFICIENT_ROOM: usize = 167;
+pub const COEFFICIENT_ROOM: usize = 246;
 
-pub const GREATEST_ROWS: usize = 16;
+pub const GREATEST_ROWS: usize = 20;

@@ -15,7 +15,7 @@ const WORN_TAGS: usize = 120;
 const WORDS_TOGETHER: usize = 60;
 const LIMIT: u8 = GREATEST_LIMIT as u8;
 const SIZES: [u8; 8] = [0, 1, 2, 3, 15, 16, 18, u8::MAX];
-const LEVELS: [u8; 6] = [0, 1, 3, 4, 5, u8::MAX];
+const LEVELS: [u8; 6] = [0, 1, 4, 5, 6, u8::MAX];
 const LIMITS: [u8; 5] = [0, 1, LIMIT, LIMIT + 1, u8::MAX];
 
 fn input(header: [u8; 4], weights: &[u16]) -> Vec<u8> {

@@ -11,14 +11,26 @@ use second::list::MOST_ROWS;
 use std::process::exit;
 use tags::{hard_word, Random};
 
-const LEAST_LINES: usize = 35;
+const LEAST_LINES: usize = 49;
 const SEED: u64 = 9;
 
 const POWERS_OF_ALPHA: [u16; 16] = [1, 2, 4, 8, 3, 6, 12, 11, 5, 10, 7, 14, 15, 13, 9, 1];
 const PRODUCTS: [(u8, u8, u16); 2] = [(3, 5, 15), (7, 7, 6)];
 const INVERSES: [(u8, u16); 2] = [(2, 9), (3, 14)];
-const MULTIPLICITIES_AT_LEVEL_4: [(u16, u16); 5] =
-    [(1023, 0), (1024, 1), (4093, 3), (4095, 3), (4096, 4)];
+/// A level, a reliability and the multiplicity.
+const MULTIPLICITIES: [(usize, u16, u16); 11] = [
+    (4, 1023, 0),
+    (4, 1024, 1),
+    (4, 4093, 3),
+    (4, 4095, 3),
+    (4, 4096, 4),
+    (5, 819, 0),
+    (5, 820, 1),
+    (5, 3276, 3),
+    (5, 3277, 4),
+    (5, 4095, 4),
+    (5, 4096, 5),
+];
 /// What a column sums to, and the number of the refusal: document 02, order 1.
 const SUMS: [(usize, u16); 8] = [
     (0, 0),
@@ -31,12 +43,14 @@ const SUMS: [(usize, u16); 8] = [
     (1_048_560, 6),
 ];
 /// A word, its multiplicity at each of its symbols, k, the cost and the bound.
-const COSTS_AND_BOUNDS: [(&[u8], u8, usize, u16, u16); 5] = [
+const COSTS_AND_BOUNDS: [(&[u8], u8, usize, u16, u16); 7] = [
     (&[1, 1, 1], 1, 2, 3, 2),
     (&[1, 1, 1, 2], 1, 2, 4, 2),
     (&[1, 1, 1], 0, 2, 0, 0),
     (&[1; 15], 1, 7, 15, 10),
     (&[1; 15], 4, 7, 150, 39),
+    (&[1; 15], 5, 7, 225, 49),
+    (&[1; 15], 5, 2, 225, 20),
 ];
 
 /// What the documents have written, and what a program answered.
@@ -82,35 +96,35 @@ fn codeword_line(program: Program) -> Line {
     }
 }
 
-fn multiplicity_line(program: Program, (reliability, written): (u16, u16)) -> Line {
+fn multiplicity_line(program: Program, (level, reliability, written): (usize, u16, u16)) -> Line {
     let whole = GREATEST_SUM as u16;
     let mut weights = [0; 2 * SYMBOLS];
     weights[0] = reliability;
     weights[1] = whole - reliability;
     weights[SYMBOLS] = whole;
     Line {
-        text: format!("the multiplicity of {reliability} at level 4"),
+        text: format!("the multiplicity of {reliability} at level {level}"),
         written: vec![written],
-        answered: matrix_at_level_4(program, &weights, 1),
+        answered: matrix_at(level, program, &weights, 1),
     }
 }
 
 /// The same reliability in a column that has no other, and then an erased mark.
-fn alone_line(program: Program, (reliability, written): (u16, u16)) -> Line {
+fn alone_line(program: Program, (level, reliability, written): (usize, u16, u16)) -> Line {
     let (mut weights, mut matrix) = ([0; 2 * SYMBOLS], vec![0; 2 * SYMBOLS]);
     weights[0] = reliability;
     matrix[0] = written;
     Line {
-        text: format!("the matrix of {reliability} alone and an erased mark at level 4"),
+        text: format!("the matrix of {reliability} alone and an erased mark at level {level}"),
         written: matrix,
-        answered: matrix_at_level_4(program, &weights, weights.len()),
+        answered: matrix_at(level, program, &weights, weights.len()),
     }
 }
 
 /// The first entries of the matrix that is written.
-fn matrix_at_level_4(program: Program, weights: &[u16], entries: usize) -> Vec<u16> {
+fn matrix_at(level: usize, program: Program, weights: &[u16], entries: usize) -> Vec<u16> {
     let call = Call {
-        level: 4,
+        level,
         room: weights.len(),
         reliabilities: weights.to_vec(),
         ..Call::of_sizes(weights.len() / SYMBOLS, 0)
@@ -161,8 +175,8 @@ fn cost_and_bound_line(
 fn lines(program: Program) -> Vec<Line> {
     let mut lines = field_lines(program);
     lines.push(codeword_line(program));
-    lines.extend(MULTIPLICITIES_AT_LEVEL_4.map(|line| multiplicity_line(program, line)));
-    lines.extend(MULTIPLICITIES_AT_LEVEL_4.map(|line| alone_line(program, line)));
+    lines.extend(MULTIPLICITIES.map(|line| multiplicity_line(program, line)));
+    lines.extend(MULTIPLICITIES.map(|line| alone_line(program, line)));
     lines.extend(COSTS_AND_BOUNDS.map(|line| cost_and_bound_line(program, line)));
     lines
 }

@@ -10,25 +10,26 @@ use second::bound::{cost, GREATEST_LIMIT, GREATEST_MULTIPLICITY};
 use second::field::SYMBOLS;
 use second::weights::WHOLE;
 use tags::{
-    close_codewords, hard_word, hard_words, matrix_of, multiplicity, random_codeword,
-    random_matrix, soft_weights, with_wrong_marks, within_cost, words_of_one_more,
+    close_codewords, hard_word, hard_words, matrix_of, multiplicity, paired, random_codeword,
+    random_matrix, soft_weights, with_erased_marks, with_wrong_marks, within_cost,
+    words_of_one_more,
 };
 
-const LEAST_CALLS: usize = 355_000;
+const LEAST_CALLS: usize = 360_000;
 const LEAST_SEEN: Seen = Seen {
-    lists: 5_000,
-    lists_of_many: 1_400,
-    longest: 9,
-    equal_scores: 2_300,
-    scores_just_above: 1_600,
-    scores_at_bound: 1_900,
-    lists_with_erased_marks: 280,
+    lists: 6_500,
+    lists_of_many: 1_800,
+    longest: 17,
+    equal_scores: 3_600,
+    scores_just_above: 2_000,
+    scores_at_bound: 2_600,
+    lists_with_erased_marks: 800,
 };
 const SEED: u64 = 6;
 const RANDOM_MATRICES: usize = 5;
 const WORN_TAGS: usize = 20;
 const MOST_WORDS_TOGETHER: usize = 10;
-const MATRICES_AT_BOUND: usize = 13;
+const MATRICES_AT_BOUND: usize = 15;
 const MOST_STEPS: usize = 200;
 
 pub static ENTRY: Entry = Entry {
@@ -77,7 +78,8 @@ impl Comparison {
         }
     }
 
-    /// Hard words and soft ones, with as many wrong marks as may still be read and some more.
+    /// Hard words and soft ones, with as many wrong marks as may still be read and some more, and
+    /// with marks erased.
     fn worn_words(&mut self, n: usize, k: usize) {
         for _ in 0..WORN_TAGS {
             let right = random_codeword(&mut self.random, n, k);
@@ -86,7 +88,10 @@ impl Comparison {
             let level = multiplicity(&mut self.random);
             let share = self.random.between(0, WHOLE as usize);
             let soft = soft_weights(&mut self.random, &word, share);
-            for matrix in [hard_word(&word, level), matrix_of(&soft, level.into())] {
+            let erased = self.random.between(0, (n - k) / 2 + 1);
+            let faint = with_erased_marks(&mut self.random, &soft, erased);
+            let [soft, faint] = [soft, faint].map(|weights| matrix_of(&weights, level.into()));
+            for matrix in [hard_word(&word, level), soft, faint] {
                 self.seen.word(k, &matrix, &right);
                 self.listed(k, matrix);
             }
@@ -108,6 +113,17 @@ impl Comparison {
                     self.listed(k, matrix);
                 }
             }
+        }
+    }
+
+    /// Sixteen words in pairs and one beside them, raised until they cost too much for any limit.
+    fn longest_lists(&mut self) {
+        for raised in 0.. {
+            let matrix = paired(&mut self.random, raised);
+            if cost(&matrix) > GREATEST_LIMIT {
+                return;
+            }
+            self.listed(2, matrix);
         }
     }
 
@@ -158,6 +174,7 @@ pub fn compare() {
         comparison.scores_at_bound(n, k);
         comparison.limits_beside_cost(&with_room(n, k));
     }
+    comparison.longest_lists();
     comparison.finish(LEAST_CALLS);
     comparison.seen.suffices(&LEAST_SEEN);
     hold(ENTRY.name, |program| {

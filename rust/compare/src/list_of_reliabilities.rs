@@ -15,19 +15,19 @@ use tags::{
     with_erased_marks, with_wrong_marks,
 };
 
-const LEAST_CALLS: usize = 690_000;
+const LEAST_CALLS: usize = 700_000;
 const LEAST_SEEN: Seen = Seen {
-    lists: 13_000,
-    lists_of_many: 1_400,
-    longest: 4,
-    equal_scores: 2_000,
-    scores_just_above: 1_300,
-    scores_at_bound: 3_400,
-    lists_with_erased_marks: 3_400,
+    lists: 17_000,
+    lists_of_many: 2_500,
+    longest: 5,
+    equal_scores: 3_800,
+    scores_just_above: 1_450,
+    scores_at_bound: 3_900,
+    lists_with_erased_marks: 4_500,
 };
 const SEED: u64 = 7;
 const WORN_TAGS: usize = 8;
-const MOST_WORDS_TOGETHER: usize = 4;
+const MOST_WORDS_TOGETHER: usize = GREATEST_LEVEL;
 
 pub static ENTRY: Entry = Entry {
     name: "list of reliabilities",

@@ -100,7 +100,7 @@ const E: u8 = ERASED;
 /// A word, its multiplicity at each symbol, k, and the list: each row's score, then its message.
 type Written = (&'static [u8], u8, usize, &'static [&'static [u16]]);
 
-const WORDS: [Written; 10] = [
+const WORDS: [Written; 12] = [
     (&[1, 1, 1], 1, 2, &[&[3, 1, 0]]),
     (&[1, 1, 2], 1, 2, &[]),
     (&[1, 1, 1, 2], 1, 2, &[&[3, 1, 0]]),
@@ -112,6 +112,13 @@ const WORDS: [Written; 10] = [
         &[&[40, 0, 0, 0, 0, 0, 0, 0]],
     ),
     (&[0, 5, 0, 0, 4, 0, 0, 3, 0, 0, 2, 0, 0, 1, 8], 4, 7, &[]),
+    (
+        &[0, 5, 0, 0, 4, 0, 0, 3, 0, 0, 2, 0, 0, 1, 0],
+        5,
+        7,
+        &[&[50, 0, 0, 0, 0, 0, 0, 0]],
+    ),
+    (&[0, 5, 0, 0, 4, 0, 0, 3, 0, 0, 2, 0, 0, 1, 8], 5, 7, &[]),
     (&[1, 1, 1, E], 1, 2, &[&[3, 1, 0]]),
     (&[E, E, E], 4, 2, &[]),
     (

@@ -13,6 +13,7 @@ mod faults;
 mod field;
 mod interpolation;
 mod lent;
+mod limits;
 mod list_of_multiplicities;
 mod list_of_reliabilities;
 mod lists;
@@ -32,4 +33,5 @@ fn main() {
     list_of_multiplicities::compare();
     list_of_reliabilities::compare();
     edges::compare();
+    limits::compare();
 }

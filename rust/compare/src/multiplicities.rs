@@ -9,7 +9,7 @@ use second::code::{LEAST_SIZE, MOST_POSITIONS};
 use second::field::SYMBOLS;
 use second::weights::{GREATEST_LEVEL, LEAST_LEVEL};
 
-const LEAST_CALLS: usize = 230_000;
+const LEAST_CALLS: usize = 245_000;
 const SEED: u64 = 2;
 const RANDOM_WEIGHTS: usize = 100;
 

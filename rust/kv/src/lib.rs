@@ -48,15 +48,15 @@ pub const POSITIONS: usize = 15;
 /// erased one are all 0.
 pub const WHOLE: u16 = 4096;
 /// The greatest level, and the greatest entry of a matrix.
-pub const GREATEST_LEVEL: usize = 4;
+pub const GREATEST_LEVEL: usize = 5;
 /// The greatest limit on the cost of a matrix.
-pub const GREATEST_LIMIT: usize = 150;
+pub const GREATEST_LIMIT: usize = 225;
 /// The most coefficients that an interpolated polynomial has.
-pub const COEFFICIENTS: usize = 167;
+pub const COEFFICIENTS: usize = 246;
 /// The most coefficients that a polynomial has whose roots are asked for.
 pub const GREATEST_COUNT: usize = 256;
 /// The most rows that a list has.
-pub const ROWS: usize = 16;
+pub const ROWS: usize = 20;
 
 /// The sizes of the code: 2 <= k <= n <= 15, or refusal 1.
 #[derive(Clone, Copy, Debug, PartialEq, Eq)]
@@ -67,7 +67,7 @@ pub struct Sizes {
     pub k: usize,
 }
 
-/// How a tag is read: 1 <= level <= 4 and limit <= 150, or refusal 2.
+/// How a tag is read: 1 <= level <= [`GREATEST_LEVEL`] and limit <= [`GREATEST_LIMIT`], or refusal 2.
 #[derive(Clone, Copy, Debug, PartialEq, Eq)]
 pub struct Settings {
     /// The level, which multiplies the reliabilities.

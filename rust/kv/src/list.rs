@@ -36,9 +36,10 @@ fn listed(k: usize, list: impl FnOnce(&mut [u8], &mut [u16]) -> Answer) -> Resul
 
 /// The list of a multiplicity matrix.
 ///
-/// Refused with [`Refusal::Sizes`], [`Refusal::Setting`] where the limit is above 150,
-/// [`Refusal::Length`] where the matrix has not 16n entries, [`Refusal::Symbol`] where one of them
-/// is above 4, [`Refusal::Cost`] where it costs more than the limit.
+/// Refused with [`Refusal::Sizes`], [`Refusal::Setting`] where the limit is above
+/// [`GREATEST_LIMIT`](crate::GREATEST_LIMIT), [`Refusal::Length`] where the matrix has not 16n
+/// entries, [`Refusal::Symbol`] where one of them is above
+/// [`GREATEST_LEVEL`](crate::GREATEST_LEVEL), [`Refusal::Cost`] where it costs more than the limit.
 ///
 /// ```
 /// let mut matrix = [0; 48];
@@ -46,7 +47,7 @@ fn listed(k: usize, list: impl FnOnce(&mut [u8], &mut [u16]) -> Answer) -> Resul
 ///     matrix[16 * position + 1] = 1;
 /// }
 /// let sizes = kv::Sizes { n: 3, k: 2 };
-/// let listed = kv::list_of_multiplicities(sizes, 150, &matrix)?;
+/// let listed = kv::list_of_multiplicities(sizes, kv::GREATEST_LIMIT, &matrix)?;
 /// assert_eq!(listed.rows, [kv::Row { score: 3, message: vec![1, 0] }]);
 /// assert_eq!(
 ///     kv::list_of_multiplicities(sizes, 2, &matrix),
@@ -73,7 +74,7 @@ pub fn list_of_multiplicities(
 ///
 /// ```
 /// let sizes = kv::Sizes { n: 2, k: 2 };
-/// let settings = kv::Settings { level: 4, limit: 150 };
+/// let settings = kv::Settings { level: kv::GREATEST_LEVEL, limit: kv::GREATEST_LIMIT };
 /// let mut reliabilities = [256; 32];
 /// let listed = kv::list_of_reliabilities(sizes, settings, &reliabilities)?;
 /// assert!(listed.rows.is_empty());

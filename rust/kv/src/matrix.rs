@@ -5,9 +5,9 @@ use crate::{lent, Refusal, Sizes, POSITIONS, SYMBOLS};
 /// The matrix of the reliabilities: each entry is the whole part of level times reliability / 4096,
 /// whatever those of its position sum to. An erased mark, all zeros, has a column of zeros.
 ///
-/// Refused with [`Refusal::Sizes`] unless 2 <= n <= 15, [`Refusal::Setting`] unless
-/// 1 <= level <= 4, [`Refusal::Length`] where there are not 16n reliabilities, [`Refusal::Column`]
-/// where those of a position sum to more than 4096.
+/// Refused with [`Refusal::Sizes`] unless 2 <= n <= 15, [`Refusal::Setting`] unless the level is 1
+/// to [`GREATEST_LEVEL`](crate::GREATEST_LEVEL), [`Refusal::Length`] where there are not 16n
+/// reliabilities, [`Refusal::Column`] where those of a position sum to more than 4096.
 ///
 /// ```
 /// let mut reliabilities = [0; 48];
@@ -42,7 +42,7 @@ pub struct CostAndBound {
 /// The cost of a matrix, and the bound.
 ///
 /// Refused with [`Refusal::Sizes`], [`Refusal::Length`] where the matrix has not 16n entries,
-/// [`Refusal::Symbol`] where one of them is above 4.
+/// [`Refusal::Symbol`] where one of them is above [`GREATEST_LEVEL`](crate::GREATEST_LEVEL).
 ///
 /// ```
 /// let mut matrix = [0; 48];

@@ -15,16 +15,17 @@ pub struct Polynomial {
 /// The one polynomial that is not 0, passes through each (alpha^i, b) as often as the matrix says,
 /// has the smallest leading monomial of all that do, and leading coefficient 1.
 ///
-/// Refused with [`Refusal::Sizes`], [`Refusal::Setting`] where the limit is above 150,
-/// [`Refusal::Length`] where the matrix has not 16n entries, [`Refusal::Symbol`] where one of them
-/// is above 4, [`Refusal::Cost`] where it costs more than the limit.
+/// Refused with [`Refusal::Sizes`], [`Refusal::Setting`] where the limit is above
+/// [`GREATEST_LIMIT`](crate::GREATEST_LIMIT), [`Refusal::Length`] where the matrix has not 16n
+/// entries, [`Refusal::Symbol`] where one of them is above
+/// [`GREATEST_LEVEL`](crate::GREATEST_LEVEL), [`Refusal::Cost`] where it costs more than the limit.
 ///
 /// ```
 /// let mut matrix = [0; 48];
 /// for position in 0..3 {
 ///     matrix[16 * position + 1] = 1;
 /// }
-/// let polynomial = kv::interpolate(kv::Sizes { n: 3, k: 2 }, 150, &matrix)?;
+/// let polynomial = kv::interpolate(kv::Sizes { n: 3, k: 2 }, kv::GREATEST_LIMIT, &matrix)?;
 /// assert_eq!(polynomial.bound, 2);
 /// assert_eq!(polynomial.coefficients, [1, 0, 1, 0, 0, 0]); // 1 + y
 /// # Ok::<(), kv::Refusal>(())

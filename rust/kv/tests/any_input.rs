@@ -3,7 +3,7 @@
 use kv::lent::{self, Answer};
 use kv::{CostAndBound, Listed, Polynomial, Refusal, Row, Settings, Sizes};
 
-const NUMBERS: [usize; 10] = [0, 1, 2, 3, 4, 15, 16, 150, 1 << 32, usize::MAX];
+const NUMBERS: [usize; 10] = [0, 1, 2, 3, 5, 15, 16, 225, 1 << 32, usize::MAX];
 const LENGTHS: [usize; 9] = [0, 1, 2, 3, 6, 31, 32, 240, 257];
 const ENTRIES: [u8; 4] = [0, 1, 15, 255];
 const RELIABILITIES: [u16; 3] = [0, 256, u16::MAX];

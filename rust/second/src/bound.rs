@@ -5,8 +5,8 @@ use crate::refusal::{symbol_above, unless_refused, Refusal};
 use crate::weights::entries;
 use crate::Answer;
 
-pub const GREATEST_MULTIPLICITY: u8 = 4;
-pub const GREATEST_LIMIT: usize = 150;
+pub const GREATEST_MULTIPLICITY: u8 = 5;
+pub const GREATEST_LIMIT: usize = 225;
 
 /// What one entry m adds to the cost: m(m+1)/2.
 pub fn cost_of_entry(m: u8) -> usize {

@@ -12,7 +12,7 @@ use crate::refusal::{symbol_above, unless_refused, Refusal};
 use crate::weights::entries;
 use crate::Answer;
 
-pub const ROOM_FOR_COEFFICIENTS: usize = 167;
+pub const ROOM_FOR_COEFFICIENTS: usize = 246;
 
 /// The Hasse derivative of order s in x and t in y is zero at (x, y).
 struct Condition {

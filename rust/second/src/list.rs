@@ -11,7 +11,7 @@ use crate::Answer;
 use std::cmp::Reverse;
 use std::sync::OnceLock;
 
-pub const MOST_ROWS: usize = 16;
+pub const MOST_ROWS: usize = 20;
 
 type Coded = (Vec<u8>, [u8; MOST_POSITIONS]);
 

@@ -8,7 +8,7 @@ use crate::Answer;
 /// The most that the reliabilities of a position sum to, and what a multiplicity is a part of.
 pub const WHOLE: u64 = 4096;
 pub const LEAST_LEVEL: usize = 1;
-pub const GREATEST_LEVEL: usize = 4;
+pub const GREATEST_LEVEL: usize = 5;
 
 /// The entries of n positions, for any n.
 pub fn entries(n: usize) -> u128 {

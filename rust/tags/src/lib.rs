@@ -1,7 +1,9 @@
 //! Codewords, reliabilities and multiplicity matrices as worn tags give them, and others.
 
+mod paired;
 mod random;
 
+pub use paired::paired;
 pub use random::Random;
 
 use second::bound::{cost, cost_of_entry, GREATEST_MULTIPLICITY};
