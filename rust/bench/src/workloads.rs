@@ -1,6 +1,7 @@
 //! The matrices that are timed.
 
 use crate::matrices::{worn_tag, wrong_word};
+use second::bound::{bound, cost_of_entry};
 use tags::Random;
 
 pub const N: usize = 15;
@@ -10,8 +11,6 @@ const TAGS: usize = 1000;
 const HARD_WORDS: usize = 500;
 const LEAST_WRONG: usize = 3;
 const MOST_WRONG: usize = 6;
-/// The most that are listed for the hard words' level.
-const WRONG_IN_HARD_WORDS: usize = 5;
 
 pub struct Workload {
     pub name: &'static str,
@@ -28,17 +27,27 @@ fn worn_tags(name: &'static str, level: usize) -> Workload {
     Workload { name, matrices }
 }
 
+/// The most wrong marks of a hard word that is listed: each other mark scores the level, and they
+/// score more than the bound.
+fn most_wrong(level: usize) -> usize {
+    let bound = bound(K - 1, N * cost_of_entry(level as u8));
+    N - (bound / level + 1)
+}
+
 fn hard_words(name: &'static str, level: usize) -> Workload {
     let mut random = Random::new(SEED);
-    let mut matrix = || wrong_word(&mut random, N, K, level, WRONG_IN_HARD_WORDS);
+    let wrong = most_wrong(level);
+    let mut matrix = || wrong_word(&mut random, N, K, level, wrong);
     let matrices = (0..HARD_WORDS).map(|_| matrix()).collect();
     Workload { name, matrices }
 }
 
-pub fn workloads() -> [Workload; 3] {
+pub fn workloads() -> [Workload; 5] {
     [
         worn_tags("worn tags, L 1", 1),
         worn_tags("worn tags, L 4", 4),
+        worn_tags("worn tags, L 5", 5),
         hard_words("hard words, L 4", 4),
+        hard_words("hard words, L 5", 5),
     ]
 }

@@ -2,98 +2,122 @@
 
 use super::field::{point, product, SYMBOLS};
 use super::polynomial::walk;
-use super::rows::{Row, BLOCK, BLOCKS, COLUMNS};
+use super::rows::{Block, Row, BLOCK, BLOCKS, COLUMNS};
+use std::slice::IterMut;
 
-/// The orders of derivative, 0 to the greatest multiplicity less 1.
-const ORDERS: usize = 4;
+/// The powers of a symbol up to the bound, and zeros for the monomials past it.
+type Powers = [u8; COLUMNS];
 
-type Line = [u8; COLUMNS];
-/// 255 where a derivative of the order leaves the monomial, else 0.
-type Masks = [Line; ORDERS];
-
+/// The exponents of the first monomials, in blocks.
 struct Monomials {
-    count: usize,
-    of_x: Line,
-    of_y: Line,
+    blocks: usize,
+    of_x: Row,
+    of_y: Row,
 }
 
-fn monomials(v: usize, count: usize) -> Monomials {
-    let (mut of_x, mut of_y) = ([0; COLUMNS], [0; COLUMNS]);
-    for (place, (a, b)) in walk(v).take(count).enumerate() {
-        of_x[place] = a as u8;
-        of_y[place] = b as u8;
+impl Monomials {
+    fn first(v: usize, blocks: usize) -> Self {
+        let (mut of_x, mut of_y) = ([[0; BLOCK]; BLOCKS], [[0; BLOCK]; BLOCKS]);
+        let xs = of_x[..blocks].as_flattened_mut().iter_mut();
+        let ys = of_y[..blocks].as_flattened_mut();
+        for ((x, y), (a, b)) in xs.zip(ys).zip(walk(v)) {
+            *x = a as u8;
+            *y = b as u8;
+        }
+        Monomials { blocks, of_x, of_y }
     }
-    Monomials { count, of_x, of_y }
+
+    fn of_x(&self) -> &[Block] {
+        &self.of_x[..self.blocks]
+    }
+
+    fn of_y(&self) -> &[Block] {
+        &self.of_y[..self.blocks]
+    }
+
+    fn values(&self, powers_of_x: &Powers, powers_of_y: &Powers) -> Row {
+        let mut values = [[0; BLOCK]; BLOCKS];
+        let [of_x, of_y] = [self.of_x(), self.of_y()].map(<[Block]>::as_flattened);
+        let exponents = of_x.iter().zip(of_y);
+        for (value, (&a, &b)) in values.as_flattened_mut().iter_mut().zip(exponents) {
+            *value = product(powers_of_x[usize::from(a)], powers_of_y[usize::from(b)]);
+        }
+        values
+    }
 }
 
-fn masks(exponents: &Line, leaves: impl Fn(u8, u8) -> bool) -> Masks {
-    std::array::from_fn(|order| {
-        exponents.map(|exponent| {
-            if leaves(exponent, order as u8) {
-                255
-            } else {
-                0
-            }
-        })
-    })
-}
-
-/// Where the binomial of exponent and order is odd.
-fn within(exponent: u8, order: u8) -> bool {
-    exponent & order == order
-}
-
-/// At 0 only the power that is the order is left.
-fn exactly(exponent: u8, order: u8) -> bool {
-    exponent == order
-}
-
-fn powers(symbol: u8, count: usize) -> Line {
-    let mut powers = [0; COLUMNS];
+fn put_powers(symbol: u8, powers: &mut [u8]) {
     let mut next = 1;
-    for power in &mut powers[..count] {
+    for power in powers {
         *power = next;
         next = product(symbol, next);
     }
-    powers
 }
 
-fn values(monomials: &Monomials, powers_of_x: &Line, powers_of_y: &Line) -> Line {
-    let mut values = [0; COLUMNS];
-    for (place, value) in values[..monomials.count].iter_mut().enumerate() {
-        let [a, b] = [monomials.of_x[place], monomials.of_y[place]].map(usize::from);
-        *value = product(powers_of_x[a], powers_of_y[b]);
+/// What is left of a block: where the exponent has, of the bits asked for, just those of the order.
+fn kept_block(block: &Block, exponents: &Block, asked: u8, order: u8) -> Block {
+    std::array::from_fn(|column| {
+        let is_left = exponents[column] & asked == order;
+        block[column] & if is_left { u8::MAX } else { 0 }
+    })
+}
+
+fn keep(row: &Row, exponents: &[Block], asked: u8, order: u8, out: &mut Row) {
+    for ((out, block), exponents) in out.iter_mut().zip(row).zip(exponents) {
+        *out = kept_block(block, exponents, asked, order);
     }
-    values
 }
 
-fn condition(values: &Line, of_x: &Line, of_y: &Line, blocks: usize) -> Row {
-    let mut row = [[0; BLOCK]; BLOCKS];
-    let cells = row[..blocks].as_flattened_mut().iter_mut().enumerate();
-    for (place, cell) in cells {
-        *cell = values[place] & of_x[place] & of_y[place];
+/// The binomial of exponent and order is odd where the exponent has the order's bits. At 0 only the
+/// power that is the order is left.
+fn asked_at(symbol: usize, order: u8) -> u8 {
+    if symbol == 0 {
+        u8::MAX
+    } else {
+        order
     }
-    row
 }
 
-/// One row for each condition, of as many blocks as are asked for.
-pub fn conditions(v: usize, degree: usize, count: usize, blocks: usize, matrix: &[u8]) -> Vec<Row> {
-    let monomials = monomials(v, count);
-    let of_x = masks(&monomials.of_x, within);
-    let of_y = masks(&monomials.of_y, within);
-    let of_zero = masks(&monomials.of_y, exactly);
-    let mut rows = Vec::with_capacity(BLOCK * blocks);
+/// The conditions of one order of x: those of the orders of y below m.
+fn put_order(rows: &mut IterMut<Row>, left: &Row, monomials: &Monomials, symbol: usize, m: u8) {
+    for (order, row) in (0..m).zip(rows) {
+        let asked = asked_at(symbol, order);
+        keep(left, monomials.of_y(), asked, order, row);
+    }
+}
+
+/// The conditions of a point of multiplicity m.
+fn put_point(rows: &mut IterMut<Row>, values: &Row, monomials: &Monomials, symbol: usize, m: u8) {
+    let mut left = [[0; BLOCK]; BLOCKS];
+    for order in 0..m {
+        keep(values, monomials.of_x(), order, order, &mut left);
+        put_order(rows, &left, monomials, symbol, m - order);
+    }
+}
+
+/// The conditions of a position, no power of y being above the height.
+fn put_position(
+    rows: &mut IterMut<Row>,
+    monomials: &Monomials,
+    powers_of_x: &Powers,
+    height: usize,
+    column: &[u8],
+) {
+    let mut powers_of_y = [0; COLUMNS];
+    for (symbol, &m) in column.iter().enumerate().filter(|&(_, &m)| m > 0) {
+        put_powers(symbol.max(1) as u8, &mut powers_of_y[..=height]);
+        let values = monomials.values(powers_of_x, &powers_of_y);
+        put_point(rows, &values, monomials, symbol, m);
+    }
+}
+
+/// Puts each condition into a row of zeros, in as many blocks as are asked for.
+pub fn put_conditions(rows: &mut [Row], v: usize, degree: usize, blocks: usize, matrix: &[u8]) {
+    let monomials = Monomials::first(v, blocks);
+    let mut rows = rows.iter_mut();
+    let mut powers_of_x = [0; COLUMNS];
     for (position, column) in matrix.chunks_exact(SYMBOLS).enumerate() {
-        let powers_of_x = powers(point(position), degree + 1);
-        for (symbol, &m) in column.iter().enumerate().filter(|&(_, &m)| m > 0) {
-            let of_y = if symbol == 0 { &of_zero } else { &of_y };
-            let powers_of_y = powers(symbol.max(1) as u8, degree / v + 1);
-            let values = values(&monomials, &powers_of_x, &powers_of_y);
-            for s in 0..usize::from(m) {
-                let of_order = |t: usize| condition(&values, &of_x[s], &of_y[t], blocks);
-                rows.extend((0..usize::from(m) - s).map(of_order));
-            }
-        }
+        put_powers(point(position), &mut powers_of_x[..=degree]);
+        put_position(&mut rows, &monomials, &powers_of_x, degree / v, column);
     }
-    rows
 }

@@ -2,16 +2,17 @@
 //! solves the triangle then.
 
 use super::field::{inverse, product};
-use super::rows::{entry, multiples, scaled, sum, Row, BLOCK, COLUMNS};
+use super::rows::{entry, multiples, scaled, sum, Row, BLOCK};
+use second::bound::GREATEST_LIMIT;
 
 /// The rows below a pivot whose entry in its column is not 0, and those entries.
 struct Factors {
-    listed: [(u8, u8); COLUMNS],
+    listed: [(u8, u8); GREATEST_LIMIT],
     count: usize,
 }
 
 fn factors(rows: &[Row], column: usize) -> Factors {
-    let mut listed = [(0, 0); COLUMNS];
+    let mut listed = [(0, 0); GREATEST_LIMIT];
     let mut count = 0;
     for place in column + 1..rows.len() {
         let factor = entry(&rows[place], column);

@@ -5,9 +5,12 @@ use super::polynomial::interpolate;
 use super::roots::roots;
 use super::rows::COLUMNS;
 use crate::insertion::insert;
+use second::code::MOST_POSITIONS;
+use second::list::MOST_ROWS;
 
-/// k times D/v is no more for any bound of a cost up to 150.
-pub const ROOM_FOR_ROOTS: usize = 384;
+/// There are no more roots than the highest power of y says, and that is no more than a list has
+/// rows for any cost up to the limit.
+pub const ROOM_FOR_ROOTS: usize = MOST_ROWS * MOST_POSITIONS;
 
 fn value(message: &[u8], x: u8) -> u8 {
     let from_the_top = message.iter().rev();

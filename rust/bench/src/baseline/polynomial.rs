@@ -1,8 +1,8 @@
 //! The interpolating polynomial.
 
-use super::conditions::conditions;
+use super::conditions::put_conditions;
 use super::elimination::{first_dependent, solve};
-use super::rows::{Row, BLOCK};
+use super::rows::{Row, BLOCK, BLOCKS};
 
 /// N(D) for the weight v.
 pub fn monomials(v: usize, degree: usize) -> usize {
@@ -39,13 +39,14 @@ pub fn system(k: usize, matrix: &[u8]) -> System {
     let v = k - 1;
     let cost = cost(matrix);
     let bound = bound(v, cost);
-    let count = monomials(v, bound);
     let blocks = cost / BLOCK + 1;
+    let mut rows = vec![[[0; BLOCK]; BLOCKS]; cost];
+    put_conditions(&mut rows, v, bound, blocks, matrix);
     System {
         bound,
-        count,
+        count: monomials(v, bound),
         blocks,
-        rows: conditions(v, bound, count, blocks, matrix),
+        rows,
     }
 }
 

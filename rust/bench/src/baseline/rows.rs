@@ -1,11 +1,12 @@
 //! Rows of sixteen symbols a block.
 
 use super::field::{doubled, product, SYMBOLS};
+use second::bound::GREATEST_LIMIT;
 
 pub const BLOCK: usize = 16;
-/// No cost up to 150 needs more.
-pub const BLOCKS: usize = 10;
-/// No cost up to 150 has more monomials below its bound.
+/// As many as the greatest cost needs.
+pub const BLOCKS: usize = GREATEST_LIMIT / BLOCK + 1;
+/// No cost up to the limit has more monomials up to its bound.
 pub const COLUMNS: usize = BLOCK * BLOCKS;
 
 pub type Block = [u8; BLOCK];

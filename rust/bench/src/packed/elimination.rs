@@ -3,17 +3,9 @@
 
 use super::field::{quotient, SYMBOLS};
 use super::lanes::{add, first_lane, lane, masks, scaled, BITS, LANES};
-use super::line::{for_words, part, part_mut, put_multiples, Line, Multiples, MOST_WORDS};
+use super::line::{for_words, part_mut, put_multiples, Line, Multiples};
 
 pub type Column = Line;
-
-/// Where multiples are kept.
-struct Tables {
-    /// Those of a pivot's factors.
-    of_factors: Multiples,
-    /// Those of what a 1 in each pivot's lane becomes, where columns follow.
-    of_became: Vec<Multiples>,
-}
 
 /// What sixteen pivots do to the columns behind them.
 struct Panel<const WORDS: usize> {
@@ -59,7 +51,7 @@ impl<const WORDS: usize> Panel<WORDS> {
         columns: &mut [Column],
         place: usize,
         is_followed: bool,
-        table: &mut Multiples,
+        table: &mut Multiples<WORDS>,
     ) -> bool {
         let (column, behind) = columns[place..].split_first_mut().expect("a column");
         let column = part_mut::<WORDS>(column);
@@ -79,7 +71,7 @@ impl<const WORDS: usize> Panel<WORDS> {
             if found != place {
                 words[0] ^= moved(words, found, place);
             }
-            add(words, part(&table[lane(words[0], place)]));
+            add(words, &table[lane(words[0], place)]);
         }
         self.became[place] = factors;
         self.became[place][0] |= 1 << (BITS * place);
@@ -95,53 +87,58 @@ impl<const WORDS: usize> Panel<WORDS> {
     }
 
     /// Does to the columns behind the panel what its pivots do.
-    fn follow(&self, columns: &mut [Column], tables: &mut [Multiples]) {
+    fn follow(&self, columns: &mut [Column], tables: &mut [Multiples<WORDS>; LANES]) {
         for (became, table) in self.became.iter().zip(&mut *tables) {
             put_multiples(became, table);
         }
-        let tables: &[Multiples; LANES] = tables.first_chunk().expect("a table for each pivot");
         for column in columns {
             let words = part_mut::<WORDS>(column);
             let pivots = self.pivots(words);
             let mut sums = *words;
             sums[0] = 0;
             for (place, table) in tables.iter().enumerate() {
-                add(&mut sums, part(&table[lane(pivots, place)]));
+                add(&mut sums, &table[lane(pivots, place)]);
             }
             *words = sums;
         }
     }
 }
 
+/// The tables of what a 1 in each pivot's lane becomes, in the room for them.
+fn tables_in<const WORDS: usize>(room: &mut [u64]) -> &mut [Multiples<WORDS>; LANES] {
+    let entries = room.as_chunks_mut().0;
+    let tables = entries.as_chunks_mut().0;
+    tables.first_chunk_mut().expect("room for each table")
+}
+
 /// Takes the pivots of the lanes of one word. Answers the first column that has none, if any.
-fn reduce<const WORDS: usize>(columns: &mut [Column], tables: &mut Tables) -> Option<usize> {
+fn reduce<const WORDS: usize>(columns: &mut [Column], room: &mut [u64]) -> Option<usize> {
     let mut panel = Panel {
         added: [(0, 0); LANES],
         added_count: 0,
         became: [[0; WORDS]; LANES],
     };
+    let mut of_factors = [[0; WORDS]; SYMBOLS];
     let (own, behind) = columns.split_at_mut(LANES.min(columns.len()));
     for place in 0..own.len() {
-        if !panel.pivot(own, place, !behind.is_empty(), &mut tables.of_factors) {
+        if !panel.pivot(own, place, !behind.is_empty(), &mut of_factors) {
             return Some(place);
         }
     }
     if !behind.is_empty() {
-        panel.follow(behind, &mut tables.of_became);
+        panel.follow(behind, tables_in(room));
     }
     None
 }
 
 /// Reduces the columns until one depends on those before it, and answers that one.
 pub fn first_dependent(columns: &mut [Column], words: usize) -> usize {
-    let followed = if columns.len() > LANES { LANES } else { 0 };
-    let tables = &mut Tables {
-        of_factors: [[0; MOST_WORDS]; SYMBOLS],
-        of_became: vec![[[0; MOST_WORDS]; SYMBOLS]; followed],
-    };
+    // Only where columns follow, and only for the words in use: to clear more takes time.
+    let tables = if columns.len() > LANES { LANES } else { 0 };
+    let room = &mut vec![0; tables * SYMBOLS * words];
     for word in 0..words {
         let left = &mut columns[LANES * word..];
-        if let Some(place) = for_words!(words - word, reduce(left, tables)) {
+        if let Some(place) = for_words!(words - word, reduce(left, room)) {
             return LANES * word + place;
         }
     }

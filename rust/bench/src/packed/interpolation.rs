@@ -13,8 +13,7 @@ pub fn polynomial(v: usize, matrix: &[u8], out: &mut [u8]) -> Bound {
     let points = Points::of(matrix);
     let bound = bound(v, points.cost);
     let words = points.cost.div_ceil(LANES).max(1);
-    let (points, count) = (points.listed(), points.cost + 1);
-    let mut columns = for_words!(words, columns(points, v, bound.height, count));
+    let mut columns = for_words!(words, columns(&points, v, bound.height));
     let dependent = first_dependent(&mut columns, words);
     out[dependent] = 1;
     out[dependent + 1..bound.count].fill(0);

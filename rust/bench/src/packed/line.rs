@@ -1,16 +1,17 @@
 //! Rows and columns of packed words.
 
 use super::field::SYMBOLS;
-use super::lanes::multiples;
+use super::lanes::{multiples, LANES};
+use second::bound::GREATEST_LIMIT;
 
-/// No cost up to 150 needs more.
-pub const MOST_WORDS: usize = 10;
+/// As many as the greatest cost needs.
+pub const MOST_WORDS: usize = GREATEST_LIMIT / LANES + 1;
 
 /// The words in use are the last ones, and of these the words from the pivot's on are changed.
 pub type Line = [u64; MOST_WORDS];
 
-/// Entry c is c times a line.
-pub type Multiples = [Line; SYMBOLS];
+/// Entry c is c times the words.
+pub type Multiples<const WORDS: usize> = [[u64; WORDS]; SYMBOLS];
 
 #[inline]
 pub fn part<const WORDS: usize>(line: &Line) -> &[u64; WORDS] {
@@ -23,11 +24,11 @@ pub fn part_mut<const WORDS: usize>(line: &mut Line) -> &mut [u64; WORDS] {
 }
 
 #[inline(always)]
-pub fn put_multiples<const WORDS: usize>(words: &[u64; WORDS], table: &mut Multiples) {
+pub fn put_multiples<const WORDS: usize>(words: &[u64; WORDS], table: &mut Multiples<WORDS>) {
     for word in 0..WORDS {
         let multiples = multiples(words[word]);
         for (entry, multiple) in table.iter_mut().zip(multiples) {
-            entry[MOST_WORDS - WORDS + word] = multiple;
+            entry[word] = multiple;
         }
     }
 }
@@ -45,6 +46,11 @@ macro_rules! for_words {
             7 => $function::<7> $arguments,
             8 => $function::<8> $arguments,
             9 => $function::<9> $arguments,
+            10 => $function::<10> $arguments,
+            11 => $function::<11> $arguments,
+            12 => $function::<12> $arguments,
+            13 => $function::<13> $arguments,
+            14 => $function::<14> $arguments,
             _ => $function::<{ $crate::packed::line::MOST_WORDS }> $arguments,
         }
     };

@@ -1,8 +1,8 @@
 //! The list by the same method, packed by hand for speed: sixteen symbols in each word of 64 bits.
-//! A column of the conditions is up to ten words, so that elimination changes all its rows at once,
+//! A column of the conditions is up to fifteen words, so that elimination changes all its rows at once,
 //! sixteen pivots at a time. Roots are searched in words of sixteen powers of x, and a symbol that
 //! is a simple root decides all those after it.
-//! Safe Rust for up to fifteen positions and a cost up to 150; nothing is refused here.
+//! Safe Rust for up to fifteen positions and a cost up to 225; nothing is refused here.
 
 mod conditions;
 mod elimination;

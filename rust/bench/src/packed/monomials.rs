@@ -52,7 +52,7 @@ pub struct Bound {
 }
 
 /// The smallest degree that has more monomials than the cost.
-pub fn bound(v: usize, cost: usize) -> Bound {
+pub const fn bound(v: usize, cost: usize) -> Bound {
     let (mut degree, mut height, mut count) = (0, 0, 1);
     let mut until_higher = v;
     while count <= cost {

@@ -1,11 +1,12 @@
 //! The points of a matrix.
 
 use super::field::{POWERS, SYMBOLS};
+use second::bound::{GREATEST_LIMIT, GREATEST_MULTIPLICITY};
 
 /// The orders of derivative, 0 to the greatest multiplicity less 1.
-pub const ORDERS: usize = 4;
-/// No cost up to 150 has more.
-const MOST_POINTS: usize = 150;
+pub const ORDERS: usize = GREATEST_MULTIPLICITY as usize;
+/// Each costs 1 or more.
+const MOST_POINTS: usize = GREATEST_LIMIT;
 /// The entries that are read at once.
 const AT_ONCE: usize = 8;
 const ENTRY_BITS: usize = 8;
@@ -21,6 +22,7 @@ pub struct Points {
     listed: [Point; MOST_POINTS],
     count: usize,
     pub cost: usize,
+    pub greatest_multiplicity: usize,
 }
 
 impl Points {
@@ -29,6 +31,7 @@ impl Points {
             listed: [Point::default(); MOST_POINTS],
             count: 0,
             cost: 0,
+            greatest_multiplicity: 0,
         };
         for (index, entries) in matrix.as_chunks::<AT_ONCE>().0.iter().enumerate() {
             let mut left = u64::from_le_bytes(*entries);
@@ -50,6 +53,7 @@ impl Points {
         self.count += 1;
         let m = usize::from(multiplicity);
         self.cost += m * (m + 1) / 2;
+        self.greatest_multiplicity = self.greatest_multiplicity.max(m);
     }
 
     pub fn listed(&self) -> &[Point] {

@@ -3,12 +3,16 @@
 
 use super::field::{power, product, square, SYMBOLS};
 use super::lanes::{first_lane, lane, masks, scaled, zero_lanes, BITS, LANES};
-use super::monomials::{walk, Bound};
+use super::monomials::{bound, walk, Bound};
 use super::straight::go_straight_on;
+use second::bound::GREATEST_LIMIT;
+use second::list::MOST_ROWS;
 
-/// D/v+1 is no more for any bound of a cost up to 150.
-pub const HEIGHT: usize = 17;
+/// The highest power of y is no more than a list has rows, for any cost up to the limit.
+const HEIGHT: usize = MOST_ROWS + 1;
 const MOST_SYMBOLS: usize = 15;
+/// As many as the powers of x up to the greatest bound need.
+const MOST_WORDS_OF_X: usize = bound(MOST_SYMBOLS - 1, GREATEST_LIMIT).degree / LANES + 1;
 
 pub type Message = [u8; MOST_SYMBOLS];
 
@@ -167,6 +171,7 @@ pub fn roots(k: usize, bound: &Bound, coefficients: &[u8], mut take: impl FnMut(
         0 => search::<1>(k, bound, coefficients, &mut take),
         1 => search::<2>(k, bound, coefficients, &mut take),
         2 => search::<3>(k, bound, coefficients, &mut take),
-        _ => search::<4>(k, bound, coefficients, &mut take),
+        3 => search::<4>(k, bound, coefficients, &mut take),
+        _ => search::<MOST_WORDS_OF_X>(k, bound, coefficients, &mut take),
     }
 }

@@ -3,7 +3,7 @@
 //! changed, from the pivot's word on; back substitution follows.
 //! Points, bound and words are those of `packed`, and so are the roots, the fastest here: they need
 //! no verification, since the score decides.
-//! Safe Rust for up to fifteen positions and a cost up to 150; nothing is refused here.
+//! Safe Rust for up to fifteen positions and a cost up to 225; nothing is refused here.
 
 mod conditions;
 mod elimination;
