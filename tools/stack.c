@@ -1,0 +1,92 @@
+/*
+ * Says how much stack the calls of the library need, by what they overwrite of one that is filled
+ * with a pattern, and fails where it is more than 64 KiB. The matrix costs as much as any may.
+ */
+#include <pthread.h>
+#include <stdio.h>
+#include <stdlib.h>
+#include <string.h>
+#include "kv.h"
+
+enum { N = KV_POSITIONS, MOST = 1 << 16, STACK = 1 << 20, PAGE = 1 << 16, PATTERN = 0xa5 };
+
+static uint8_t matrix[KV_SYMBOLS * N];
+static uint16_t reliabilities[KV_SYMBOLS * N];
+static uint8_t coefficients[KV_COEFFICIENTS];
+static uint8_t rows[KV_ROWS * N];
+static uint16_t scores[KV_ROWS];
+static struct kv_answer polynomial, answer;
+static size_t k;
+
+static void *nothing(void *unused) { return unused; }
+
+static void *interpolate(void *unused) {
+    answer = kv_interpolate(N, k, KV_LIMIT, matrix, sizeof matrix, coefficients, sizeof coefficients);
+    return unused;
+}
+
+static void *roots(void *unused) {
+    answer = kv_roots(polynomial.bound, k, coefficients, polynomial.count, rows, sizeof rows);
+    return unused;
+}
+
+static void *list_of_multiplicities(void *unused) {
+    answer = kv_list_of_multiplicities(N, k, KV_LIMIT, matrix, sizeof matrix, rows, sizeof rows,
+                                       scores, KV_ROWS);
+    return unused;
+}
+
+static void *list_of_reliabilities(void *unused) {
+    answer = kv_list_of_reliabilities(N, k, KV_LEVEL, KV_LIMIT, reliabilities, KV_SYMBOLS * N, rows,
+                                      sizeof rows, scores, KV_ROWS);
+    return unused;
+}
+
+static void fail(const char *why) {
+    fprintf(stderr, "stack: %s\n", why);
+    exit(1);
+}
+
+/* What a thread overwrites of its stack that does this. */
+static size_t overwritten(void *(*call)(void *)) {
+    unsigned char *stack = aligned_alloc(PAGE, STACK);
+    pthread_attr_t attributes;
+    pthread_t thread;
+    if (stack == NULL) fail("no memory");
+    memset(stack, PATTERN, STACK);
+    if (pthread_attr_init(&attributes) != 0) fail("no attributes of a thread");
+    if (pthread_attr_setstack(&attributes, stack, STACK) != 0) fail("no stack of a thread");
+    if (pthread_create(&thread, &attributes, call, NULL) != 0) fail("no thread");
+    pthread_join(thread, NULL);
+    pthread_attr_destroy(&attributes);
+    size_t untouched = 0;
+    while (untouched < STACK && stack[untouched] == PATTERN) untouched++;
+    free(stack);
+    return STACK - untouched;
+}
+
+/* The most that a call needs, of all k, beside what a thread needs that does nothing. */
+static void measure(const char *name, void *(*call)(void *)) {
+    size_t most = 0;
+    for (k = 2; k <= N; k++) {
+        interpolate(NULL);
+        polynomial = answer;
+        size_t needed = overwritten(call) - overwritten(nothing);
+        if (answer.number != 0) fail("a call is refused");
+        if (needed > most) most = needed;
+    }
+    printf("stack of %s: %zu bytes\n", name, most);
+    if (most > MOST) fail("more than 64 KiB");
+}
+
+int main(void) {
+    for (size_t i = 0; i < N; i++) {
+        matrix[KV_SYMBOLS * i + 1] = KV_LEVEL;
+        reliabilities[KV_SYMBOLS * i + 1] = KV_WHOLE;
+    }
+    measure("interpolation", interpolate);
+    measure("roots", roots);
+    measure("list of multiplicities", list_of_multiplicities);
+    measure("list of reliabilities", list_of_reliabilities);
+    return 0;
+}
