@@ -37,76 +37,57 @@ fn at_limits() -> Call {
 /// What is changed, and the number and place of the refusal that follows.
 type Change = (&'static str, fn(&mut Call), [u16; 2]);
 
-const ACCEPTED: Change = ("all at its limit", |_| (), [0, 0]);
-const LEVEL_4: Change = ("L 4", |call| call.level = LEVEL - 1, [0, 0]);
-const LEVEL_6: Change = ("L 6", |call| call.level = LEVEL + 1, [2, 0]);
-const LIMIT_226: Change = ("G 226", |call| call.limit = LIMIT + 1, [2, 0]);
-const LIMIT_224: Change = ("G 224", |call| call.limit = LIMIT - 1, [7, 0]);
-const ENTRY_4: Change = ("an entry of 4", |call| call.symbols[1] = 4, [0, 0]);
-const ENTRY_6: Change = ("an entry of 6", |call| call.symbols[1] = 6, [5, 1]);
-const COST_226: Change = (
+const NOTHING: &[Change] = &[("all at its limit", |_| (), [0, 0])];
+const LEVELS: &[Change] = &[
+    ("L 4", |call| call.level = LEVEL - 1, [0, 0]),
+    ("L 6", |call| call.level = LEVEL + 1, [2, 0]),
+];
+const LIMITS: &[Change] = &[
+    ("G 224", |call| call.limit = LIMIT - 1, [7, 0]),
+    ("G 226", |call| call.limit = LIMIT + 1, [2, 0]),
+];
+const ENTRIES: &[Change] = &[
+    ("an entry of 4", |call| call.symbols[1] = 4, [0, 0]),
+    ("an entry of 6", |call| call.symbols[1] = 6, [5, 1]),
+];
+const COSTS: &[Change] = &[(
     "a cost of 226",
     |call| call.symbols = with_entry(&call.symbols, SYMBOLS * N - 1, 1),
     [7, 0],
-);
-const ROOM_FOR_245: Change = (
+)];
+const ROOM_FOR_COEFFICIENTS: &[Change] = &[(
     "room for 245 coefficients",
     |call| call.room = COEFFICIENTS - 1,
     [4, 0],
-);
-const ROOM_FOR_ROWS: Change = ("room for 20 rows", |call| call.room = ROWS * K, [0, 0]);
-const ONE_SHORT: Change = (
-    "room for 20 rows less a symbol",
-    |call| call.room = ROWS * K - 1,
-    [4, 0],
-);
-const ROOM_FOR_19: Change = (
-    "room for 19 scores",
-    |call| call.room_for_scores = ROWS - 1,
-    [4, 0],
-);
+)];
+const ROOM_FOR_ROWS: &[Change] = &[
+    ("room for 20 rows", |call| call.room = ROWS * K, [0, 0]),
+    (
+        "room for 20 rows less a symbol",
+        |call| call.room = ROWS * K - 1,
+        [4, 0],
+    ),
+    (
+        "room for 19 scores",
+        |call| call.room_for_scores = ROWS - 1,
+        [4, 0],
+    ),
+];
 
-const CHANGES: [(&Entry, &[Change]); 5] = [
-    (&multiplicities::ENTRY, &[ACCEPTED, LEVEL_4, LEVEL_6]),
-    (&cost_and_bound::ENTRY, &[ACCEPTED, ENTRY_4, ENTRY_6]),
+const CHANGES: [(&Entry, &[&[Change]]); 5] = [
+    (&multiplicities::ENTRY, &[NOTHING, LEVELS]),
+    (&cost_and_bound::ENTRY, &[NOTHING, ENTRIES]),
     (
         &interpolation::ENTRY,
-        &[
-            ACCEPTED,
-            LIMIT_224,
-            LIMIT_226,
-            ENTRY_4,
-            ENTRY_6,
-            COST_226,
-            ROOM_FOR_245,
-        ],
+        &[NOTHING, LIMITS, ENTRIES, COSTS, ROOM_FOR_COEFFICIENTS],
     ),
     (
         &list_of_multiplicities::ENTRY,
-        &[
-            ACCEPTED,
-            LIMIT_224,
-            LIMIT_226,
-            ENTRY_4,
-            ENTRY_6,
-            COST_226,
-            ROOM_FOR_ROWS,
-            ONE_SHORT,
-            ROOM_FOR_19,
-        ],
+        &[NOTHING, LIMITS, ENTRIES, COSTS, ROOM_FOR_ROWS],
     ),
     (
         &list_of_reliabilities::ENTRY,
-        &[
-            ACCEPTED,
-            LEVEL_4,
-            LEVEL_6,
-            LIMIT_224,
-            LIMIT_226,
-            ROOM_FOR_ROWS,
-            ONE_SHORT,
-            ROOM_FOR_19,
-        ],
+        &[NOTHING, LEVELS, LIMITS, ROOM_FOR_ROWS],
     ),
 ];
 
@@ -121,8 +102,9 @@ fn lines(program: Program) -> Vec<Line> {
             answered: vec![answer.number, answer.place],
         }
     };
-    let of_entry = |(entry, changes): (&'static Entry, &'static [Change])| {
-        changes.iter().map(move |&change| line(entry, change))
+    let of_entry = |(entry, changes): (&Entry, &[&[Change]])| -> Vec<Line> {
+        let changes = changes.concat().into_iter();
+        changes.map(|change| line(entry, change)).collect()
     };
     CHANGES.into_iter().flat_map(of_entry).collect()
 }
