@@ -2,7 +2,7 @@
 -- Assumes nothing.
 use mathlib.Core.List.{List, []}
 use mathlib.Core.Path.{_≡_, refl, sym, _∙_, ap, ap₂, subst}
-use Prim.Native.Nat.{ℕ, _+_, _*_, _-_, _≤_, _<_}
+use Prim.Native.Nat.{ℕ, _+_, _*_, _-_, _<_}
 use native.Mathlib.Decide.{decLt, ℕ-discrete}
 use native.Mathlib.Omega.{arith}
 use lib.ListN.{length, getD, set, replicate, length-set, getD-replicate}
@@ -12,7 +12,7 @@ use Rattle.algebra.specs.FieldOf.{FieldOf}
 use Rattle.definitions.proofs.Zeros.{zero-at}
 use Rattle.definitions.specs.Code.{Symbols}
 use Rattle.definitions.specs.Field.{Code}
-use Rattle.blocks.specs.Row.{block, ZeroFrom, Front, SymbolBlock, BlockOf, Changed, PutBlock, ScaledBlock, SummedBlock, FilledTo, MultiplesBlock}
+use Rattle.blocks.specs.Row.{block, Front, SymbolBlock, BlockOf, Changed, PutBlock, ScaledBlock, SummedBlock, FilledTo, MultiplesBlock}
 
 -- no entry yet
 pub front-none : (f : ℕ → ℕ) (l : List ℕ) → Front 0 f l
@@ -47,18 +47,13 @@ changed-more at n x f old new h d is = record {
   };
 }
 
-module _ (n : ℕ) (part old new : List ℕ) (put : PutBlock n part old new) where
-  -- a block more at the front
-  pub front-block : (f : ℕ → ℕ) → Front n f old → Front block (λ k. f (n + k)) part → Front (n + block) f new
-  front-block f front is k h =
-      elim (decLt k n) [
-        | yes l ↦ put .patched .before k l ∙ front k l
-        | no l ↦ let here : n + (k - n) ≡ k = omega arith in put .patched .inside k (omega arith) h ∙ is (k - n) (omega arith) ∙ ap f here
-      ]
-
-  -- behind which the row is zero as before
-  pub zeros-behind : (w : ℕ) → n + block ≤ w → ZeroFrom w old → ZeroFrom w new
-  zeros-behind w h z = record { wide = put .size ∙ z .wide; zeros = λ k l. put .patched .after k (omega arith) ∙ z .zeros k l }
+-- a block more
+pub front-block : (n : ℕ) (part old new : List ℕ) → PutBlock n part old new → (f : ℕ → ℕ) → Front n f old → Front block (λ k. f (n + k)) part → Front (n + block) f new
+front-block n part old new put f front is k h =
+    elim (decLt k n) [
+      | yes l ↦ put .patched .before k l ∙ front k l
+      | no l ↦ let here : n + (k - n) ≡ k = omega arith in put .patched .inside k (omega arith) h ∙ is (k - n) (omega arith) ∙ ap f here
+    ]
 
 -- ---- blocks of symbols
 

@@ -9,25 +9,15 @@ use lib.ListN.{length, drop, getD, set, replicate, length-append, length-drop, l
 use lib.Seq.{getD-append-add, getD-drop, getD-set-other, ext-getD}
 use Rattle.algebra.proofs.Elements.{zero-symbol}
 use Rattle.algebra.specs.FieldOf.{FieldOf}
-use Rattle.definitions.proofs.Loops.{map-more}
-use Rattle.definitions.proofs.Tools.{below-zero, length-map-below, map-below-at}
+use Rattle.definitions.proofs.Tools.{length-map-below, map-below-at}
 use Rattle.definitions.proofs.Zeros.{zero-at}
 use Rattle.definitions.specs.Code.{Symbols}
 use Rattle.definitions.specs.Field.{Code}
 use Rattle.definitions.specs.Tools.{below}
-use Rattle.blocks.specs.Row.{width, ZeroFrom, Front, filled}
+use Rattle.blocks.proofs.Blocks.{front-none, front-more, front-block}
+use Rattle.blocks.specs.Row.{width, block, ZeroFrom, Front, PutBlock, filled}
 
 module _ (f : ℕ → ℕ) where
-  -- nothing is filled yet
-  pub filled-none : replicate width 0 ≡ filled 0 f
-  unfolding filled
-  filled-none = ap (λ (l : List ℕ). map f l ++ replicate width 0) (sym below-zero)
-
-  -- one entry more
-  pub filled-more : (now : List ℕ) (i x : ℕ) → i < width → now ≡ filled i f → x ≡ f i → set now i x ≡ filled (i + 1) f
-  unfolding filled
-  filled-more now i x h e ex = map-more f (replicate width 0) now i x h e ex
-
   -- a row has `width` entries
   pub length-filled : (n : ℕ) → n ≤ width → length (filled n f) ≡ width
   unfolding filled
@@ -57,24 +47,45 @@ module _ (f : ℕ → ℕ) where
   pub filled-zeros : (n : ℕ) → n ≤ width → ZeroFrom n (filled n f)
   filled-zeros n h = record { wide = length-filled n h; zeros = filled-rest n }
 
-  -- a row that is filled from the front
-  pub filled-is : (n : ℕ) (row : List ℕ) → n ≤ width → ZeroFrom n row → Front n f row → row ≡ filled n f
-  filled-is n row h z front =
-      ext-getD 0 row (filled n f) (z .wide ∙ sym (length-filled n h)) (λ k _. elim (decLt k n) [
-        | yes l ↦ front k l ∙ sym (filled-at n k l)
-        | no l ↦ z .zeros k (omega arith) ∙ sym (filled-rest n k (omega arith))
-      ])
-
 -- a row of zeros
 pub zeros-from : (n : ℕ) → ZeroFrom n (replicate width 0)
 zeros-from n = record { wide = length-replicate {A = ℕ} width 0; zeros = λ k _. zero-at width k }
 
--- a row stays zero from n on where an entry before n is set
-pub zeros-kept : (n i x : ℕ) (row : List ℕ) → i < n → ZeroFrom n row → ZeroFrom n (set row i x)
-zeros-kept n i x row h z = record {
-  wide = length-set row i x ∙ z .wide;
-  zeros = λ k l. getD-set-other row i k x 0 (λ e. omega arith) ∙ z .zeros k l;
-}
+-- a row of which i of n entries are filled in, and which is zero behind the n
+pub record Filling (n i : ℕ) (f : ℕ → ℕ) (row : List ℕ) : Type 0 where
+  pub rest : ZeroFrom n row
+  pub front : Front i f row
+
+module _ (n : ℕ) (f : ℕ → ℕ) where
+  -- none is filled in yet
+  pub filling-none : (row : List ℕ) → ZeroFrom n row → Filling n 0 f row
+  filling-none row z = record { rest = z; front = front-none f row }
+
+  -- one more
+  pub filling-more : (i x : ℕ) (row : List ℕ) → i < n → n ≤ width → Filling n i f row → x ≡ f i → Filling n (i + 1) f (set row i x)
+  filling-more i x row l h r e = record {
+    rest = record {
+      wide = length-set row i x ∙ r .rest .wide;
+      zeros = λ k b. getD-set-other row i k x 0 (λ same. omega arith) ∙ r .rest .zeros k b;
+    };
+    front = front-more i x f row (let w = r .rest .wide in omega arith) (r .front) e;
+  }
+
+  -- a block more
+  pub filling-block : (i : ℕ) (part old new : List ℕ) → i + block ≤ n → PutBlock i part old new → Filling n i f old → Front block (λ k. f (i + k)) part
+      → Filling n (i + block) f new
+  filling-block i part old new h put r is = record {
+    rest = record { wide = put .size ∙ r .rest .wide; zeros = λ k b. put .patched .after k (omega arith) ∙ r .rest .zeros k b };
+    front = front-block i part old new put f (r .front) is;
+  }
+
+  -- all of them
+  pub filling-whole : (row : List ℕ) → n ≤ width → Filling n n f row → row ≡ filled n f
+  filling-whole row h r =
+      ext-getD 0 row (filled n f) (r .rest .wide ∙ sym (length-filled f n h)) (λ k _. elim (decLt k n) [
+        | yes l ↦ r .front k l ∙ sym (filled-at f n k l)
+        | no l ↦ r .rest .zeros k (omega arith) ∙ sym (filled-rest f n k (omega arith))
+      ])
 
 -- of symbols it is a row of symbols
 pub filled-symbols : (C : Code) → FieldOf C → (f : ℕ → ℕ) (n : ℕ) → ((k : ℕ) → k < n → f k < C .symbols) → Symbols C (filled n f)

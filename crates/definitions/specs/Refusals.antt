@@ -1,4 +1,5 @@
--- "Refusals, in the order they are tried": the lines of document 01's table, 6 by document 02, and for each entry the lines that it tries.
+-- "Refusals, in the order they are tried": the lines of document 01's table, with what document 02 moved in 2, 4, 5 and 6, and for each entry the
+-- lines that it tries.
 -- Assumes nothing.
 use mathlib.Core.Bool.{Bool, cond, not, _&&_}
 use mathlib.Core.List.{List, [], _∷_}

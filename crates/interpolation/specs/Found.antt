@@ -11,7 +11,7 @@ use Rattle.definitions.specs.Limits.{greatestLimit}
 use Rattle.definitions.specs.Polynomial.{Interpolates, leading}
 use Rattle.weights.specs.Matrix.{matrixOf, matrixCost}
 
--- no tag costs more up to level 3
+-- the rows of the middle one of three systems: no tag costs more up to level 3
 abbrev pub middleRows : ℕ
 middleRows = 6 * block
 

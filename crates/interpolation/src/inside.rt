@@ -16,7 +16,7 @@ use refusals::limits::GREATEST_LIMIT;
 use refusals::limits::POSITIONS;
 use refusals::limits::SYMBOLS;
 
-// No tag costs more up to level 3.
+// The rows of the middle one of three systems: no tag costs more up to level 3.
 const MIDDLE_ROWS: usize = 6 * BLOCK;
 
 // 1 at place j, and zeros behind it.
@@ -71,7 +71,7 @@ fn small_polynomial(
     polynomial_in(&mut system, matrix, v, d, count, cost, out)
 }
 
-// In a system of some blocks of rows.
+// In a system of the middle size.
 fn middle_polynomial(
     matrix: &[[u8; SYMBOLS]; POSITIONS],
     v: usize,

@@ -5,17 +5,18 @@ use mathlib.Core.Path.{_≡_, _∙_, ap₂}
 use Prim.Native.Nat.{ℕ, _-_, _≤_}
 use native.Mathlib.Omega.{arith}
 use borrow.Author.Needs.{needs}
+use lib.ListN.{replicate}
 use Rattle.conditions.proofs.Walk.{walked-le, walk-begins, walk-stays, walk-turns}
 use Rattle.conditions.specs.Walk.{walked}
-use Rattle.blocks.proofs.Filled.{filled-none, filled-more}
-use Rattle.blocks.specs.Row.{filled}
+use Rattle.blocks.proofs.Filled.{zeros-from, Filling, filling-none, filling-more, filling-whole}
+use Rattle.blocks.specs.Row.{width}
 use Rattle.conditions.proofs.exponents.Statement.{statement}
 use Rattle.conditions.proofs.exponents.Tie as tie
 
 abbrev Inv-loop : tie.InvT-loop
 Inv-loop v count xs₀ ys₀ x₀ y₀ degree₀ step₀ xs ys x y degree step =
     (step ≤ count) × ((x ≡ walked v step .0) × (y ≡ walked v step .1) × (degree ≡ walked v step .2))
-    × (xs ≡ filled step (λ (k : ℕ). walked v k .0)) × (ys ≡ filled step (λ (k : ℕ). walked v k .1))
+    × Filling count step (λ (k : ℕ). walked v k .0) xs × Filling count step (λ (k : ℕ). walked v k .1) ys
 
 abbrev μ-loop : tie.MeasureT-loop
 μ-loop v count xs₀ ys₀ x₀ y₀ degree₀ step₀ xs ys x y degree step = count - step
@@ -23,7 +24,8 @@ abbrev μ-loop : tie.MeasureT-loop
 loop-holds : tie.Need-loop-holds Inv-loop μ-loop
 loop-holds c =
     let v = c .args .v in
-    (omega arith, walk-begins v, filled-none (λ k. walked v k .0), filled-none (λ k. walked v k .1))
+    let n = c .args .count in
+    (omega arith, walk-begins v, filling-none n (λ k. walked v k .0) (replicate width 0) (zeros-from n), filling-none n (λ k. walked v k .1) (replicate width 0) (zeros-from n))
 
 -- no power is above the number of steps
 low : (c : tie.At-loop Inv-loop μ-loop) → (c .loop .x ≤ c .loop .step) × (c .loop .y ≤ c .loop .step) × (c .loop .degree ≤ c .loop .step)
@@ -47,6 +49,7 @@ loop-again : tie.Need-loop-again Inv-loop μ-loop
 loop-again c =
     let l = c .before .before in
     let v = l .before .args .v in
+    let n = l .before .args .count in
     let i = l .loop .inv .1 in (
       omega arith,
       ⊎-elim
@@ -56,15 +59,18 @@ loop-again c =
           (λ w.
           let r = walk-turns v (l .loop .step) (l .loop .x) (l .loop .y) (l .loop .degree) (i .0) (i .1) (i .2) (w .0 .left) in
           (w .1 ∙ r .0, w .2 ∙ r .1, w .3 ∙ r .2)) (c .if1 .came),
-      filled-more (λ k. walked v k .0) (l .loop .xs) (l .loop .step) (l .loop .x) (omega arith) (l .loop .inv .2) (i .0),
-      filled-more (λ k. walked v k .1) (l .loop .ys) (l .loop .step) (l .loop .y) (omega arith) (l .loop .inv .3) (i .1),
+      filling-more n (λ k. walked v k .0) (l .loop .step) (l .loop .x) (l .loop .xs) (omega arith) (omega arith) (l .loop .inv .2) (i .0),
+      filling-more n (λ k. walked v k .1) (l .loop .step) (l .loop .y) (l .loop .ys) (omega arith) (omega arith) (l .loop .inv .3) (i .1),
     )
 
 returns : tie.Need-returns Inv-loop μ-loop
 returns c =
     let l = c .before in
-    let e : l .loop .step ≡ l .before .args .count = omega arith in
-    ap₂ (λ (x y : List ℕ). x ∷ y ∷ []) (rw e at (l .loop .inv .2)) (rw e at (l .loop .inv .3))
+    let v = l .before .args .v in
+    let n = l .before .args .count in
+    let e : l .loop .step ≡ n = omega arith in
+    ap₂ (λ (x y : List ℕ). x ∷ y ∷ []) (filling-whole n (λ k. walked v k .0) (l .loop .xs) (omega arith) (rw e at (l .loop .inv .2)))
+    (filling-whole n (λ k. walked v k .1) (l .loop .ys) (omega arith) (rw e at (l .loop .inv .3)))
 
 pub exponents-spec : {M : Type 1} → statement M
 exponents-spec =

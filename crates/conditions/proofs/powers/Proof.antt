@@ -8,14 +8,12 @@ use Rattle.algebra.proofs.Numbers.{power-symbol}
 use Rattle.definitions.proofs.Codeword.{power-zero, power-suc}
 use Rattle.definitions.specs.Field.{numbers, sixteen, power}
 use Rattle.instances.proofs.Codes.{sixteen-field}
-use Rattle.blocks.proofs.Blocks.{front-none, front-more}
-use Rattle.blocks.proofs.Filled.{filled-is, zeros-kept}
-use Rattle.blocks.specs.Row.{ZeroFrom, Front}
+use Rattle.blocks.proofs.Filled.{Filling, filling-none, filling-more, filling-whole}
 use Rattle.conditions.proofs.powers.Statement.{statement}
 use Rattle.conditions.proofs.powers.Tie as tie
 
 abbrev Inv-loop : tie.InvT-loop
-Inv-loop table x n row₀ next₀ e₀ row next e = (e ≤ n) × (next ≡ power (numbers sixteen) x e) × ZeroFrom n row × Front e (power (numbers sixteen) x) row
+Inv-loop table x n row₀ next₀ e₀ row next e = (e ≤ n) × (next ≡ power (numbers sixteen) x e) × Filling n e (power (numbers sixteen) x) row
 
 abbrev μ-loop : tie.MeasureT-loop
 μ-loop table x n row₀ next₀ e₀ row next e = n - e
@@ -23,7 +21,7 @@ abbrev μ-loop : tie.MeasureT-loop
 loop-holds : tie.Need-loop-holds Inv-loop μ-loop
 loop-holds c =
     let a = c .args in
-    (omega arith, sym (power-zero (numbers sixteen) (a .x)), c .pre .1 .2, front-none (power (numbers sixteen) (a .x)) (a .row .now))
+    (omega arith, sym (power-zero (numbers sixteen) (a .x)), filling-none (a .n) (power (numbers sixteen) (a .x)) (a .row .now) (c .pre .1 .2))
 
 look-requires : tie.Need-look-requires Inv-loop μ-loop
 look-requires c κs =
@@ -38,8 +36,7 @@ loop-again c =
       omega arith,
       c .look .ensures ∙ ap (sixteen .times (a .x)) (l .loop .inv .1) ∙ sym (power-suc (numbers sixteen) (a .x) (l .loop .e))
           ∙ ap (power (numbers sixteen) (a .x)) (sym (add-one (l .loop .e))),
-      zeros-kept (a .n) (l .loop .e) (l .loop .next) (l .loop .row) (omega arith) (l .loop .inv .2),
-      front-more (l .loop .e) (l .loop .next) (power (numbers sixteen) (a .x)) (l .loop .row) (let w = l .loop .inv .2 .wide in omega arith) (l .loop .inv .3) (l .loop .inv .1),
+      filling-more (a .n) (power (numbers sixteen) (a .x)) (l .loop .e) (l .loop .next) (l .loop .row) (omega arith) (omega arith) (l .loop .inv .2) (l .loop .inv .1),
     )
 
 returns : tie.Need-returns Inv-loop μ-loop
@@ -47,7 +44,7 @@ returns c =
     let l = c .before in
     let a = l .before .args in
     let e : l .loop .e ≡ a .n = omega arith in
-    filled-is (power (numbers sixteen) (a .x)) (a .n) (l .loop .row) (omega arith) (l .loop .inv .2) (rw e at (l .loop .inv .3))
+    filling-whole (a .n) (power (numbers sixteen) (a .x)) (l .loop .row) (omega arith) (rw e at (l .loop .inv .2))
 
 pub powers-spec : {M : Type 1} → statement M
 powers-spec =

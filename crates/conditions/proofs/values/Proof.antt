@@ -6,15 +6,14 @@ use borrow.Author.Needs.{needs}
 use lib.ListN.{getD}
 use Rattle.algebra.specs.Grid.{entryOf}
 use Rattle.definitions.specs.Field.{sixteen}
-use Rattle.blocks.proofs.Blocks.{front-none, front-more}
-use Rattle.blocks.proofs.Filled.{filled-is, zeros-kept}
-use Rattle.blocks.specs.Row.{width, ZeroFrom, Front}
+use Rattle.blocks.proofs.Filled.{Filling, filling-none, filling-more, filling-whole}
+use Rattle.blocks.specs.Row.{width}
 use Rattle.conditions.proofs.values.Statement.{statement}
 use Rattle.conditions.proofs.values.Tie as tie
 
 abbrev Inv-loop : tie.InvT-loop
 Inv-loop table px py es count row₀ place₀ row place =
-    (place ≤ count) × ZeroFrom count row × Front place (λ (k : ℕ). sixteen .times (getD px (entryOf es 0 k) 0) (getD py (entryOf es 1 k) 0)) row
+    (place ≤ count) × Filling count place (λ (k : ℕ). sixteen .times (getD px (entryOf es 0 k) 0) (getD py (entryOf es 1 k) 0)) row
 
 abbrev μ-loop : tie.MeasureT-loop
 μ-loop table px py es count row₀ place₀ row place = count - place
@@ -22,7 +21,7 @@ abbrev μ-loop : tie.MeasureT-loop
 loop-holds : tie.Need-loop-holds Inv-loop μ-loop
 loop-holds c =
     let a = c .args in
-    (omega arith, c .pre .1 .1 .2, front-none (λ k. sixteen .times (getD (a .px .now) (entryOf (a .es .now) 0 k) 0) (getD (a .py .now) (entryOf (a .es .now) 1 k) 0)) (a .row .now))
+    (omega arith, filling-none (a .count) (λ k. sixteen .times (getD (a .px .now) (entryOf (a .es .now) 0 k) 0) (getD (a .py .now) (entryOf (a .es .now) 1 k) 0)) (a .row .now) (c .pre .1 .1 .2))
 
 -- the exponent of x is a place
 x-place : (c : tie.After-wide Inv-loop μ-loop) → c .wide .result < width
@@ -53,9 +52,8 @@ loop-again c =
     let l = w .before .before .before .before .before in
     let a = l .before .args in (
       omega arith,
-      zeros-kept (a .count) (l .loop .place) (c .look .result) (l .loop .row) (omega arith) (l .loop .inv .1),
-      front-more (l .loop .place) (c .look .result) (λ k. sixteen .times (getD (a .px .now) (entryOf (a .es .now) 0 k) 0) (getD (a .py .now) (entryOf (a .es .now) 1 k) 0)) (l .loop .row)
-          (let w = l .loop .inv .1 .wide in omega arith) (l .loop .inv .2)
+      filling-more (a .count) (λ k. sixteen .times (getD (a .px .now) (entryOf (a .es .now) 0 k) 0) (getD (a .py .now) (entryOf (a .es .now) 1 k) 0)) (l .loop .place) (c .look .result) (l .loop .row)
+          (omega arith) (omega arith) (l .loop .inv .1)
           (c .look .ensures
           ∙ ap₂ (λ (x y : ℕ). sixteen .times (getD (a .px .now) x 0) (getD (a .py .now) y 0)) (w .before .before .wide .ensures .0) (w .wide2 .ensures .0)),
     )
@@ -65,8 +63,8 @@ returns c =
     let l = c .before in
     let a = l .before .args in
     let e : l .loop .place ≡ a .count = omega arith in
-    filled-is (λ k. sixteen .times (getD (a .px .now) (entryOf (a .es .now) 0 k) 0) (getD (a .py .now) (entryOf (a .es .now) 1 k) 0)) (a .count) (l .loop .row) (omega arith) (l .loop .inv .1)
-    (rw e at (l .loop .inv .2))
+    filling-whole (a .count) (λ k. sixteen .times (getD (a .px .now) (entryOf (a .es .now) 0 k) 0) (getD (a .py .now) (entryOf (a .es .now) 1 k) 0)) (l .loop .row) (omega arith)
+    (rw e at (l .loop .inv .1))
 
 pub values-spec : {M : Type 1} → statement M
 values-spec =
