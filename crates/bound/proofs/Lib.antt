@@ -1,1 +1,1 @@
-pub mod Degrees
+pub mod Powers

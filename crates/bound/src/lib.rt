@@ -17,14 +17,15 @@ pub fn count(v: usize, d: usize) -> usize
     total
 }
 
-// The smallest degree with more monomials than the cost.
+// The smallest degree with more monomials than the cost: the whole part of cost/m + v (m - 1)/2, with m the largest number such that v m (m - 1) is at most twice the cost.
 pub fn bound(v: usize, cost: usize) -> usize
     requires { ⌜ (0 < v) × (cost < 65536) ⌝ }
     ensures { λ r. ⌜ r ≡ bound v cost ⌝ }
 {
-    let mut d = 0;
-    while count(v, d) <= cost {
-        d += 1;
+    let most = 2 * cost / v;
+    let mut m = 1;
+    while (m + 1) * m <= most {
+        m += 1;
     }
-    d
+    (2 * cost + v * (m * (m - 1))) / (2 * m)
 }

@@ -6,10 +6,10 @@ use Prim.Native.Nat.{ℕ, zero, suc, _+_, _-_, _*_, _/_, _≤_, _<_}
 use native.Mathlib.Decide.{decLt}
 use native.Mathlib.Nat.{not-suc-le-zero, zero-div, mul-div-le, lt-mul-div-succ, lt-of-mul-lt-mul-left, mul-le-mul-left}
 use native.Mathlib.Omega.{arith}
-use borrow.Author.Tests.{ltb-true, ltb-false, lt-ltb, le-ltb}
+use borrow.Author.Tests.{ltb-true, ltb-false}
 use Rattle.definitions.specs.Bound.{count, bound}
 use Rattle.definitions.specs.Tools.{sum}
-use Rattle.definitions.proofs.Tools.{sum-zero, sum-suc, sum-one, smallest-le, smallest-fails, smallest-passes, smallest-is}
+use Rattle.definitions.proofs.Tools.{sum-zero, sum-suc, sum-one, smallest-le, smallest-fails, smallest-passes}
 
 -- each term one more, the sum n more
 sum-more : (n : ℕ) (f g : ℕ → ℕ) → ((j : ℕ) → j < n → g j ≡ f j + 1) → sum n g ≡ sum n f + n
@@ -85,13 +85,3 @@ module _ (v : ℕ) (pos : 1 ≤ v) where
     ],
     λ D l. ltb-false C (count v D) (smallest-fails _ C D l),
   )
-
-  -- what a search upward from 0 comes to is the bound
-  pub bound-is : (C D : ℕ) → C < count v D → ((E : ℕ) → E < D → count v E ≤ C) → bound v C ≡ D
-  bound-is C D a f =
-      smallest-is _ C D
-      (elim (decLt C D) [
-        | yes l ↦ let g = count-above C in let k = f C l in let z : ⊥ = omega arith in absurd z
-        | no n ↦ omega arith
-      ])
-      (λ E l. le-ltb C (count v E) (f E l)) (λ _. lt-ltb C (count v D) a)

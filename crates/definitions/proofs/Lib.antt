@@ -15,3 +15,4 @@ pub mod Table
 pub mod Loops
 pub mod Sums
 pub mod Powers
+pub mod Direct

@@ -45,7 +45,7 @@ rows-length k rows h = ap length (rows-flat rows) ∙ length-flatten k rows (all
 module _ (D k : ℕ) (two : 2 ≤ k) (small : count (k - 1) D ≤ greatestCount) where
   -- the array holds every accepted polynomial
   pub array-fits : (D + 1) * (D / (k - 1) + 1) ≤ places
-  array-fits = let a = array-size (k - 1) (omega arith) D in omega arith
+  array-fits = let a = array-size (k - 1) D in omega arith
 
 -- the loaded array has as many entries as there are places
 pub loaded-length : (C : Code) (D k : ℕ) (q l : List ℕ) → l ≡ loaded (numbers C) (D / (k - 1) + 1) q (monomials (k - 1) D) (zeros places) → length l ≡ places

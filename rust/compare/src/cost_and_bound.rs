@@ -8,6 +8,7 @@ use kv::Refusal;
 use second::bound::{cost_of_entry, GREATEST_LIMIT, GREATEST_MULTIPLICITY};
 use second::code::{LEAST_SIZE, MOST_POSITIONS};
 use second::field::SYMBOLS;
+use std::sync::LazyLock;
 use tags::shuffled;
 
 const LEAST_CALLS: usize = 150_000;
@@ -24,16 +25,25 @@ pub static ENTRY: Entry = Entry {
     input: MATRIX,
 };
 
-/// A matrix of the given cost, from the greatest multiplicities down, if it has room for them.
-pub fn matrix_of_cost(n: usize, cost: usize) -> Option<Vec<u8>> {
-    let mut matrix = Vec::new();
-    let mut left = cost;
-    for m in (1..=GREATEST_MULTIPLICITY).rev() {
-        while left >= cost_of_entry(m) {
-            left -= cost_of_entry(m);
-            matrix.push(m);
-        }
+/// The fewest entries of each cost, up to that of a matrix which is full.
+static FEWEST_ENTRIES: LazyLock<Vec<Vec<u8>>> = LazyLock::new(|| {
+    let greatest = SYMBOLS * MOST_POSITIONS * cost_of_entry(GREATEST_MULTIPLICITY);
+    let mut fewest: Vec<Vec<u8>> = vec![Vec::new()];
+    for cost in 1..=greatest {
+        let ended_by = |m| {
+            let others = &fewest[cost.checked_sub(cost_of_entry(m))?];
+            Some([others.as_slice(), &[m]].concat())
+        };
+        let entries = (1..=GREATEST_MULTIPLICITY).filter_map(ended_by);
+        let shortest = entries.min_by_key(Vec::len);
+        fewest.push(shortest.expect("an entry of 1 costs 1"));
     }
+    fewest
+});
+
+/// A matrix of n positions of the given cost, if there is one.
+pub fn matrix_of_cost(n: usize, cost: usize) -> Option<Vec<u8>> {
+    let mut matrix = FEWEST_ENTRIES.get(cost)?.clone();
     let fits = matrix.len() <= SYMBOLS * n;
     matrix.resize(SYMBOLS * n, 0);
     fits.then_some(matrix)
@@ -49,10 +59,10 @@ impl Comparison {
     }
 
     fn every_cost(&mut self, k: usize) {
-        let n = MOST_POSITIONS;
-        let greatest = SYMBOLS * n * cost_of_entry(GREATEST_MULTIPLICITY);
-        for matrix in (0..=greatest).filter_map(|cost| matrix_of_cost(n, cost)) {
-            self.bounded(k, matrix);
+        for cost in 0..FEWEST_ENTRIES.len() {
+            if let Some(matrix) = matrix_of_cost(MOST_POSITIONS, cost) {
+                self.bounded(k, matrix);
+            }
         }
     }
 

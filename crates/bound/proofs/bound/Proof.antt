@@ -1,44 +1,98 @@
--- The loop has passed degrees with too few monomials.
-use Prim.Native.Nat.{ℕ, suc, _-_, _≤_, _<_}
-use native.Mathlib.Nat.{not-suc-le-zero}
-use Rattle.definitions.specs.Bound.{count}
-use Rattle.bound.proofs.Degrees.{degree-found, degree-passed}
+-- The loop has passed numbers whose m (m - 1) is at most the whole part of 2C/v, and stops at the largest.
+use Prim.Native.Nat.{suc, _+_, _*_, _-_, _≤_}
 use native.Mathlib.Omega.{arith}
-use borrow.Author.Needs.{needs}
+use Rattle.bound.proofs.Powers.{product-fits, number-within, number-found, number-next}
 use Rattle.bound.proofs.bound.Statement.{statement}
 use Rattle.bound.proofs.bound.Tie as tie
 
 abbrev Inv-loop : tie.InvT-loop
-Inv-loop v cost d₀ d = (d ≤ cost) × ((e : ℕ) → e < d → count v e ≤ cost)
+Inv-loop v cost most m₀ m = (1 ≤ m) × (m ≤ suc cost) × (m * (m - 1) ≤ most)
 
 abbrev μ-loop : tie.MeasureT-loop
-μ-loop v cost d₀ d = suc cost - d
+μ-loop v cost most m₀ m = suc cost - m
+
+mul-most : tie.Need-mul-most Inv-loop μ-loop
+mul-most c = omega arith
+
+div-most : tie.Need-div-most Inv-loop μ-loop
+div-most c = omega arith
 
 loop-holds : tie.Need-loop-holds Inv-loop μ-loop
-loop-holds c = (omega arith, λ e h. absurd (not-suc-le-zero h))
+loop-holds c = (omega arith, omega arith, omega arith)
 
-count-requires : tie.Need-count-requires Inv-loop μ-loop
-count-requires c κs = search needs
+add-loop : tie.Need-add-loop Inv-loop μ-loop
+add-loop c = omega arith
 
-add-d : tie.Need-add-d Inv-loop μ-loop
-add-d c = omega arith
+mul-loop : tie.Need-mul-loop Inv-loop μ-loop
+mul-loop c = product-fits _ _ (omega arith) (omega arith)
+
+add-m : tie.Need-add-m Inv-loop μ-loop
+add-m c = omega arith
 
 loop-less : tie.Need-loop-less Inv-loop μ-loop
-loop-less c = omega arith
+loop-less c =
+    let s = c .before .before in
+    let next = number-next (s .args .v) (s .args .cost) (c .before .loop .m) (s .pre .0) (omega arith) .0 in
+    omega arith
 
 loop-again : tie.Need-loop-again Inv-loop μ-loop
 loop-again c =
-    let l = c .before .before in
-    degree-passed (l .before .args .v) (l .before .args .cost) (l .loop .d) (l .before .pre .0) (l .loop .inv .1) (c .before .count .result)
-    (c .before .count .ensures) (c .if1 .taken)
+    let s = c .before .before in
+    let next = number-next (s .args .v) (s .args .cost) (c .before .loop .m) (s .pre .0) (omega arith) in
+    (omega arith, next .0, next .1)
+
+mul-result : tie.Need-mul-result Inv-loop μ-loop
+mul-result c = omega arith
+
+sub-result : tie.Need-sub-result Inv-loop μ-loop
+sub-result c = omega arith
+
+mul-result-2 : tie.Need-mul-result-2 Inv-loop μ-loop
+mul-result-2 c = product-fits _ _ (omega arith) (omega arith)
+
+mul-result-3 : tie.Need-mul-result-3 Inv-loop μ-loop
+mul-result-3 c =
+    let s = c .before .before in
+    let within = number-within (s .args .v) (s .args .cost) (c .before .loop .m) (s .pre .0) (c .before .loop .inv .2) in
+    omega arith
+
+add-result : tie.Need-add-result Inv-loop μ-loop
+add-result c =
+    let s = c .before .before in
+    let within = number-within (s .args .v) (s .args .cost) (c .before .loop .m) (s .pre .0) (c .before .loop .inv .2) in
+    omega arith
+
+mul-result-4 : tie.Need-mul-result-4 Inv-loop μ-loop
+mul-result-4 c = omega arith
+
+div-result : tie.Need-div-result Inv-loop μ-loop
+div-result c = omega arith
 
 returns : tie.Need-returns Inv-loop μ-loop
 returns c =
-    let l = c .before .before in
-    degree-found (l .before .args .v) (l .before .args .cost) (l .loop .d) (l .before .pre .0) (l .loop .inv .1) (c .before .count .result)
-    (c .before .count .ensures) (c .if1 .left)
+    let l = c .before in
+    let a = l .before .args in
+    number-found (a .v) (a .cost) (l .loop .m) (l .before .pre .0) (l .loop .inv .2) (omega arith)
 
 pub bound-spec : {M : Type 1} → statement M
 bound-spec =
     tie.close
-    (tie.spec Inv-loop μ-loop loop-holds count-requires add-d loop-less loop-again returns)
+    (tie.spec
+    Inv-loop
+    μ-loop
+    mul-most
+    div-most
+    loop-holds
+    add-loop
+    mul-loop
+    add-m
+    loop-less
+    loop-again
+    mul-result
+    sub-result
+    mul-result-2
+    mul-result-3
+    add-result
+    mul-result-4
+    div-result
+    returns)

@@ -1,6 +1,6 @@
 -- The loop has added up the monomials of the powers of y below b.
 use Rattle.definitions.proofs.Loops.{sum-none, sum-more}
-use Rattle.bound.proofs.Degrees.{power-fits}
+use Rattle.bound.proofs.Powers.{power-fits}
 use mathlib.Core.Path.{_≡_, refl}
 use Prim.Native.Nat.{ℕ, _+_, _*_, _-_, _/_, _≤_}
 use Rattle.definitions.specs.Tools.{sum}

@@ -14,12 +14,14 @@ fn cost(matrix: &[u8]) -> usize {
     matrix.iter().map(cost_of).sum()
 }
 
+/// The smallest degree with more monomials than the cost, without counting.
 fn bound(v: usize, cost: usize) -> usize {
-    let mut degree = 0;
-    while monomials(v, degree) <= cost {
-        degree += 1;
+    let most = 2 * cost / v;
+    let mut m = 1;
+    while (m + 1) * m <= most {
+        m += 1;
     }
-    degree
+    (2 * cost + v * (m * (m - 1))) / (2 * m)
 }
 
 /// The powers of x and y of the monomials in order.
