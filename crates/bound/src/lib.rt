@@ -17,7 +17,8 @@ pub fn count(v: usize, d: usize) -> usize
     total
 }
 
-// The smallest degree with more monomials than the cost: the whole part of cost/m + v (m - 1)/2, with m the largest number such that v m (m - 1) is at most twice the cost.
+// The smallest degree with more monomials than the cost, by its direct form: the whole part of cost/m + v (m - 1)/2,
+// with m the largest whole number such that v m (m - 1) is at most twice the cost.
 pub fn bound(v: usize, cost: usize) -> usize
     requires { ⌜ (0 < v) × (cost < 65536) ⌝ }
     ensures { λ r. ⌜ r ≡ bound v cost ⌝ }

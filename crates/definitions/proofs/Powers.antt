@@ -15,7 +15,7 @@ use Rattle.definitions.specs.Tools.{sum}
 
 module _ (v : ℕ) where
   -- v (j + 2) (j + 1) is 2 v (j + 1) more than v (j + 1) j
-  pub next-product : (j : ℕ) → v * (suc (suc j) * suc j) ≡ v * (suc j * j) + 2 * (v * suc j)
+  next-product : (j : ℕ) → v * (suc (suc j) * suc j) ≡ v * (suc j * j) + 2 * (v * suc j)
   next-product j =
       let a = suc-mul (suc j) (suc j) in
       let b = mul-suc (suc j) j in

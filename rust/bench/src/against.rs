@@ -1,10 +1,12 @@
-//! The library against another build of it, in turns.
+//! Two builds of the library against each other, in turns. Both come out of shared objects: one that
+//! is linked in takes other times than the same one loaded.
 
-use crate::other::Other;
+use crate::shared::Shared;
 use crate::turns::{in_turns, timed, ROUNDS};
 use crate::workloads::{workloads, Workload, K, N};
-use kv::lent::{self, Answer};
+use kv::lent::Answer;
 use kv::{COEFFICIENTS, POSITIONS, ROWS};
+use second::bound::cost;
 use std::process::exit;
 
 /// A matrix and its cost, which is the limit it is given: whatever the greatest limit of a build is,
@@ -15,7 +17,7 @@ struct Priced {
 }
 
 fn priced(matrix: Vec<u8>) -> Priced {
-    let cost = lent::cost_and_bound(N, K, &matrix).cost.into();
+    let cost = cost(&matrix);
     Priced { matrix, cost }
 }
 
@@ -23,76 +25,73 @@ type Coefficients = [u8; COEFFICIENTS];
 type Rows = [u8; ROWS * POSITIONS];
 type Scores = [u16; ROWS];
 
-fn polynomial(
-    interpolate: impl Fn(usize, usize, usize, &[u8], &mut [u8]) -> Answer,
-    Priced { matrix, cost }: &Priced,
-) -> (Answer, Coefficients) {
-    let mut out = [0; COEFFICIENTS];
-    (interpolate(N, K, *cost, matrix, &mut out), out)
+fn bounded(library: &Shared, Priced { matrix, .. }: &Priced) -> Answer {
+    library.cost_and_bound(N, K, matrix)
 }
 
-fn listed(
-    list: impl Fn(usize, usize, usize, &[u8], &mut [u8], &mut [u16]) -> Answer,
-    Priced { matrix, cost }: &Priced,
-) -> (Answer, Rows, Scores) {
+fn polynomial(library: &Shared, Priced { matrix, cost }: &Priced) -> (Answer, Coefficients) {
+    let mut out = [0; COEFFICIENTS];
+    let answer = library.interpolate(N, K, *cost, matrix, &mut out);
+    (answer, out)
+}
+
+fn listed(library: &Shared, Priced { matrix, cost }: &Priced) -> (Answer, Rows, Scores) {
     let (mut rows, mut scores) = ([0; ROWS * POSITIONS], [0; ROWS]);
-    let answer = list(N, K, *cost, matrix, &mut rows, &mut scores);
+    let answer = library.list(N, K, *cost, matrix, &mut rows, &mut scores);
     (answer, rows, scores)
 }
 
-fn print_times(workload: &str, what: &str, [this, that]: [f64; 2]) {
-    let ratio = this / that;
-    println!("| {workload} | {what} | {this:.2} µs | {that:.2} µs | {ratio:.3} |");
+struct Comparison<'a> {
+    builds: &'a [Shared; 2],
+    workload: &'a str,
+    inputs: &'a [Priced],
 }
 
-fn time_workload(other: &Other, Workload { name, matrices }: Workload) {
-    let inputs: Vec<Priced> = matrices.into_iter().map(priced).collect();
-    let interpolate =
-        |n, k, limit, matrix: &[u8], out: &mut [u8]| other.interpolate(n, k, limit, matrix, out);
-    let list = |n, k, limit, matrix: &[u8], rows: &mut [u8], scores: &mut [u16]| {
-        other.list(n, k, limit, matrix, rows, scores)
-    };
-    for input in &inputs {
-        let polynomials = [
-            polynomial(lent::interpolate, input),
-            polynomial(interpolate, input),
-        ];
-        let lists = [
-            listed(lent::list_of_multiplicities, input),
-            listed(list, input),
-        ];
-        if polynomials[0] != polynomials[1] || lists[0] != lists[1] {
-            println!("{name}: the other build answers otherwise, and is not timed");
+impl Comparison<'_> {
+    fn print_times<Output: PartialEq>(
+        &self,
+        what: &str,
+        call: impl Fn(&Shared, &Priced) -> Output,
+    ) {
+        let workload = self.workload;
+        let [this, other] = self.builds;
+        let alike = |input| call(this, input) == call(other, input);
+        if !self.inputs.iter().all(alike) {
+            println!("| {workload} | {what} | the other answers otherwise, and is not timed | | |");
             return;
         }
+        let [this, other] = in_turns(
+            self.inputs,
+            [&|turn| timed(turn, |input| call(this, input)), &|turn| {
+                timed(turn, |input| call(other, input))
+            }],
+        );
+        let ratio = this / other;
+        println!("| {workload} | {what} | {this:.2} µs | {other:.2} µs | {ratio:.3} |");
     }
-    let times = in_turns(
-        &inputs,
-        [
-            &|turn| timed(turn, |input| polynomial(lent::interpolate, input)),
-            &|turn| timed(turn, |input| polynomial(interpolate, input)),
-        ],
-    );
-    print_times(name, "interpolation", times);
-    let times = in_turns(
-        &inputs,
-        [
-            &|turn| timed(turn, |input| listed(lent::list_of_multiplicities, input)),
-            &|turn| timed(turn, |input| listed(list, input)),
-        ],
-    );
-    print_times(name, "list", times);
 }
 
-pub fn time(file: &str) {
-    let Some(other) = Other::open(file) else {
+fn opened(file: &str) -> Shared {
+    Shared::open(file).unwrap_or_else(|| {
         eprintln!("bench: {file} is no shared object of the library");
         exit(1);
-    };
+    })
+}
+
+pub fn time(files: [&str; 2]) {
+    let builds = files.map(opened);
     println!("n {N}, k {K}, medians of {ROUNDS} rounds\n");
-    println!("| matrices | | this library | the other | this / the other |");
+    println!("| matrices | | this | the other | this / the other |");
     println!("|---|---|---|---|---|");
-    for workload in workloads() {
-        time_workload(&other, workload);
+    for Workload { name, matrices } in workloads() {
+        let inputs: Vec<Priced> = matrices.into_iter().map(priced).collect();
+        let comparison = Comparison {
+            builds: &builds,
+            workload: name,
+            inputs: &inputs,
+        };
+        comparison.print_times("cost and bound", bounded);
+        comparison.print_times("interpolation", polynomial);
+        comparison.print_times("list", listed);
     }
 }

@@ -1,19 +1,19 @@
 //! Times the proved library against the same algorithm in plain Rust and against the same method in
 //! Rust packed by hand, a row at a time and sixteen pivots at a time, on the same matrices, in
 //! turns. With `--check` nothing is timed, and all three are compared with the second program. With
-//! `--against` the library is timed against another build of it.
+//! `--against` two builds of the library are timed against each other.
 
 mod against;
 mod baseline;
 mod check;
 mod insertion;
 mod matrices;
-#[allow(unsafe_code)]
-mod other;
 mod packed;
 mod parts;
 mod programs;
 mod row_at_a_time;
+#[allow(unsafe_code)]
+mod shared;
 mod timing;
 mod turns;
 mod workloads;
@@ -24,9 +24,9 @@ fn main() {
     match words[..] {
         [] => timing::time(),
         ["--check"] => check::check(),
-        ["--against", file] => against::time(file),
+        ["--against", this, other] => against::time([this, other]),
         _ => {
-            eprintln!("usage: bench [--check | --against LIBRARY.so]");
+            eprintln!("usage: bench [--check | --against THIS.so OTHER.so]");
             std::process::exit(2);
         }
     }

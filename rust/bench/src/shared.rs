@@ -1,4 +1,4 @@
-//! Another build of the library, out of a shared object.
+//! A build of the library, out of a shared object.
 
 use kv::lent::Answer;
 use std::ffi::{c_char, c_int, c_void, CStr, CString};
@@ -11,6 +11,7 @@ extern "C" {
     fn dlsym(library: *mut c_void, name: *const c_char) -> *mut c_void;
 }
 
+type CostAndBound = unsafe extern "C" fn(usize, usize, *const u8, usize) -> Answer;
 type Interpolate =
     unsafe extern "C" fn(usize, usize, usize, *const u8, usize, *mut u8, usize) -> Answer;
 type List = unsafe extern "C" fn(
@@ -25,15 +26,16 @@ type List = unsafe extern "C" fn(
     usize,
 ) -> Answer;
 
-pub struct Other {
+pub struct Shared {
+    cost_and_bound: CostAndBound,
     interpolate: Interpolate,
     list: List,
 }
 
-impl Other {
+impl Shared {
     /// `None` where the file is no shared object that has the entries. What it has is called as the
     /// entries of this library are.
-    pub fn open(file: &str) -> Option<Other> {
+    pub fn open(file: &str) -> Option<Shared> {
         let file = CString::new(file).ok()?;
         let library = unsafe { dlopen(file.as_ptr(), RESOLVE_NOW) };
         if library.is_null() {
@@ -43,12 +45,19 @@ impl Other {
             let entry = unsafe { dlsym(library, name.as_ptr()) };
             (!entry.is_null()).then_some(entry)
         };
-        Some(Other {
+        Some(Shared {
+            cost_and_bound: unsafe {
+                transmute::<*mut c_void, CostAndBound>(entry(c"kv_cost_and_bound")?)
+            },
             interpolate: unsafe {
                 transmute::<*mut c_void, Interpolate>(entry(c"kv_interpolate")?)
             },
             list: unsafe { transmute::<*mut c_void, List>(entry(c"kv_list_of_multiplicities")?) },
         })
+    }
+
+    pub fn cost_and_bound(&self, n: usize, k: usize, matrix: &[u8]) -> Answer {
+        unsafe { (self.cost_and_bound)(n, k, matrix.as_ptr(), matrix.len()) }
     }
 
     pub fn interpolate(
