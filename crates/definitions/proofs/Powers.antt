@@ -2,42 +2,19 @@
 -- So the rooms of the limits hold them.
 -- Assumes nothing.
 use mathlib.Core.Path.{_≡_}
-use Prim.Native.Nat.{ℕ, zero, suc, _+_, _-_, _*_, _/_, _≤_, _<_}
+use Prim.Native.Nat.{ℕ, zero, suc, _+_, _*_, _/_, _≤_, _<_}
 use native.Mathlib.Decide.{decLt}
-use native.Mathlib.Nat.{suc-mul, mul-suc, mul-add, mul-left-comm, mul-div-le, lt-mul-div-succ, mul-le-mul, mul-le-mul-left}
+use native.Mathlib.Nat.{mul-suc, mul-add, mul-left-comm, mul-div-le, lt-mul-div-succ, mul-le-mul, mul-le-mul-left}
 use native.Mathlib.Numerals.{add-one}
 use native.Mathlib.Omega.{arith}
 use Rattle.definitions.proofs.Bound.{count-zero, count-suc, bound-is-least}
-use Rattle.definitions.proofs.Tools.{sum-one, sum-suc}
+use Rattle.definitions.proofs.Sums.{next-product, falling-sum}
 use Rattle.definitions.specs.Bound.{count, bound}
 use Rattle.definitions.specs.Limits.{greatestLimit, coefficientRoom, greatestRows}
-use Rattle.definitions.specs.Tools.{sum}
 
-module _ (v : ℕ) where
-  -- v (j + 2) (j + 1) is 2 v (j + 1) more than v (j + 1) j
-  next-product : (j : ℕ) → v * (suc (suc j) * suc j) ≡ v * (suc j * j) + 2 * (v * suc j)
-  next-product j =
-      let a = suc-mul (suc j) (suc j) in
-      let b = mul-suc (suc j) j in
-      let e : suc (suc j) * suc j ≡ suc j * j + 2 * suc j = omega arith in
-      let c = mul-add v (suc j * j) (2 * suc j) in
-      let d = mul-left-comm v 2 (suc j) in
-      rw e (omega arith)
-
-  -- the powers of y up to the j-th, of which none is past X, have (j + 1) X - v j (j + 1) / 2 monomials
-  first-powers : (X j : ℕ) → v * j ≤ X → 2 * (suc j * X) ≡ 2 * sum (suc j) (λ (b : ℕ). X - v * b) + v * (suc j * j)
-  first-powers X zero h = rw (sum-one (λ (b : ℕ). X - v * b)) (omega arith)
-  first-powers X (suc j) h =
-      let k : v * j ≤ v * suc j = mul-le-mul-left v (omega arith) in
-      let r = first-powers X j (omega arith) in
-      let s = sum-suc (suc j) (λ (b : ℕ). X - v * b) in
-      let a = suc-mul (suc j) X in
-      let p = next-product j in
-      omega arith
-
-  -- N(D) in a closed form: with j the whole part of D/v, it is (j + 1) (D + 1) - v j (j + 1) / 2
-  pub count-closed : (D : ℕ) → 2 * (suc (D / v) * (D + 1)) ≡ 2 * count v D + v * (suc (D / v) * (D / v))
-  count-closed D = rw (add-one (D / v)) (first-powers (D + 1) (D / v) (let a = mul-div-le D v in omega arith))
+-- N(D) in a closed form: with j the whole part of D/v, it is (j + 1) (D + 1) - v j (j + 1) / 2
+pub count-closed : (v D : ℕ) → 2 * (suc (D / v) * (D + 1)) ≡ 2 * count v D + v * (suc (D / v) * (D / v))
+count-closed v D = rw (add-one (D / v)) (falling-sum v (D + 1) (D / v) (let a = mul-div-le D v in omega arith))
 
 module _ (v : ℕ) (pos : 1 ≤ v) (C : ℕ) where
   -- with j the whole part of bound/v, there are at most j + 1 more monomials than the cost

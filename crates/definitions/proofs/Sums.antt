@@ -1,10 +1,10 @@
--- Sums taken apart: in two, in blocks of equal size, and without a tail of zeros.
+-- Sums taken apart: in two, in blocks of equal size, and without a tail of zeros; and the sum of numbers that fall by the same step.
 -- Assumes nothing.
 use mathlib.Core.Path.{_≡_, sym, _∙_, ap}
 use Prim.Native.Nat.{ℕ, zero, suc, _+_, _*_, _-_, _≤_}
-use native.Mathlib.Nat.{add-zero, add-suc, mul-zero, mul-suc}
+use native.Mathlib.Nat.{add-zero, add-suc, mul-zero, suc-mul, mul-suc, mul-add, mul-left-comm, mul-le-mul-left}
 use native.Mathlib.Omega.{arith}
-use Rattle.definitions.proofs.Tools.{sum-zero, sum-suc}
+use Rattle.definitions.proofs.Tools.{sum-zero, sum-one, sum-suc}
 use Rattle.definitions.specs.Tools.{sum}
 
 pub sum-append : (m n : ℕ) (f : ℕ → ℕ) → sum (m + n) f ≡ sum m f + sum n (λ j. f (m + j))
@@ -33,3 +33,25 @@ sum-tail m n f h z =
     let r = sum-of-zeros (n - m) (λ j. f (m + j)) (λ j. z (m + j) (omega arith)) in
     let a = sum-append m (n - m) f in
     ap (λ (k : ℕ). sum k f) e ∙ a ∙ ap (λ (s : ℕ). sum m f + s) r ∙ add-zero (sum m f)
+
+module _ (v : ℕ) where
+  -- v (j + 2) (j + 1) is 2 v (j + 1) more than v (j + 1) j
+  pub next-product : (j : ℕ) → v * (suc (suc j) * suc j) ≡ v * (suc j * j) + 2 * (v * suc j)
+  next-product j =
+      let a = suc-mul (suc j) (suc j) in
+      let b = mul-suc (suc j) j in
+      let e : suc (suc j) * suc j ≡ suc j * j + 2 * suc j = omega arith in
+      let c = mul-add v (suc j * j) (2 * suc j) in
+      let d = mul-left-comm v 2 (suc j) in
+      rw e (omega arith)
+
+  -- X + (X - v) + .. + (X - v j) is (j + 1) X - v j (j + 1) / 2
+  pub falling-sum : (X j : ℕ) → v * j ≤ X → 2 * (suc j * X) ≡ 2 * sum (suc j) (λ (b : ℕ). X - v * b) + v * (suc j * j)
+  falling-sum X zero h = rw (sum-one (λ (b : ℕ). X - v * b)) (omega arith)
+  falling-sum X (suc j) h =
+      let k : v * j ≤ v * suc j = mul-le-mul-left v (omega arith) in
+      let r = falling-sum X j (omega arith) in
+      let s = sum-suc (suc j) (λ (b : ℕ). X - v * b) in
+      let a = suc-mul (suc j) X in
+      let p = next-product j in
+      omega arith
