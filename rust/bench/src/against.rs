@@ -60,12 +60,9 @@ impl Comparison<'_> {
             println!("| {workload} | {what} | the other answers otherwise, and is not timed | | |");
             return;
         }
-        let [this, other] = in_turns(
-            self.inputs,
-            [&|turn| timed(turn, |input| call(this, input)), &|turn| {
-                timed(turn, |input| call(other, input))
-            }],
-        );
+        let time_this = |turn: &[Priced]| timed(turn, |input| call(this, input));
+        let time_other = |turn: &[Priced]| timed(turn, |input| call(other, input));
+        let [this, other] = in_turns(self.inputs, [&time_this, &time_other]);
         let ratio = this / other;
         println!("| {workload} | {what} | {this:.2} µs | {other:.2} µs | {ratio:.3} |");
     }
