@@ -13,8 +13,8 @@ use Rattle.definitions.proofs.Monomials.{power-within}
 use Rattle.definitions.specs.Bound.{bound}
 
 -- a power of y that is counted
-pub power-fits : (v d b : ℕ) → 0 < v → b ≤ d / v → (v * b ≤ d) × (b ≤ d)
-power-fits v d b pos h = let quotient = div-le-self d v in (power-within v d b h, omega arith)
+pub power-fits : (v d b : ℕ) → b ≤ d / v → (v * b ≤ d) × (b ≤ d)
+power-fits v d b h = let quotient = div-le-self d v in (power-within v d b h, omega arith)
 
 module _ (v C m : ℕ) (pos : 0 < v) (within : m * (m - 1) ≤ 2 * C / v) where
   -- m is small

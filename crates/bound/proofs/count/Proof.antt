@@ -24,16 +24,16 @@ add-total : tie.Need-add-total Inv-loop μ-loop
 add-total c = omega arith
 
 mul-total : tie.Need-mul-total Inv-loop μ-loop
-mul-total c = let fits = power-fits (c .before .before .args .v) (c .before .before .args .d) (c .before .loop .b) (c .before .before .pre .0) (c .loop-test .taken) in omega arith
+mul-total c = let fits = power-fits (c .before .before .args .v) (c .before .before .args .d) (c .before .loop .b) (c .loop-test .taken) in omega arith
 
 sub-total : tie.Need-sub-total Inv-loop μ-loop
-sub-total c = let fits = power-fits (c .before .before .args .v) (c .before .before .args .d) (c .before .loop .b) (c .before .before .pre .0) (c .loop-test .taken) in omega arith
+sub-total c = let fits = power-fits (c .before .before .args .v) (c .before .before .args .d) (c .before .loop .b) (c .loop-test .taken) in omega arith
 
 add-total-2 : tie.Need-add-total-2 Inv-loop μ-loop
-add-total-2 c = let fits = power-fits (c .before .before .args .v) (c .before .before .args .d) (c .before .loop .b) (c .before .before .pre .0) (c .loop-test .taken) in omega arith
+add-total-2 c = let fits = power-fits (c .before .before .args .v) (c .before .before .args .d) (c .before .loop .b) (c .loop-test .taken) in omega arith
 
 add-b : tie.Need-add-b Inv-loop μ-loop
-add-b c = let fits = power-fits (c .before .before .args .v) (c .before .before .args .d) (c .before .loop .b) (c .before .before .pre .0) (c .loop-test .taken) in omega arith
+add-b c = let fits = power-fits (c .before .before .args .v) (c .before .before .args .d) (c .before .loop .b) (c .loop-test .taken) in omega arith
 
 loop-less : tie.Need-loop-less Inv-loop μ-loop
 loop-less c = omega arith
@@ -42,7 +42,7 @@ loop-again : tie.Need-loop-again Inv-loop μ-loop
 loop-again c =
     let l = c .before in
     let s = l .before in
-    let fits = power-fits (s .args .v) (s .args .d) (l .loop .b) (s .pre .0) (c .loop-test .taken) in
+    let fits = power-fits (s .args .v) (s .args .d) (l .loop .b) (c .loop-test .taken) in
     let f : ℕ → ℕ = λ j. s .args .d + 1 - s .args .v * j in
     (omega arith, sum-more f (l .loop .b) (l .loop .total) (f (l .loop .b)) (l .loop .inv .1) refl, omega arith)
 
