@@ -1,5 +1,5 @@
 -- The loop has passed numbers whose m (m - 1) is at most the whole part of 2C/v, and stops at the largest.
-use Prim.Native.Nat.{suc, _+_, _*_, _-_, _≤_}
+use Prim.Native.Nat.{suc, _+_, _*_, _-_, _/_, _≤_}
 use native.Mathlib.Omega.{arith}
 use Rattle.bound.proofs.Powers.{product-fits, number-within, number-found, number-next}
 use Rattle.bound.proofs.bound.Statement.{statement}
@@ -10,6 +10,17 @@ Inv-loop v cost most m₀ m = (1 ≤ m) × (m ≤ suc cost) × (m * (m - 1) ≤ 
 
 abbrev μ-loop : tie.MeasureT-loop
 μ-loop v cost most m₀ m = suc cost - m
+
+-- in the loop the next number is within the quotient, too
+next-within : (c : tie.In-loop Inv-loop μ-loop)
+    → (c .before .loop .m + 1 ≤ suc (c .before .before .args .cost))
+    × ((c .before .loop .m + 1) * (c .before .loop .m + 1 - 1) ≤ 2 * c .before .before .args .cost / c .before .before .args .v)
+next-within c = let s = c .before .before in number-next (s .args .v) (s .args .cost) (c .before .loop .m) (s .pre .0) (omega arith)
+
+-- behind it v m (m - 1) is at most twice the cost
+stops-within : (c : tie.After-loop Inv-loop μ-loop)
+    → c .before .before .args .v * (c .before .loop .m * (c .before .loop .m - 1)) ≤ 2 * c .before .before .args .cost
+stops-within c = let s = c .before .before in number-within (s .args .v) (s .args .cost) (c .before .loop .m) (s .pre .0) (c .before .loop .inv .2)
 
 mul-most : tie.Need-mul-most Inv-loop μ-loop
 mul-most c = omega arith
@@ -30,16 +41,10 @@ add-m : tie.Need-add-m Inv-loop μ-loop
 add-m c = omega arith
 
 loop-less : tie.Need-loop-less Inv-loop μ-loop
-loop-less c =
-    let s = c .before .before in
-    let next = number-next (s .args .v) (s .args .cost) (c .before .loop .m) (s .pre .0) (omega arith) .0 in
-    omega arith
+loop-less c = let next = next-within c in omega arith
 
 loop-again : tie.Need-loop-again Inv-loop μ-loop
-loop-again c =
-    let s = c .before .before in
-    let next = number-next (s .args .v) (s .args .cost) (c .before .loop .m) (s .pre .0) (omega arith) in
-    (omega arith, next .0, next .1)
+loop-again c = let next = next-within c in (omega arith, next .0, next .1)
 
 mul-result : tie.Need-mul-result Inv-loop μ-loop
 mul-result c = omega arith
@@ -51,16 +56,10 @@ mul-result-2 : tie.Need-mul-result-2 Inv-loop μ-loop
 mul-result-2 c = product-fits _ _ (omega arith) (omega arith)
 
 mul-result-3 : tie.Need-mul-result-3 Inv-loop μ-loop
-mul-result-3 c =
-    let s = c .before .before in
-    let within = number-within (s .args .v) (s .args .cost) (c .before .loop .m) (s .pre .0) (c .before .loop .inv .2) in
-    omega arith
+mul-result-3 c = let within = stops-within c in omega arith
 
 add-result : tie.Need-add-result Inv-loop μ-loop
-add-result c =
-    let s = c .before .before in
-    let within = number-within (s .args .v) (s .args .cost) (c .before .loop .m) (s .pre .0) (c .before .loop .inv .2) in
-    omega arith
+add-result c = let within = stops-within c in omega arith
 
 mul-result-4 : tie.Need-mul-result-4 Inv-loop μ-loop
 mul-result-4 c = omega arith

@@ -14,6 +14,11 @@ Inv-loop v d total₀ b₀ total b = (b ≤ d / v + 1) × (total ≡ sum b (λ (
 abbrev μ-loop : tie.MeasureT-loop
 μ-loop v d total₀ b₀ total b = d / v + 1 - b
 
+-- in the loop b is a power of y that is counted
+power-counted : (c : tie.In-loop Inv-loop μ-loop)
+    → (c .before .before .args .v * c .before .loop .b ≤ c .before .before .args .d) × (c .before .loop .b ≤ c .before .before .args .d)
+power-counted c = power-fits (c .before .before .args .v) (c .before .before .args .d) (c .before .loop .b) (c .loop-test .taken)
+
 loop-holds : tie.Need-loop-holds Inv-loop μ-loop
 loop-holds c = (omega arith, sum-none (λ (j : ℕ). c .args .d + 1 - c .args .v * j), omega arith)
 
@@ -24,16 +29,16 @@ add-total : tie.Need-add-total Inv-loop μ-loop
 add-total c = omega arith
 
 mul-total : tie.Need-mul-total Inv-loop μ-loop
-mul-total c = let fits = power-fits (c .before .before .args .v) (c .before .before .args .d) (c .before .loop .b) (c .loop-test .taken) in omega arith
+mul-total c = let fits = power-counted c in omega arith
 
 sub-total : tie.Need-sub-total Inv-loop μ-loop
-sub-total c = let fits = power-fits (c .before .before .args .v) (c .before .before .args .d) (c .before .loop .b) (c .loop-test .taken) in omega arith
+sub-total c = let fits = power-counted c in omega arith
 
 add-total-2 : tie.Need-add-total-2 Inv-loop μ-loop
-add-total-2 c = let fits = power-fits (c .before .before .args .v) (c .before .before .args .d) (c .before .loop .b) (c .loop-test .taken) in omega arith
+add-total-2 c = let fits = power-counted c in omega arith
 
 add-b : tie.Need-add-b Inv-loop μ-loop
-add-b c = let fits = power-fits (c .before .before .args .v) (c .before .before .args .d) (c .before .loop .b) (c .loop-test .taken) in omega arith
+add-b c = let fits = power-counted c in omega arith
 
 loop-less : tie.Need-loop-less Inv-loop μ-loop
 loop-less c = omega arith
@@ -42,7 +47,7 @@ loop-again : tie.Need-loop-again Inv-loop μ-loop
 loop-again c =
     let l = c .before in
     let s = l .before in
-    let fits = power-fits (s .args .v) (s .args .d) (l .loop .b) (c .loop-test .taken) in
+    let fits = power-counted c in
     let f : ℕ → ℕ = λ j. s .args .d + 1 - s .args .v * j in
     (omega arith, sum-more f (l .loop .b) (l .loop .total) (f (l .loop .b)) (l .loop .inv .1) refl, omega arith)
 
