@@ -3,7 +3,7 @@
 -- Assumes nothing.
 use mathlib.Core.Bool.{Bool, cond, not, _&&_}
 use mathlib.Core.List.{List, [], _∷_}
-use Prim.Native.Nat.{ℕ, suc, _-_, _*_, _/_}
+use Prim.Native.Nat.{ℕ, suc, _+_, _-_, _*_, _/_}
 use lib.Dec.{eqb, leb, ltb}
 use lib.ListN.{length}
 use Rattle.definitions.specs.Bound.{count}
@@ -72,6 +72,10 @@ firstAbove greatest (x ∷ l) = cond (ltb greatest x) 0 (suc (firstAbove greates
 -- "the first bad index"
 abbrev pub noneAbove : ℕ → List ℕ → Line
 noneAbove greatest l = record { number = 5; given = ltb (firstAbove greatest l) (length l); place = firstAbove greatest l }
+
+-- "the later one's indexes run on after the earlier one's last", where a call takes two such inputs
+abbrev pub runsOn : ℕ → Line → Line
+runsOn earlier l = record { number = l .number; given = l .given; place = earlier + l .place }
 
 abbrev pub symbols : Code → List ℕ → Line
 symbols C l = noneAbove (C .symbols - 1) l

@@ -1,10 +1,11 @@
 // Refusals, and the checks that give them: an entry chains its checks as its table has its lines, and the first that is given is the refusal.
 ghost use mathlib.Core.Bool.{not, _&&_};
 ghost use mathlib.Core.Path.{_≡_};
-ghost use Prim.Native.Nat.{_*_, _<_};
+ghost use Prim.Native.Nat.{_+_, _*_, _^_, _<_};
 ghost use lib.Dec.{eqb, leb};
+ghost use lib.ListN.{length};
 ghost use Rattle.definitions.specs.Field.{sixteen};
-ghost use Rattle.definitions.specs.Refusals.{line, sizes, size, level, room, firstAbove, noneAbove};
+ghost use Rattle.definitions.specs.Refusals.{line, sizes, size, level, room, firstAbove, noneAbove, runsOn};
 ghost use Rattle.refusals.specs.Checked.{passed, orLine, lineOf, toldChecked};
 ghost use Rattle.refusals.specs.Refusal.{toldRefusal};
 
@@ -84,7 +85,7 @@ fn first_above(greatest: u8, list: &[u8]) -> usize
 }
 
 // No product is made, so no number is too large.
-fn is_product(given: usize, each: usize, many: usize) -> bool
+pub fn is_product(given: usize, each: usize, many: usize) -> bool
     requires { ⌜ 0 < each ⌝ }
     ensures { λ r. ⌜ r ≡ eqb given (each * many) ⌝ }
 {
@@ -119,8 +120,13 @@ impl Checked {
     pub fn sizes(n: usize, k: usize) -> Checked
         ensures { λ r. ⌜ toldChecked r ≡ orLine passed (sizes sixteen n k) ⌝ }
     {
-        Checked::Passed
-            .or(k < 2, Refusal::Sizes)
+        Checked::Passed.sizes_too(n, k)
+    }
+
+    pub fn sizes_too(self, n: usize, k: usize) -> Checked
+        ensures { λ r. ⌜ toldChecked r ≡ orLine (toldChecked self) (sizes sixteen n k) ⌝ }
+    {
+        self.or(k < 2, Refusal::Sizes)
             .within(k, n, POSITIONS, Refusal::Sizes)
     }
 
@@ -155,12 +161,21 @@ impl Checked {
     pub fn symbols(self, greatest: u8, list: &[u8]) -> Checked
         ensures { λ r. ⌜ toldChecked r ≡ orLine (toldChecked self) (noneAbove greatest (now (list .entry))) ⌝ }
     {
+        self.symbols_after(0, greatest, list)
+    }
+
+    // The indexes run on after those of an earlier list.
+    pub fn symbols_after(self, earlier: usize, greatest: u8, list: &[u8]) -> Checked
+        requires { ⌜ earlier + length (now list) < 2 ^ 64 ⌝ }
+        ensures { λ r. ⌜ toldChecked r ≡ orLine (toldChecked self) (runsOn earlier (noneAbove greatest (now (list .entry)))) ⌝ }
+    {
         match self {
             Checked::Refused(r) => Checked::Refused(r),
             Checked::Passed => {
                 let bad = first_above(greatest, list);
                 if bad < list.len() {
-                    Checked::Refused(Refusal::Symbol(bad))
+                    let place = earlier + bad;
+                    Checked::Refused(Refusal::Symbol(place))
                 } else {
                     Checked::Passed
                 }

@@ -1,27 +1,21 @@
--- What is refused stays so; otherwise the scan finds the first number above, or none.
-use lib.ListN.{length}
-use Rattle.definitions.specs.Refusals.{firstAbove, noneAbove}
-use Rattle.refusals.proofs.Lines.{refusal-kept, bad-found, none-found}
+-- After no earlier list an index is its own place.
+use mathlib.Core.Path.{_∙_, ap}
+use Prim.Native.Nat.{ℕ}
+use native.Mathlib.Nat.{zero-add}
 use borrow.Author.Needs.{needs}
+use lib.ListN.{length}
+use lib.Dec.{ltb}
+use Rattle.definitions.specs.Refusals.{firstAbove}
+use Rattle.refusals.specs.Checked.{orLine, toldChecked}
 use Rattle.refusals.proofs.Checked.symbols.Statement.{statement}
 use Rattle.refusals.proofs.Checked.symbols.Tie as tie
 
 returns : tie.Need-returns
 returns c =
-    let a = c .before .before .before .before .args in
-    refusal-kept (a .self) (noneAbove (a .greatest) (a .list .now)) _ (c .before .self .given .1)
-
-returns-2 : tie.Need-returns-2
-returns-2 c =
-    let a = c .before .before .before .before .before .args in
-    bad-found (a .self) (c .before .before .enum-told .given .1) 5 (firstAbove (a .greatest) (a .list .now)) (length (a .list .now)) (c .before .first-above .result) (c .before .first-above .ensures) (c .if1 .taken)
-
-returns-3 : tie.Need-returns-3
-returns-3 c =
-    let a = c .before .before .before .before .before .args in
-    none-found (a .self) (c .before .before .enum-told .given .1) 5 (firstAbove (a .greatest) (a .list .now)) (length (a .list .now)) (c .before .first-above .result) (c .before .first-above .ensures) (c .if1 .left)
+    let a = c .before .before .args in
+    let first = firstAbove (a .greatest) (a .list .now) in
+    c .symbols-after .ensures
+    ∙ ap (λ (p : ℕ). orLine (toldChecked (a .self)) (record { number = 5; given = ltb first (length (a .list .now)); place = p })) (zero-add first)
 
 pub symbols-spec : {M : Type 1} → statement M
-symbols-spec =
-    tie.close
-    (tie.spec (λ c. search needs) (λ c. search needs) (λ c κs. search needs) returns returns-2 returns-3)
+symbols-spec = tie.close (tie.spec (λ c κs. search needs) returns)

@@ -18,12 +18,12 @@ returns c =
 returns-2 : tie.Need-returns-2
 returns-2 c =
     let a = c .before .before .before .before .before .args in
-    bad-found (a .checked) (c .before .before .enum-told .given .1) 6 (smallest (badColumn sixteen (a .reliabilities .now)) (a .n)) (a .n) (c .before .first-bad-column .result) (c .before .first-bad-column .ensures) (c .if1 .taken)
+    bad-found (a .checked) (c .before .before .enum-told .given .1) 6 (smallest (badColumn sixteen (a .reliabilities .now)) (a .n)) (a .n) (λ i. i) (c .before .first-bad-column .result) (c .before .first-bad-column .ensures) (c .if1 .taken)
 
 returns-3 : tie.Need-returns-3
 returns-3 c =
     let a = c .before .before .before .before .before .args in
-    none-found (a .checked) (c .before .before .enum-told .given .1) 6 (smallest (badColumn sixteen (a .reliabilities .now)) (a .n)) (a .n) (c .before .first-bad-column .result) (c .before .first-bad-column .ensures) (c .if1 .left)
+    none-found (a .checked) (c .before .before .enum-told .given .1) 6 (smallest (badColumn sixteen (a .reliabilities .now)) (a .n)) (a .n) (λ i. i) (c .before .first-bad-column .result) (c .before .first-bad-column .ensures) (c .if1 .left)
 
 pub columns-checked-spec : {M : Type 1} → statement M
 columns-checked-spec =
