@@ -1,12 +1,17 @@
 -- What holds of every entry of a list.
 -- Assumes nothing.
-use mathlib.Core.List.{List, [], _∷_, _++_, map, flatMap, flatten, List·Memᴰ, List·Memᴰ·head, List·Memᴰ·tail, List·Memᴰ·cases-cons, List·Memᴰ·not-nil}
+use mathlib.Core.List.{List, [], _∷_, _++_, map, flatMap, flatten, append-assoc, List·Memᴰ, List·Memᴰ·head, List·Memᴰ·tail, List·Memᴰ·cases-cons, List·Memᴰ·not-nil}
 use mathlib.Core.Logic.{⊎-elim}
-use mathlib.Core.Path.{_≡_, refl, sym, _∙_, subst}
+use mathlib.Core.Path.{_≡_, refl, sym, _∙_, ap, subst}
 use Prim.Native.Nat.{ℕ, zero, suc, _*_, _<_}
-use native.Mathlib.Nat.{mul-zero, mul-suc}
+use native.Mathlib.Nat.{mul-zero, mul-suc, add-comm, le-of-suc-le-suc, not-suc-le-zero}
 use native.Mathlib.Omega.{arith}
-use lib.ListN.{length, length-append}
+use lib.ListN.{length, take, drop, getD, length-append}
+use lib.Seq.{take-at, drop-at, drop-drop}
+use Rattle.definitions.proofs.Symbols.{append-symbols}
+use Rattle.definitions.specs.Code.{Symbols}
+use Rattle.definitions.specs.Field.{Code}
+use Rattle.definitions.specs.Listing.{rowAt}
 use Rattle.definitions.specs.Tools.{below}
 
 module _ {B : Type 0} (P : B → Type 0) where
@@ -57,3 +62,23 @@ length-flatten k (f ∷ rows) s =
     let r = length-flatten k rows (s .1) in
     let g = mul-suc k (length rows) in
     length-append f (flatten rows) ∙ omega arith
+
+-- and row j of them is the list j
+pub row-of-flatten : (k : ℕ) (rows : List (List ℕ)) (rest : List ℕ) → All (λ f. length f ≡ k) rows → (j : ℕ) → j < length rows → rowAt k (flatten rows ++ rest) j ≡ getD rows j []
+unfolding flatten
+row-of-flatten k [] rest s j h = absurd (not-suc-le-zero h)
+row-of-flatten k (f ∷ rows) rest s zero h =
+    ap (λ (n : ℕ). take k (drop n ((f ++ flatten rows) ++ rest))) (mul-zero k)
+    ∙ ap (take k) (append-assoc f (flatten rows) rest) ∙ take-at f (flatten rows ++ rest) k (s .0)
+row-of-flatten k (f ∷ rows) rest s (suc j) h =
+    ap (λ (n : ℕ). take k (drop n ((f ++ flatten rows) ++ rest))) (mul-suc k j ∙ add-comm (k * j) k)
+    ∙ ap (take k)
+    (sym (drop-drop (k * j) k ((f ++ flatten rows) ++ rest))
+    ∙ ap (drop (k * j)) (ap (drop k) (append-assoc f (flatten rows) rest) ∙ drop-at f (flatten rows ++ rest) k (s .0)))
+    ∙ row-of-flatten k rows rest (s .1) j (le-of-suc-le-suc h)
+
+-- lists of symbols, joined, are symbols
+pub symbols-flatten : (C : Code) → 0 < C .symbols → (rows : List (List ℕ)) → All (λ f. Symbols C f) rows → Symbols C (flatten rows)
+unfolding flatten
+symbols-flatten C pos [] h j = pos
+symbols-flatten C pos (f ∷ rows) h j = append-symbols C f (flatten rows) (h .0) (symbols-flatten C pos rows (h .1)) j

@@ -9,6 +9,7 @@ pub mod Weights
 pub mod Bound
 pub mod Monomials
 pub mod Listing
+pub mod Above
 pub mod Refusals
 pub mod Columns
 pub mod Table

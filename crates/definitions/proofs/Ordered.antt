@@ -1,5 +1,6 @@
 -- Lists in order: each entry stands in the relation to every later one.
 -- Assumes nothing.
+use mathlib.Core.Bool.{Bool}
 use mathlib.Core.List.{List, [], _∷_, _++_, map, List·Memᴰ, List·Memᴰ·head, List·Memᴰ·tail, List·Memᴰ·not-nil, List·Memᴰ·append-cases, List·Memᴰ·eq-of-singleton, Memᴰ·of-map}
 use mathlib.Core.Logic.{⊎-elim}
 use mathlib.Core.Path.{_≡_, refl, subst}
@@ -8,8 +9,8 @@ use native.Mathlib.Decide.{decLt}
 use native.Mathlib.Nat.{le-of-suc-le-suc, not-suc-le-zero}
 use native.Mathlib.Omega.{arith}
 use lib.ListN.{length, getD}
-use Rattle.definitions.specs.Tools.{below}
-use Rattle.definitions.proofs.Tools.{below-zero, below-suc, member-below}
+use Rattle.definitions.specs.Tools.{below, select}
+use Rattle.definitions.proofs.Tools.{split, below-zero, below-suc, member-below, select-nil, select-yes, select-no, select-from}
 
 -- each entry of the list stands in R to every later one
 abbrev pub Ordered : {B : Type 0} → (B → B → Type 0) → List B → Type 0
@@ -57,6 +58,18 @@ module _ {B : Type 0} (R : B → B → Type 0) where
     λ y k. (let r = Memᴰ·of-map g l k in subst (R (g a)) (r .2) (c a (r .0) (List·Memᴰ·head refl) (List·Memᴰ·tail (r .1)) (o .0 (r .0) (r .1)))),
     ordered-map S g l (λ x y s t. c x y (List·Memᴰ·tail s) (List·Memᴰ·tail t)) (o .1),
   )
+
+-- what is selected of a list in order is in order
+pub ordered-select : {B : Type 0} (R : B → B → Type 0) (test : B → Bool) (l : List B) → Ordered R l → Ordered R (select test l)
+ordered-select R test [] o = rw (select-nil test) tt
+ordered-select R test (b ∷ l) o =
+    split (test b) (λ y. rw (select-yes test b l y) (λ x m. o .0 x (select-from test l x m), ordered-select R test l (o .1)))
+    (λ n. rw (select-no test b l n) (ordered-select R test l (o .1)))
+
+-- a list in two orders at once
+pub ordered-both : {B : Type 0} (R S : B → B → Type 0) (l : List B) → Ordered R l → Ordered S l → Ordered (λ x y. R x y × S x y) l
+ordered-both R S [] o p = tt
+ordered-both R S (x ∷ l) o p = (λ y m. (o .0 y m, p .0 y m), ordered-both R S l (o .1) (p .1))
 
 -- the numbers below n rise
 pub below-ordered : (n : ℕ) → Ordered _<_ (below n)

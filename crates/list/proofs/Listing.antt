@@ -1,6 +1,6 @@
 -- The chain of the list: the roots of a polynomial are ranked above a threshold, and where it passes that is every message above it.
 -- Assumes nothing.
-use mathlib.Core.List.{List, [], _∷_, _++_, map, flatten, List·Memᴰ}
+use mathlib.Core.List.{List, [], _++_, map, flatten, List·Memᴰ}
 use mathlib.Core.Path.{_≡_, refl, sym, _∙_, ap, subst}
 use Prim.Native.Nat.{ℕ, _+_, _*_, _-_, _/_, _≤_}
 use native.Mathlib.Nat.{mul-le-mul}
@@ -9,7 +9,7 @@ use lib.Dec.{ltb}
 use lib.ListN.{length, drop, length-append, length-drop}
 use Rattle.algebra.proofs.Complete.{roots-hold-high-scores}
 use Rattle.algebra.proofs.Elements.{zero-symbol}
-use Rattle.algebra.proofs.Every.{All, all-members, length-flatten}
+use Rattle.algebra.proofs.Every.{All, all-members, length-flatten, symbols-flatten}
 use Rattle.algebra.specs.FieldOf.{FieldOf}
 use Rattle.definitions.proofs.Listing.{falling-in-order}
 use Rattle.definitions.proofs.Messages.{messages-in-order}
@@ -36,12 +36,6 @@ use Rattle.root_tree.proofs.Roots.{roots-at-most}
 use Rattle.weights.specs.Matrix.{matrixOf}
 
 module _ (C : Code) (F : FieldOf C) where
-  -- lists of symbols, one behind the other
-  symbols-flatten : (rows : List (List ℕ)) → All (λ f. Symbols C f) rows → Symbols C (flatten rows)
-  unfolding flatten
-  symbols-flatten [] h j = zero-symbol C F
-  symbols-flatten (f ∷ rows) h j = append-symbols C f (flatten rows) (h .0) (symbols-flatten rows (h .1)) j
-
   module _ (D k : ℕ) (q : List ℕ) where
     root-member : (f : List ℕ) → List·Memᴰ f (rootsOf C D k q) → List·Memᴰ f (messages C k)
     root-member f m = select-from (isRoot C (k - 1) D q) (messages C k) f m
@@ -57,7 +51,7 @@ module _ (C : Code) (F : FieldOf C) where
     pub found-symbols : (before found : List ℕ) → Symbols C before → found ≡ rowsOnto k (rootsOf C D k q) before → Symbols C found
     found-symbols before found s e =
         subst (λ (l : List ℕ). Symbols C l) (sym e)
-        (append-symbols C (flatten (rootsOf C D k q)) (drop (k * length (rootsOf C D k q)) before) (symbols-flatten (rootsOf C D k q) roots-symbols)
+        (append-symbols C (flatten (rootsOf C D k q)) (drop (k * length (rootsOf C D k q)) before) (symbols-flatten C (zero-symbol C F) (rootsOf C D k q) roots-symbols)
         (drop-symbols C (k * length (rootsOf C D k q)) before s))
 
   -- of any polynomial of few powers of y: its roots, ranked

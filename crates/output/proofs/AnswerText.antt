@@ -6,24 +6,21 @@ use mathlib.Core.Path.{_≡_, refl, sym, _∙_, ap, ap₂}
 use Prim.Native.Nat.{ℕ, zero, suc, _+_, _*_, _-_, _≤_, _<_}
 use native.Mathlib.Omega.{arith}
 use borrow.Author.Tests.{ne-eqb}
-use lib.Dec.{ltb}
 use lib.ListN.{length, drop, getD, length-append, length-map, List·getD-append}
 use lib.Seq.{ext-getD}
 use Rattle.algebra.proofs.Elements.{zero-symbol}
 use Rattle.algebra.proofs.Every.{all-members, length-flatten}
+use Rattle.definitions.proofs.Above.{above-in-order}
 use Rattle.definitions.proofs.Joined.{flatten-one, flatten-append}
-use Rattle.definitions.proofs.Listing.{falling-in-order}
-use Rattle.definitions.proofs.Messages.{messages-in-order}
 use Rattle.definitions.proofs.Table.{Gives, stop, pass, Accepts, end, next, gives, accepts, sizes-mean}
-use Rattle.definitions.proofs.Tools.{split, map-at, length-below, map-below, map-below-at, select-from, below-zero}
+use Rattle.definitions.proofs.Tools.{split, map-at, length-below, map-below, map-below-at, below-zero}
 use Rattle.definitions.specs.Answers.{Answer, refused, counted, rowsOnto, scoresOnto, readAnswer, readRows, readScores}
 use Rattle.definitions.specs.Bound.{bound}
-use Rattle.definitions.specs.Code.{messages}
 use Rattle.definitions.specs.Field.{sixteen}
 use Rattle.definitions.specs.Limits.{greatestRows}
-use Rattle.definitions.specs.Listing.{listOf}
+use Rattle.definitions.specs.Listing.{listOf, rowAt}
 use Rattle.definitions.specs.Refusals.{Line, tried, line, readTable}
-use Rattle.definitions.specs.Tools.{below, select}
+use Rattle.definitions.specs.Tools.{below}
 use Rattle.definitions.specs.Weights.{matrix, cost, score}
 use Rattle.instances.proofs.Codes.{sixteen-field}
 use Rattle.refusals.specs.Refusal.{toldRefusal}
@@ -31,7 +28,6 @@ use Rattle.refusals.specs.declared.Refusal.{Refusal}
 use Rattle.refusals.specs.declared.Refusal.the-variants.{Sizes, Setting, Length, Room, Symbol, Column, Cost, Zero}
 use Rattle.ranking.proofs.Memory.{rows-read}
 use Rattle.ranking.proofs.Written.{Sized}
-use Rattle.ranking.specs.Rows.{rowAt}
 use Rattle.output.specs.Program.{listText, symbolsOfRows, answerTo, answerText, Holds}
 use Rattle.text.proofs.Putting.{none-lines, more-lines}
 use Rattle.text.specs.Text.{listedLine, rowLine, lineOf, rowLines, refusedLine}
@@ -57,10 +53,8 @@ outcome (l ∷ table) h = split (l .given) (λ e. refuses (l .number) (l .place)
 -- the rows of the list are messages: k symbols each
 list-sized : (n k : ℕ) (m : List ℕ) → Sized k (listOf sixteen n k m)
 list-sized n k m =
-    let test : List ℕ → Bool = λ (f : List ℕ). ltb (bound (k - 1) (cost m)) (score sixteen n m f) in
-    all-members (λ f. length f ≡ k) (listOf sixteen n k m) (λ f h.
-    messages-in-order sixteen (zero-symbol sixteen sixteen-field) k .sized f
-    (select-from test (messages sixteen k) f (falling-in-order (score sixteen n m) (select test (messages sixteen k)) .from f h)))
+    all-members (λ f. length f ≡ k) (listOf sixteen n k m)
+    (above-in-order sixteen (zero-symbol sixteen sixteen-field) n k m (bound (k - 1) (cost m)) .sized)
 
 -- no line
 flatten-none : flatten {A = ℕ} [] ≡ []

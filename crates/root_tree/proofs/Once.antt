@@ -1,18 +1,17 @@
 -- The theorem on the roots: all messages of k symbols with Q(x, f(x)) identically zero, each once, by the first symbol, then the second and so
 -- on. So a double root stands once, and none is of degree k.
 -- Assumes nothing.
-use mathlib.Core.Bool.{Bool, true}
-use mathlib.Core.List.{List, [], _∷_, List·Memᴰ}
+use mathlib.Core.Bool.{true}
+use mathlib.Core.List.{List, [], List·Memᴰ}
 use mathlib.Core.Path.{_≡_}
 use Prim.Native.Nat.{ℕ, _-_, _<_}
 use lib.ListN.{length, getD}
 use Rattle.definitions.proofs.Messages.{Before, before-irreflexive, messages-in-order}
-use Rattle.definitions.proofs.Ordered.{Ordered, ordered-once}
-use Rattle.definitions.proofs.Tools.{split, select-nil, select-yes, select-no, select-passes, select-from, select-keeps}
+use Rattle.definitions.proofs.Ordered.{Ordered, ordered-once, ordered-select}
+use Rattle.definitions.proofs.Tools.{select-passes, select-from, select-keeps}
 use Rattle.definitions.specs.Code.{Symbols, messages}
 use Rattle.definitions.specs.Field.{Code}
 use Rattle.definitions.specs.Roots.{isRoot, rootsOf}
-use Rattle.definitions.specs.Tools.{select}
 use Rattle.algebra.specs.FieldOf.{FieldOf}
 use Rattle.algebra.proofs.Elements.{zero-symbol}
 
@@ -28,13 +27,6 @@ pub record AllRoots (C : Code) (D k : ℕ) (q : List ℕ) : Type 0 where
   pub ordered : Ordered Before (rootsOf C D k q)
   -- no two places hold the same
   pub once : (i j : ℕ) → i < length (rootsOf C D k q) → j < length (rootsOf C D k q) → getD (rootsOf C D k q) i [] ≡ getD (rootsOf C D k q) j [] → i ≡ j
-
--- what is selected of a list in order is in order
-ordered-select : {B : Type 0} (R : B → B → Type 0) (test : B → Bool) (l : List B) → Ordered R l → Ordered R (select test l)
-ordered-select R test [] o = rw (select-nil test) tt
-ordered-select R test (b ∷ l) o =
-    split (test b) (λ y. rw (select-yes test b l y) (λ x m. o .0 x (select-from test l x m), ordered-select R test l (o .1)))
-    (λ n. rw (select-no test b l n) (ordered-select R test l (o .1)))
 
 module _ (C : Code) (F : FieldOf C) (D k : ℕ) (q : List ℕ) where
   -- they stand in order
