@@ -1,0 +1,40 @@
+-- Every number below n passes a test: one number more, and one that does not pass.
+-- Assumes nothing.
+use mathlib.Core.Bool.{Bool, true, false, true≢false}
+use mathlib.Core.Path.{_≡_, refl, sym, _∙_, ap}
+use Prim.Native.Nat.{ℕ, zero, suc, _+_, _<_}
+use native.Mathlib.Decide.{decLt}
+use native.Mathlib.Nat.{not-suc-le-zero}
+use native.Mathlib.Numerals.{add-one}
+use native.Mathlib.Omega.{arith}
+use Rattle.definitions.proofs.Tools.{both, split}
+use Rattle.rows.specs.Rows.{every}
+
+module _ (test : ℕ → Bool) where
+  pub every-none : every 0 test ≡ true
+  unfolding every
+  every-none = refl
+
+  pub every-more : (n : ℕ) → every n test ≡ true → test n ≡ true → every (n + 1) test ≡ true
+  unfolding every
+  every-more n e t = rw (add-one n, e, t) refl
+
+  -- each of them does
+  pub every-at : (n i : ℕ) → every n test ≡ true → i < n → test i ≡ true
+  unfolding every
+  every-at zero i e h = absurd (not-suc-le-zero h)
+  every-at (suc n) i e h =
+      let b = both (every n test) (test n) e in
+      elim (decLt i n) [
+        | yes l ↦ every-at n i (b .0) l
+        | no g ↦ (let same : n ≡ i = omega arith in ap test (sym same) ∙ b .1)
+      ]
+
+  -- if each does they all do
+  pub every-of : (n : ℕ) → ((i : ℕ) → i < n → test i ≡ true) → every n test ≡ true
+  every-of zero h = every-none
+  every-of (suc n) h = ap (λ (m : ℕ). every m test) (sym (add-one n)) ∙ every-more n (every-of n (λ i l. h i (omega arith))) (h n (omega arith))
+
+  -- one does not
+  pub every-but : (n i : ℕ) → i < n → test i ≡ false → every n test ≡ false
+  every-but n i h f = split (every n test) (λ t. absurd (true≢false (sym (every-at n i t h) ∙ f))) (λ e. e)

@@ -1,0 +1,67 @@
+-- Each row that was looked at is new, up to the first that is not.
+use mathlib.Core.Bool.{true}
+use mathlib.Core.Path.{_≡_, sym, _∙_, ap}
+use Prim.Native.Nat.{ℕ, _-_, _≤_}
+use native.Mathlib.Omega.{arith}
+use lib.ListN.{length}
+use borrow.Author.Tests.{not-true, not-false}
+use Rattle.rows.proofs.Every.{every-none, every-more, every-but}
+use Rattle.rows.proofs.Rows.{row-fits}
+use Rattle.rows.specs.Rows.{every, isNew}
+use Rattle.rows.proofs.all_new.Statement.{statement}
+use Rattle.rows.proofs.all_new.Tie as tie
+
+abbrev Inv-loop : tie.InvT-loop
+Inv-loop k rows count j₀ j = (j ≤ count) × (every j (isNew k rows) ≡ true)
+
+abbrev μ-loop : tie.MeasureT-loop
+μ-loop k rows count j₀ j = count - j
+
+loop-holds : tie.Need-loop-holds Inv-loop μ-loop
+loop-holds c = let a = c .before .args in (omega arith, every-none (isNew (a .k) (a .rows .now)))
+
+is-new-requires : tie.Need-is-new-requires Inv-loop μ-loop
+is-new-requires c κs =
+    let s = c .before .before .before in
+    row-fits (s .args .k) (s .args .count) (c .before .loop .j) (length (s .args .rows .now)) (s .pre) (omega arith)
+
+returns : tie.Need-returns Inv-loop μ-loop
+returns c =
+    let n = c .before in
+    let l = n .before .before in
+    let a = l .before .before .args in
+    sym (every-but (isNew (a .k) (a .rows .now)) (a .count) (l .loop .j) (omega arith) (sym (n .is-new .ensures) ∙ not-true _ (c .if1 .taken)))
+
+add-j : tie.Need-add-j Inv-loop μ-loop
+add-j c = omega arith
+
+loop-less : tie.Need-loop-less Inv-loop μ-loop
+loop-less c = omega arith
+
+loop-again : tie.Need-loop-again Inv-loop μ-loop
+loop-again c =
+    let n = c .before in
+    let l = n .before .before in
+    let a = l .before .before .args in
+    (omega arith, every-more (isNew (a .k) (a .rows .now)) (l .loop .j) (l .loop .inv .1) (sym (n .is-new .ensures) ∙ not-false _ (c .if1 .left)))
+
+returns-2 : tie.Need-returns-2 Inv-loop μ-loop
+returns-2 c =
+    let l = c .before in
+    let a = l .before .before .args in
+    let end : l .loop .j ≡ a .count = omega arith in
+    sym (ap (λ (n : ℕ). every n (isNew (a .k) (a .rows .now))) (sym end) ∙ l .loop .inv .1)
+
+pub all-new-spec : {M : Type 1} → statement M
+all-new-spec =
+    tie.close
+    (tie.spec
+    Inv-loop
+    μ-loop
+    loop-holds
+    is-new-requires
+    returns
+    add-j
+    loop-less
+    loop-again
+    returns-2)

@@ -1,0 +1,19 @@
+-- The part has k symbols: its end is k behind its start.
+use mathlib.Core.Path.{_≡_, ap}
+use Prim.Native.Nat.{ℕ, _+_, _*_, _-_}
+use native.Mathlib.Omega.{arith}
+use lib.ListN.{take, drop}
+use borrow.Author.Needs.{needs}
+use Rattle.rows.proofs.row.Statement.{statement}
+use Rattle.rows.proofs.row.Tie as tie
+
+returns : tie.Need-returns
+returns c =
+    let a = c .before .args in
+    let size : a .k * a .i + a .k - a .k * a .i ≡ a .k = omega arith in
+    ap (λ (n : ℕ). take n (drop (a .k * a .i) (a .rows .now))) size
+
+pub row-spec : {M : Type 1} → statement M
+row-spec =
+    tie.close
+    (tie.spec (λ c. search needs) (λ c. search needs) (λ c. search needs) (λ c. search needs) (λ c. search needs) returns)

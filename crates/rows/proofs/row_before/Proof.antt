@@ -1,0 +1,37 @@
+-- The scores decide; equal ones leave it to the messages, both of k symbols.
+use mathlib.Core.Path.{sym, _∙_, ap, ap₂}
+use lib.ListN.{length}
+use borrow.Author.Needs.{needs}
+use borrow.Author.Tests.{eq-eqb, ne-eqb}
+use Rattle.rows.proofs.Rows.{row-length}
+use Rattle.rows.specs.Rows.{comesBefore}
+use Rattle.rows.proofs.row_before.Statement.{statement}
+use Rattle.rows.proofs.row_before.Tie as tie
+
+returns : tie.Need-returns
+returns c = rw (ne-eqb _ _ (c .if1 .taken))
+
+comes-before-requires : tie.Need-comes-before-requires
+comes-before-requires c κs =
+    let s = c .before .before .before .before .before .before .before in
+    let a = s .args in
+    ap length (c .before .row .ensures) ∙ row-length (a .k) (a .rows .now) (a .i) (s .pre .0) ∙ sym (row-length (a .k) (a .rows .now) (a .j) (s .pre .1)) ∙ sym (ap length (c .row2 .ensures))
+
+returns-2 : tie.Need-returns-2
+returns-2 c =
+    let r = c .before in
+    rw (eq-eqb _ _ (r .before .before .if1 .left)) (c .comes-before .ensures ∙ ap₂ comesBefore (r .before .row .ensures) (r .row2 .ensures))
+
+pub row-before-spec : {M : Type 1} → statement M
+row-before-spec =
+    tie.close
+    (tie.spec
+    (λ c. search needs)
+    (λ c. search needs)
+    (λ c. search needs)
+    (λ c. search needs)
+    returns
+    (λ c κs. search needs)
+    (λ c κs. search needs)
+    comes-before-requires
+    returns-2)
