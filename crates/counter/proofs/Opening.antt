@@ -1,0 +1,87 @@
+-- Where a row is opened the list that is judged holds it; anything else opens none.
+-- Assumes nothing.
+use mathlib.Core.Bool.{false}
+use mathlib.Core.List.{List, [], _∷_}
+use mathlib.Core.Logic.{⊎-elim}
+use mathlib.Core.Path.{_≡_, refl, ap, ap₂}
+use Prim.Native.Nat.{ℕ, suc, _+_, _*_, _-_, _≤_}
+use native.Mathlib.Nat.{zero-add, sub-zero, mul-le-mul, mul-one, le-refl}
+use native.Mathlib.Omega.{arith}
+use denote.Enum.Declared.{tagOf}
+use denote.Ref.{RefT}
+use types.Run.{OneOf}
+use borrow.Author.Tests.{eq-eqb, ne-eqb}
+use lib.ListN.{length, take}
+use Rattle.counter.proofs.Both.{both-full}
+use Rattle.counter.proofs.Verdict.{the-type}
+use Rattle.counter.proofs.Judging.{open-some}
+use Rattle.counter.specs.Handing.{front, isOpen}
+use Rattle.counter.specs.Judging.{toOpen, judged, apart, chosen, bothJudged, judgeTable, bothTable, judgeAnswer, bothAnswer}
+use Rattle.counter.specs.Verdict.{toldVerdict}
+use Rattle.counter.specs.declared.Settings.{Settings}
+use Rattle.counter.specs.declared.Verdict.{Verdict}
+use Rattle.counter.specs.declared.Verdict.the-variants.{Open, Ask, Nothing, Refused}
+use Rattle.definitions.proofs.Table.{Accepts, next, end}
+use Rattle.definitions.proofs.Tools.{split}
+use Rattle.definitions.specs.Answers.{Answer, refused, valued}
+use Rattle.definitions.specs.Field.{Code}
+use Rattle.definitions.specs.Refusals.{Line, tried}
+use Rattle.refusals.proofs.Chain.{told-is}
+use Rattle.rows.proofs.Rows.{listed-means}
+
+-- the part from 0 to k of a slice is its front
+pub front-part : (rows : RefT (List ℕ)) (k : ℕ) → ((rows .ptr .0, 0 + rows .ptr .1), take (k - 0) (rows .now)) ≡ front k rows
+front-part rows k = ap₂ (λ (offset size : ℕ). ((rows .ptr .0, offset), take size (rows .now))) (zero-add (rows .ptr .1)) (sub-zero k)
+
+no-one : (n : ℕ) → _≡_ {A = ℕ} 0 (suc n) → ⊥
+no-one n e = omega arith
+
+-- a verdict that is not Open, by the number of its case, opens none
+pub other-verdict : (v : Verdict) → OneOf (1 ∷ 2 ∷ 3 ∷ []) (tagOf the-type v) → isOpen (toldVerdict v) ≡ false
+other-verdict Open n = ⊎-elim (λ e. absurd (no-one 0 e)) (⊎-elim (λ e. absurd (no-one 1 e)) (λ e. absurd (no-one 2 e))) n
+other-verdict Ask n = refl
+other-verdict Nothing n = refl
+other-verdict (Refused r) n = ap isOpen (told-is r)
+
+-- a table that gives Open accepts: no refusal has a value
+open-accepts : (table : List Line) (value : ℕ) → tried table refused (valued value) ≡ valued toOpen → Accepts table × (value ≡ toOpen)
+open-accepts [] value e = (end, ap (λ (a : Answer). a .value) e)
+open-accepts (l ∷ table) value e =
+    split (l .given)
+    (λ y. let z : _≡_ {A = ℕ} 0 1 = ap (λ (a : Answer). a .value) (rw y at e) in let no : ⊥ = omega arith in absurd no)
+    (λ n. let r = open-accepts table value (rw n at e) in (next n (r .0), r .1))
+
+-- a list with rows has one
+row-of-some : (k count size : ℕ) → size ≡ k * count → 1 ≤ count → k ≤ size
+row-of-some k count size e h =
+    let least : k * 1 ≤ k * count = mul-le-mul (le-refl k) h in
+    let one = mul-one k in
+    omega arith
+
+module _ (C : Code) where
+  one-full : (k : ℕ) (rows scores : List ℕ) (g : ℕ) → Accepts (judgeTable C k rows scores g) → length rows ≡ k * length scores
+  one-full k rows scores g (next a (next b (next c later))) = listed-means k rows scores c
+
+  -- the row is there
+  pub row-there : (k : ℕ) (rows scores : List ℕ) (g : ℕ) → judgeAnswer C k rows scores g ≡ valued toOpen → k ≤ length rows
+  row-there k rows scores g e =
+      let r = open-accepts (judgeTable C k rows scores g) (judged g scores) e in
+      row-of-some k (length scores) (length rows) (one-full k rows scores g (r .0)) (open-some g scores (r .1))
+
+  -- of two lists it is in the one that is judged
+  pub row-in-judged : (s : Settings) (rows scores : List ℕ) (t : Settings) (others otherScores : List ℕ) (g : ℕ)
+      → bothAnswer C s rows scores t others otherScores g ≡ valued toOpen
+      → (length scores ≡ 0 → s .k ≤ length others) × ((length scores ≡ 0 → ⊥) → s .k ≤ length rows)
+  row-in-judged s rows scores t others otherScores g e =
+      let r = open-accepts (bothTable C s rows scores t others otherScores g) (bothJudged (s .k) g rows scores others otherScores) e in
+      let full = both-full C s t rows scores others otherScores g (r .0) in
+      let some : 1 ≤ length (chosen scores otherScores) = open-some g (chosen scores otherScores) (together (r .1)) in (
+        λ none. row-of-some (s .k) (length otherScores) (length others) (full .1) (rw (eq-eqb (length scores) 0 none) at some),
+        λ any. row-of-some (s .k) (length scores) (length rows) (full .0) (rw (ne-eqb (length scores) 0 any) at some),
+      )
+    where
+      together : bothJudged (s .k) g rows scores others otherScores ≡ toOpen → judged g (chosen scores otherScores) ≡ toOpen
+      together h =
+          split (apart (s .k) rows scores others otherScores)
+          (λ y. let z : _≡_ {A = ℕ} 2 1 = rw y at h in let no : ⊥ = omega arith in absurd no)
+          (λ n. rw n at h)

@@ -1,0 +1,57 @@
+-- The chain tries the lines of the table; what it lets pass is judged by its scores.
+use mathlib.Core.List.{List, [], _∷_}
+use mathlib.Core.Path.{_∙_}
+use Prim.Native.Nat.{ℕ, _≤_, _<_}
+use native.Mathlib.Omega.{arith}
+use borrow.Author.Needs.{needs}
+use Rattle.counter.specs.Judging.{judged, lead, judgeTable}
+use Rattle.definitions.proofs.Table.{Accepts, next, end, size-means}
+use Rattle.definitions.specs.Answers.{refused, valued}
+use Rattle.definitions.specs.Field.{sixteen}
+use Rattle.definitions.specs.Refusals.{Line, size}
+use Rattle.refusals.proofs.Chain.{Came, start, _▸_, accepted, answers, goes-on}
+use Rattle.refusals.specs.Checked.{toldChecked}
+use Rattle.counter.proofs.judge.Statement.{statement}
+use Rattle.counter.proofs.judge.Tie as tie
+
+sized : (k g : ℕ) → Accepts (size sixteen k ∷ lead g ∷ []) → 0 < k
+sized k g (next s (next l end)) = let h = size-means sixteen k s in omega arith
+
+listed-requires : tie.Need-listed-requires
+listed-requires c κs passed =
+    let a = c .before .before .before .before .args in
+    sized (a .k) (a .lead) (accepted (start ▸ c .before .size .ensures ▸ c .or .ensures) passed)
+
+abbrev entry : tie.After-symbols → tie.Start
+entry c = c .before .before .before .before .before .before
+
+came : (c : tie.After-symbols)
+    → (let a = entry c .args in Came (judgeTable sixteen (a .k) (a .rows .now) (a .scores .now) (a .lead)) [] (toldChecked (c .symbols .result)))
+came c =
+    let listed = c .before in
+    let lead = listed .before in
+    start ▸ lead .before .size .ensures ▸ lead .or .ensures ▸ listed .listed .ensures ▸ c .symbols .ensures
+
+returns : tie.Need-returns
+returns c = answers (came (c .before .before .before)) [] _ (c .before .checked .given .1)
+
+returns-2 : tie.Need-returns-2
+returns-2 c =
+    let t = c .before in
+    let w = t .before .before in
+    let a = entry w .args in
+    c .judged .ensures ∙ goes-on (came w) [] refused (valued (judged (a .lead) (a .scores .now))) (t .enum-told .given .1)
+
+pub judge-spec : {M : Type 1} → statement M
+judge-spec =
+    tie.close
+    (tie.spec
+    (λ c κs. search needs)
+    (λ c κs. search needs)
+    listed-requires
+    (λ c κs. search needs)
+    (λ c. search needs)
+    returns
+    (λ c. search needs)
+    (λ c κs. search needs)
+    returns-2)

@@ -1,0 +1,82 @@
+-- On Open the list that is judged holds the row, and the part begins where that list does.
+use mathlib.Core.Bool.{Bool, false, cond}
+use mathlib.Core.Path.{_≡_, sym, _∙_, ap, ap₂}
+use Prim.Native.Nat.{_≤_}
+use lib.Dec.{eqb}
+use lib.ListN.{length}
+use borrow.Author.Needs.{needs}
+use borrow.Author.Tests.{eq-eqb, ne-eqb}
+use Rattle.counter.proofs.Opening.{front-part, other-verdict, row-in-judged}
+use Rattle.counter.specs.Handing.{Part, front, isOpen}
+use Rattle.counter.specs.Judging.{toOpen, bothAnswer}
+use Rattle.counter.specs.Verdict.{toldVerdict}
+use Rattle.definitions.specs.Answers.{valued}
+use Rattle.definitions.specs.Field.{sixteen}
+use Rattle.counter.proofs.opened_both.Statement.{statement}
+use Rattle.counter.proofs.opened_both.Tie as tie
+
+abbrev entry : tie.After-judge-both → tie.Start
+entry c = c .before .before .before .before .before
+
+-- what is handed back, by whether it is opened and whether the first list has no rows
+abbrev handed : tie.Start → Bool → Bool → Part
+handed s opens none =
+    let a = s .args in
+    cond opens (cond none (front (a .first .k) (a .others)) (front (a .first .k) (a .rows))) (front 0 (a .rows))
+
+-- what was judged is Open
+opens : (c : tie.After-enum-told)
+    → (let a = entry (c .before .before) .args in
+    bothAnswer sixteen (a .first) (a .rows .now) (a .scores .now) (a .second) (a .others .now) (a .other-scores .now) (a .lead) ≡ valued toOpen)
+opens c = sym (c .before .before .judge-both .ensures) ∙ ap toldVerdict (c .enum-told .given .1)
+
+there : (c : tie.After-enum-told)
+    → (let a = entry (c .before .before) .args in
+    (length (a .scores .now) ≡ 0 → a .first .k ≤ length (a .others .now)) × ((length (a .scores .now) ≡ 0 → ⊥) → a .first .k ≤ length (a .rows .now)))
+there c =
+    let a = entry (c .before .before) .args in
+    row-in-judged sixteen (a .first) (a .rows .now) (a .scores .now) (a .second) (a .others .now) (a .other-scores .now) (a .lead) (opens c)
+
+part-result-end : tie.Need-part-result-end
+part-result-end c = there (c .before) .0 (c .if1 .taken)
+
+returns : tie.Need-returns
+returns c =
+    let t = c .before in
+    let s = entry (t .before .before .before) in
+    front-part (s .args .others) (s .args .first .k) ∙ sym (ap₂ (handed s) (ap isOpen (opens (t .before))) (eq-eqb _ _ (t .if1 .taken)))
+
+part-result-end-2 : tie.Need-part-result-end-2
+part-result-end-2 c = there (c .before) .1 (c .if1 .left)
+
+returns-2 : tie.Need-returns-2
+returns-2 c =
+    let t = c .before in
+    let s = entry (t .before .before .before) in
+    front-part (s .args .rows) (s .args .first .k) ∙ sym (ap₂ (handed s) (ap isOpen (opens (t .before))) (ne-eqb _ _ (t .if1 .left)))
+
+returns-3 : tie.Need-returns-3
+returns-3 c =
+    let j = c .before .before in
+    let s = entry j in
+    let none : isOpen (toldVerdict (j .judge-both .result)) ≡ false = other-verdict (j .judge-both .result) (c .before .match .keys2) in
+    front-part (s .args .rows) 0 ∙ sym (ap (λ (b : Bool). handed s b (eqb (length (s .args .scores .now)) 0)) (sym (ap isOpen (j .judge-both .ensures)) ∙ none))
+
+pub opened-both-spec : {M : Type 1} → statement M
+opened-both-spec =
+    tie.close
+    (tie.spec
+    (λ c κs. search needs)
+    (λ c. search needs)
+    (λ c. search needs)
+    (λ c. search needs)
+    part-result-end
+    returns
+    (λ c. search needs)
+    (λ c. search needs)
+    part-result-end-2
+    returns-2
+    (λ c. search needs)
+    (λ c. search needs)
+    (λ c. search needs)
+    returns-3)

@@ -1,0 +1,170 @@
+// The counter's part: one list judged, and two judged together. It knows the library's lists by their promises alone.
+ghost use mathlib.Core.List.{List};
+ghost use mathlib.Core.Path.{_≡_};
+ghost use Prim.Native.Nat.{_*_, _≤_, _<_};
+ghost use lib.ListN.{length};
+ghost use Rattle.counter.specs.Handing.{partAt, opened, bothOpened};
+ghost use Rattle.counter.specs.Judging.{judged, sameSettings, apart, bothJudged, judgeAnswer, bothAnswer};
+ghost use Rattle.counter.specs.Verdict.{toldVerdict};
+ghost use Rattle.definitions.specs.Answers.{valued};
+ghost use Rattle.definitions.specs.Field.{sixteen};
+use refusals::Checked;
+use refusals::Refusal;
+use refusals::limits::GREATEST_SYMBOL;
+
+pub enum Verdict {
+    Open,
+    Ask,
+    Nothing,
+    Refused(Refusal),
+}
+
+// What a list was made with.
+pub struct Settings {
+    pub n: usize,
+    pub k: usize,
+    pub level: usize,
+}
+
+fn wide(score: u16) -> usize
+    ensures { λ r. ⌜ r ≡ score ⌝ }
+{
+    score as usize
+}
+
+// A lead is taken from the first score, so no sum is too large.
+fn judged(scores: &[u16], lead: usize) -> Verdict
+    ensures { λ v. ⌜ toldVerdict v ≡ valued (judged lead (now (scores .entry))) ⌝ }
+{
+    if scores.len() == 0 {
+        return Verdict::Nothing;
+    }
+    if scores.len() == 1 {
+        return Verdict::Open;
+    }
+    let first = wide(scores[0]);
+    let second = wide(scores[1]);
+    if first < lead {
+        return Verdict::Ask;
+    }
+    if first - lead < second {
+        return Verdict::Ask;
+    }
+    Verdict::Open
+}
+
+pub fn judge(k: usize, rows: &[u8], scores: &[u16], lead: usize) -> Verdict
+    ensures { λ v. ⌜ toldVerdict v ≡ judgeAnswer sixteen k (now (rows .entry)) (now (scores .entry)) lead ⌝ }
+{
+    let settled = Checked::size(k).or(lead == 0, Refusal::Setting);
+    let checked = rows::listed(settled, k, rows, scores).symbols(GREATEST_SYMBOL, rows);
+    if let Checked::Refused(r) = checked {
+        return Verdict::Refused(r);
+    }
+    judged(scores, lead)
+}
+
+// The row that is opened, where it lies; an empty part where none is.
+pub fn opened<'a, 's>(k: usize, rows: &'a [u8], scores: &'s [u16], lead: usize) -> &'a [u8]
+    ensures { λ r. ⌜ partAt r ≡ opened sixteen k (rows .entry) (now (scores .entry)) lead ⌝ }
+{
+    if let Verdict::Open = judge(k, rows, scores, lead) {
+        return &rows[0..k];
+    }
+    &rows[0..0]
+}
+
+fn same_settings(first: Settings, second: Settings) -> bool
+    ensures { λ r. ⌜ r ≡ sameSettings first second ⌝ }
+{
+    if first.n != second.n {
+        return false;
+    }
+    if first.k != second.k {
+        return false;
+    }
+    first.level == second.level
+}
+
+// Both have rows, and their first messages differ.
+fn apart(k: usize, rows: &[u8], scores: &[u16], others: &[u8], other_scores: &[u16]) -> bool
+    requires { ⌜ (k * length (now scores) ≤ length (now rows)) × (k * length (now «other_scores») ≤ length (now others)) ⌝ }
+    ensures { λ r. ⌜ r ≡ apart k (now (rows .entry)) (now (scores .entry)) (now (others .entry)) (now («other_scores» .entry)) ⌝ }
+{
+    if scores.len() == 0 {
+        return false;
+    }
+    if other_scores.len() == 0 {
+        return false;
+    }
+    !rows::same(rows::row(k, rows, 0), rows::row(k, others, 0))
+}
+
+fn both_judged(
+    k: usize,
+    rows: &[u8],
+    scores: &[u16],
+    others: &[u8],
+    other_scores: &[u16],
+    lead: usize,
+) -> Verdict
+    requires { ⌜ (k * length (now scores) ≤ length (now rows)) × (k * length (now «other_scores») ≤ length (now others)) ⌝ }
+    ensures { λ v. ⌜ toldVerdict v ≡ valued (bothJudged k lead (now (rows .entry)) (now (scores .entry)) (now (others .entry)) (now («other_scores» .entry))) ⌝ }
+{
+    if apart(k, rows, scores, others, other_scores) {
+        return Verdict::Ask;
+    }
+    if scores.len() == 0 {
+        return judged(other_scores, lead);
+    }
+    judged(scores, lead)
+}
+
+pub fn judge_both(
+    first: Settings,
+    rows: &[u8],
+    scores: &[u16],
+    second: Settings,
+    others: &[u8],
+    other_scores: &[u16],
+    lead: usize,
+) -> Verdict
+    ensures { λ v. ⌜ toldVerdict v ≡ bothAnswer sixteen first (now (rows .entry)) (now (scores .entry)) second (now (others .entry)) (now («other_scores» .entry)) lead ⌝ }
+{
+    let settled = Checked::sizes(first.n, first.k)
+        .sizes_too(second.n, second.k)
+        .level(first.level)
+        .level(second.level)
+        .or(lead == 0, Refusal::Setting)
+        .or(!same_settings(first, second), Refusal::Setting);
+    let one = rows::listed(settled, first.k, rows, scores);
+    let checked = rows::listed(one, second.k, others, other_scores)
+        .symbols(GREATEST_SYMBOL, rows)
+        .symbols_after(rows.len(), GREATEST_SYMBOL, others);
+    if let Checked::Refused(r) = checked {
+        return Verdict::Refused(r);
+    }
+    both_judged(first.k, rows, scores, others, other_scores, lead)
+}
+
+// The row that is opened, in the list that is judged; an empty part of the first where none is.
+pub fn opened_both<'a, 's, 't>(
+    first: Settings,
+    rows: &'a [u8],
+    scores: &'s [u16],
+    second: Settings,
+    others: &'a [u8],
+    other_scores: &'t [u16],
+    lead: usize,
+) -> &'a [u8]
+    ensures { λ r. ⌜ partAt r ≡ bothOpened sixteen first (rows .entry) (now (scores .entry)) second (others .entry) (now («other_scores» .entry)) lead ⌝ }
+{
+    let k = first.k;
+    if let Verdict::Open = judge_both(first, rows, scores, second, others, other_scores, lead) {
+        if scores.len() == 0 {
+            return &others[0..k];
+        }
+        return &rows[0..k];
+    }
+    &rows[0..0]
+}
