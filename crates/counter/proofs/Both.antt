@@ -2,15 +2,15 @@
 -- Assumes nothing.
 use mathlib.Core.List.{List, [], _∷_}
 use mathlib.Core.Bool.{false, _&&_}
-use mathlib.Core.Path.{_≡_, sym, _∙_, ap, subst}
-use Prim.Native.Nat.{ℕ, _*_, _≤_, _<_}
+use mathlib.Core.Path.{_≡_, sym, _∙_, ap}
+use Prim.Native.Nat.{ℕ, _*_, _<_}
 use native.Mathlib.Omega.{arith}
 use borrow.Author.Tests.{eqb-true, not-false}
 use lib.Dec.{eqb}
 use lib.ListN.{length}
 use Rattle.counter.specs.Judging.{lead, sameSettings, settings, bothTable}
 use Rattle.counter.specs.declared.Settings.{Settings}
-use Rattle.definitions.proofs.Table.{Accepts, next, end, sizes-mean}
+use Rattle.definitions.proofs.Table.{Accepts, next, sizes-mean}
 use Rattle.definitions.proofs.Tools.{both}
 use Rattle.definitions.specs.Field.{Code}
 use Rattle.definitions.specs.Refusals.{Line, sizes, level}

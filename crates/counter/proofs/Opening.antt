@@ -1,6 +1,6 @@
 -- Where a row is opened the list that is judged holds it; anything else opens none.
 -- Assumes nothing.
-use mathlib.Core.Bool.{false}
+use mathlib.Core.Bool.{true, false, false≢true}
 use mathlib.Core.List.{List, [], _∷_}
 use mathlib.Core.Logic.{⊎-elim}
 use mathlib.Core.Path.{_≡_, refl, ap, ap₂}
@@ -10,7 +10,7 @@ use native.Mathlib.Omega.{arith}
 use denote.Enum.Declared.{tagOf}
 use denote.Ref.{RefT}
 use types.Run.{OneOf}
-use borrow.Author.Tests.{eq-eqb, ne-eqb}
+use borrow.Author.Tests.{eqb-true, eq-eqb, ne-eqb}
 use lib.ListN.{length, take}
 use Rattle.counter.proofs.Both.{both-full}
 use Rattle.counter.proofs.Verdict.{the-type}
@@ -21,9 +21,9 @@ use Rattle.counter.specs.Verdict.{toldVerdict}
 use Rattle.counter.specs.declared.Settings.{Settings}
 use Rattle.counter.specs.declared.Verdict.{Verdict}
 use Rattle.counter.specs.declared.Verdict.the-variants.{Open, Ask, Nothing, Refused}
-use Rattle.definitions.proofs.Table.{Accepts, next, end}
+use Rattle.definitions.proofs.Table.{Accepts, next, end, size-means, sizes-mean}
 use Rattle.definitions.proofs.Tools.{split}
-use Rattle.definitions.specs.Answers.{Answer, refused, valued}
+use Rattle.definitions.specs.Answers.{refused, valued}
 use Rattle.definitions.specs.Field.{Code}
 use Rattle.definitions.specs.Refusals.{Line, tried}
 use Rattle.refusals.proofs.Chain.{told-is}
@@ -44,12 +44,10 @@ other-verdict Nothing n = refl
 other-verdict (Refused r) n = ap isOpen (told-is r)
 
 -- a table that gives Open accepts: no refusal has a value
-open-accepts : (table : List Line) (value : ℕ) → tried table refused (valued value) ≡ valued toOpen → Accepts table × (value ≡ toOpen)
-open-accepts [] value e = (end, ap (λ (a : Answer). a .value) e)
+open-accepts : (table : List Line) (value : ℕ) → isOpen (tried table refused (valued value)) ≡ true → Accepts table × (value ≡ toOpen)
+open-accepts [] value e = (end, eqb-true value toOpen e)
 open-accepts (l ∷ table) value e =
-    split (l .given)
-    (λ y. let z : _≡_ {A = ℕ} 0 1 = ap (λ (a : Answer). a .value) (rw y at e) in let no : ⊥ = omega arith in absurd no)
-    (λ n. let r = open-accepts table value (rw n at e) in (next n (r .0), r .1))
+    split (l .given) (λ y. absurd (false≢true (rw y at e))) (λ n. let r = open-accepts table value (rw n at e) in (next n (r .0), r .1))
 
 -- a list with rows has one
 row-of-some : (k count size : ℕ) → size ≡ k * count → 1 ≤ count → k ≤ size
@@ -63,14 +61,14 @@ module _ (C : Code) where
   one-full k rows scores g (next a (next b (next c later))) = listed-means k rows scores c
 
   -- the row is there
-  pub row-there : (k : ℕ) (rows scores : List ℕ) (g : ℕ) → judgeAnswer C k rows scores g ≡ valued toOpen → k ≤ length rows
+  pub row-there : (k : ℕ) (rows scores : List ℕ) (g : ℕ) → isOpen (judgeAnswer C k rows scores g) ≡ true → k ≤ length rows
   row-there k rows scores g e =
       let r = open-accepts (judgeTable C k rows scores g) (judged g scores) e in
       row-of-some k (length scores) (length rows) (one-full k rows scores g (r .0)) (open-some g scores (r .1))
 
   -- of two lists it is in the one that is judged
   pub row-in-judged : (s : Settings) (rows scores : List ℕ) (t : Settings) (others otherScores : List ℕ) (g : ℕ)
-      → bothAnswer C s rows scores t others otherScores g ≡ valued toOpen
+      → isOpen (bothAnswer C s rows scores t others otherScores g) ≡ true
       → (length scores ≡ 0 → s .k ≤ length others) × ((length scores ≡ 0 → ⊥) → s .k ≤ length rows)
   row-in-judged s rows scores t others otherScores g e =
       let r = open-accepts (bothTable C s rows scores t others otherScores g) (bothJudged (s .k) g rows scores others otherScores) e in
@@ -85,3 +83,18 @@ module _ (C : Code) where
           split (apart (s .k) rows scores others otherScores)
           (λ y. let z : _≡_ {A = ℕ} 2 1 = rw y at h in let no : ⊥ = omega arith in absurd no)
           (λ n. rw n at h)
+
+  -- and its k is no 0, so that it is not empty
+  pub open-sized : (k : ℕ) (rows scores : List ℕ) (g : ℕ) → isOpen (judgeAnswer C k rows scores g) ≡ true → 2 ≤ k
+  open-sized k rows scores g e = k-of (open-accepts (judgeTable C k rows scores g) (judged g scores) e .0)
+    where
+      k-of : Accepts (judgeTable C k rows scores g) → 2 ≤ k
+      k-of (next a later) = size-means C k a .0
+
+  pub both-open-sized : (s : Settings) (rows scores : List ℕ) (t : Settings) (others otherScores : List ℕ) (g : ℕ)
+      → isOpen (bothAnswer C s rows scores t others otherScores g) ≡ true → 2 ≤ s .k
+  both-open-sized s rows scores t others otherScores g e =
+      k-of (open-accepts (bothTable C s rows scores t others otherScores g) (bothJudged (s .k) g rows scores others otherScores) e .0)
+    where
+      k-of : Accepts (bothTable C s rows scores t others otherScores g) → 2 ≤ s .k
+      k-of (next a later) = sizes-mean C (s .n) (s .k) a .0

@@ -1,3 +1,4 @@
 pub mod Messages
 pub mod Every
 pub mod Rows
+pub mod Written

@@ -1,12 +1,10 @@
 -- A list without rows is not apart; of two with rows the first messages are compared.
-use mathlib.Core.Bool.{Bool, not}
-use mathlib.Core.List.{List}
-use mathlib.Core.Path.{_≡_, sym, _∙_, ap, ap₂}
-use Prim.Native.Nat.{ℕ, _+_, _*_, _≤_, _<_}
+use mathlib.Core.Bool.{not}
+use mathlib.Core.Path.{sym, _∙_, ap, ap₂}
+use Prim.Native.Nat.{_+_, _*_, _≤_}
 use native.Mathlib.Omega.{arith}
 use lib.ListN.{length}
 use borrow.Author.Tests.{eq-eqb, ne-eqb}
-use Rattle.definitions.specs.Listing.{rowAt}
 use Rattle.rows.proofs.Rows.{row-fits, row-length}
 use Rattle.rows.specs.Rows.{same}
 use Rattle.counter.proofs.apart.Statement.{statement}

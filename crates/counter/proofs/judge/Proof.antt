@@ -1,14 +1,14 @@
 -- The chain tries the lines of the table; what it lets pass is judged by its scores.
-use mathlib.Core.List.{List, [], _∷_}
+use mathlib.Core.List.{[], _∷_}
 use mathlib.Core.Path.{_∙_}
-use Prim.Native.Nat.{ℕ, _≤_, _<_}
+use Prim.Native.Nat.{ℕ, _<_}
 use native.Mathlib.Omega.{arith}
 use borrow.Author.Needs.{needs}
 use Rattle.counter.specs.Judging.{judged, lead, judgeTable}
 use Rattle.definitions.proofs.Table.{Accepts, next, end, size-means}
 use Rattle.definitions.specs.Answers.{refused, valued}
 use Rattle.definitions.specs.Field.{sixteen}
-use Rattle.definitions.specs.Refusals.{Line, size}
+use Rattle.definitions.specs.Refusals.{size}
 use Rattle.refusals.proofs.Chain.{Came, start, _▸_, accepted, answers, goes-on}
 use Rattle.refusals.specs.Checked.{toldChecked}
 use Rattle.counter.proofs.judge.Statement.{statement}

@@ -1,20 +1,18 @@
 -- On Open the row is there, and the part begins where the list does.
-use mathlib.Core.Bool.{Bool, false, cond}
+use mathlib.Core.Bool.{Bool, true, false, cond}
 use mathlib.Core.Path.{_≡_, sym, _∙_, ap}
-use Prim.Native.Nat.{ℕ}
 use borrow.Author.Needs.{needs}
 use Rattle.counter.proofs.Opening.{front-part, other-verdict, row-there}
-use Rattle.counter.specs.Handing.{Part, front, isOpen}
-use Rattle.counter.specs.Judging.{toOpen, judgeAnswer}
+use Rattle.counter.specs.Handing.{front, isOpen}
+use Rattle.counter.specs.Judging.{judgeAnswer}
 use Rattle.counter.specs.Verdict.{toldVerdict}
-use Rattle.definitions.specs.Answers.{valued}
 use Rattle.definitions.specs.Field.{sixteen}
 use Rattle.counter.proofs.opened.Statement.{statement}
 use Rattle.counter.proofs.opened.Tie as tie
 
 -- what was judged is Open
-opens : (c : tie.After-enum-told) → (let a = c .before .before .before .before .before .args in judgeAnswer sixteen (a .k) (a .rows .now) (a .scores .now) (a .lead) ≡ valued toOpen)
-opens c = sym (c .before .before .judge .ensures) ∙ ap toldVerdict (c .enum-told .given .1)
+opens : (c : tie.After-enum-told) → (let a = c .before .before .before .before .before .args in isOpen (judgeAnswer sixteen (a .k) (a .rows .now) (a .scores .now) (a .lead)) ≡ true)
+opens c = ap isOpen (sym (c .before .before .judge .ensures) ∙ ap toldVerdict (c .enum-told .given .1))
 
 part-result-end : tie.Need-part-result-end
 part-result-end c = let a = c .before .before .before .before .before .args in row-there sixteen (a .k) (a .rows .now) (a .scores .now) (a .lead) (opens c)
@@ -22,7 +20,7 @@ part-result-end c = let a = c .before .before .before .before .before .args in r
 returns : tie.Need-returns
 returns c =
     let a = c .before .before .before .before .before .before .args in
-    front-part (a .rows) (a .k) ∙ sym (ap (λ (b : Bool). cond b (front (a .k) (a .rows)) (front 0 (a .rows))) (ap isOpen (opens (c .before))))
+    front-part (a .rows) (a .k) ∙ sym (ap (λ (b : Bool). cond b (front (a .k) (a .rows)) (front 0 (a .rows))) (opens (c .before)))
 
 returns-2 : tie.Need-returns-2
 returns-2 c =

@@ -1,5 +1,5 @@
 -- On Open the list that is judged holds the row, and the part begins where that list does.
-use mathlib.Core.Bool.{Bool, false, cond}
+use mathlib.Core.Bool.{Bool, true, false, cond}
 use mathlib.Core.Path.{_≡_, sym, _∙_, ap, ap₂}
 use Prim.Native.Nat.{_≤_}
 use lib.Dec.{eqb}
@@ -8,9 +8,8 @@ use borrow.Author.Needs.{needs}
 use borrow.Author.Tests.{eq-eqb, ne-eqb}
 use Rattle.counter.proofs.Opening.{front-part, other-verdict, row-in-judged}
 use Rattle.counter.specs.Handing.{Part, front, isOpen}
-use Rattle.counter.specs.Judging.{toOpen, bothAnswer}
+use Rattle.counter.specs.Judging.{bothAnswer}
 use Rattle.counter.specs.Verdict.{toldVerdict}
-use Rattle.definitions.specs.Answers.{valued}
 use Rattle.definitions.specs.Field.{sixteen}
 use Rattle.counter.proofs.opened_both.Statement.{statement}
 use Rattle.counter.proofs.opened_both.Tie as tie
@@ -27,8 +26,8 @@ handed s opens none =
 -- what was judged is Open
 opens : (c : tie.After-enum-told)
     → (let a = entry (c .before .before) .args in
-    bothAnswer sixteen (a .first) (a .rows .now) (a .scores .now) (a .second) (a .others .now) (a .other-scores .now) (a .lead) ≡ valued toOpen)
-opens c = sym (c .before .before .judge-both .ensures) ∙ ap toldVerdict (c .enum-told .given .1)
+    isOpen (bothAnswer sixteen (a .first) (a .rows .now) (a .scores .now) (a .second) (a .others .now) (a .other-scores .now) (a .lead)) ≡ true)
+opens c = ap isOpen (sym (c .before .before .judge-both .ensures) ∙ ap toldVerdict (c .enum-told .given .1))
 
 there : (c : tie.After-enum-told)
     → (let a = entry (c .before .before) .args in
@@ -44,7 +43,7 @@ returns : tie.Need-returns
 returns c =
     let t = c .before in
     let s = entry (t .before .before .before) in
-    front-part (s .args .others) (s .args .first .k) ∙ sym (ap₂ (handed s) (ap isOpen (opens (t .before))) (eq-eqb _ _ (t .if1 .taken)))
+    front-part (s .args .others) (s .args .first .k) ∙ sym (ap₂ (handed s) (opens (t .before)) (eq-eqb _ _ (t .if1 .taken)))
 
 part-result-end-2 : tie.Need-part-result-end-2
 part-result-end-2 c = there (c .before) .1 (c .if1 .left)
@@ -53,7 +52,7 @@ returns-2 : tie.Need-returns-2
 returns-2 c =
     let t = c .before in
     let s = entry (t .before .before .before) in
-    front-part (s .args .rows) (s .args .first .k) ∙ sym (ap₂ (handed s) (ap isOpen (opens (t .before))) (ne-eqb _ _ (t .if1 .left)))
+    front-part (s .args .rows) (s .args .first .k) ∙ sym (ap₂ (handed s) (opens (t .before)) (ne-eqb _ _ (t .if1 .left)))
 
 returns-3 : tie.Need-returns-3
 returns-3 c =
