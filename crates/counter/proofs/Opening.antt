@@ -84,17 +84,17 @@ module _ (C : Code) where
           (λ y. let z : _≡_ {A = ℕ} 2 1 = rw y at h in let no : ⊥ = omega arith in absurd no)
           (λ n. rw n at h)
 
-  -- and its k is no 0, so that it is not empty
-  pub open-sized : (k : ℕ) (rows scores : List ℕ) (g : ℕ) → isOpen (judgeAnswer C k rows scores g) ≡ true → 2 ≤ k
+  -- and its k fits
+  pub open-sized : (k : ℕ) (rows scores : List ℕ) (g : ℕ) → isOpen (judgeAnswer C k rows scores g) ≡ true → (2 ≤ k) × (k ≤ C .positions)
   open-sized k rows scores g e = k-of (open-accepts (judgeTable C k rows scores g) (judged g scores) e .0)
     where
-      k-of : Accepts (judgeTable C k rows scores g) → 2 ≤ k
-      k-of (next a later) = size-means C k a .0
+      k-of : Accepts (judgeTable C k rows scores g) → (2 ≤ k) × (k ≤ C .positions)
+      k-of (next a later) = size-means C k a
 
   pub both-open-sized : (s : Settings) (rows scores : List ℕ) (t : Settings) (others otherScores : List ℕ) (g : ℕ)
-      → isOpen (bothAnswer C s rows scores t others otherScores g) ≡ true → 2 ≤ s .k
+      → isOpen (bothAnswer C s rows scores t others otherScores g) ≡ true → (2 ≤ s .k) × (s .k ≤ C .positions)
   both-open-sized s rows scores t others otherScores g e =
       k-of (open-accepts (bothTable C s rows scores t others otherScores g) (bothJudged (s .k) g rows scores others otherScores) e .0)
     where
-      k-of : Accepts (bothTable C s rows scores t others otherScores g) → 2 ≤ s .k
-      k-of (next a later) = sizes-mean C (s .n) (s .k) a .0
+      k-of : Accepts (bothTable C s rows scores t others otherScores g) → (2 ≤ s .k) × (s .k ≤ C .positions)
+      k-of (next a later) = let h = sizes-mean C (s .n) (s .k) a in (h .0, omega arith)

@@ -10,6 +10,9 @@ ghost use Rattle.refusals.specs.Refusal.{toldRefusal};
 ghost use Rattle.field.specs.Element.{toldElement};
 ghost use Rattle.interpolation.specs.Interpolated.{toldInterpolated};
 ghost use Rattle.weights.specs.Costed.{toldCosted};
+
+pub mod judging;
+
 use field::Element;
 use interpolation::Interpolated;
 use refusals::Counted;

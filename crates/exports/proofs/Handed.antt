@@ -1,0 +1,40 @@
+-- What crosses to C in place of the part tells the part: its first symbols, so many, of that list. And a judgement is told by its numbers.
+-- Assumes nothing.
+use mathlib.Core.Bool.{cond}
+use mathlib.Core.List.{List}
+use mathlib.Core.Path.{_≡_, sym, _∙_, ap}
+use Prim.Native.Nat.{ℕ}
+use denote.Ref.{RefT}
+use lib.Dec.{eqb}
+use lib.ListN.{length}
+use Rattle.counter.specs.Handing.{isOpen, front, opened, bothOpened}
+use Rattle.counter.specs.Judging.{judgeAnswer, bothAnswer}
+use Rattle.counter.specs.declared.Settings.{Settings}
+use Rattle.definitions.proofs.Tools.{split}
+use Rattle.definitions.specs.Answers.{Answer}
+use Rattle.definitions.specs.Field.{Code}
+use Rattle.exports.specs.Held.{judgementOf, holder, heldAnswer}
+use Rattle.exports.specs.declared.judging.Judgement as crossing
+
+-- list 2 is the second, any other number the first
+abbrev listOf : RefT (List ℕ) → RefT (List ℕ) → ℕ → RefT (List ℕ)
+listOf rows others number = cond (eqb number 2) others rows
+
+module _ (C : Code) where
+  pub part-told : (k : ℕ) (rows : RefT (List ℕ)) (scores : List ℕ) (g : ℕ)
+      → opened C k rows scores g ≡ front (heldAnswer (judgeAnswer C k (rows .now) scores g) 1 k .count) rows
+  part-told k rows scores g = split (isOpen (judgeAnswer C k (rows .now) scores g)) (λ y. rw y) (λ n. rw n)
+
+  pub both-part-told : (s : Settings) (rows : RefT (List ℕ)) (scores : List ℕ) (t : Settings) (others : RefT (List ℕ)) (otherScores : List ℕ) (g : ℕ)
+      → (let told = heldAnswer (bothAnswer C s (rows .now) scores t (others .now) otherScores g) (holder scores) (s .k) in
+      bothOpened C s rows scores t others otherScores g ≡ front (told .count) (listOf rows others (told .value)))
+  both-part-told s rows scores t others otherScores g =
+      split (isOpen (bothAnswer C s (rows .now) scores t (others .now) otherScores g))
+      (λ y. rw y (split (eqb (length scores) 0) (λ z. rw z) (λ z. rw z)))
+      (λ n. rw n)
+
+pub judgement-unique : (a : Answer) (x y : crossing.Judgement) → judgementOf x ≡ a → judgementOf y ≡ a → x ≡ y
+judgement-unique a x y p q = ap back (p ∙ sym q)
+  where
+    back : Answer → crossing.Judgement
+    back b = record { place = b .place; number = b .number; value = b .value; count = b .count }

@@ -1,0 +1,27 @@
+-- The numbers of a judgement as they cross to C.
+-- Assumes nothing.
+use mathlib.Core.Bool.{cond}
+use mathlib.Core.List.{List}
+use Prim.Native.Nat.{ℕ}
+use lib.Dec.{eqb}
+use lib.ListN.{length}
+use Rattle.counter.specs.Handing.{isOpen}
+use Rattle.counter.specs.declared.Settings.{Settings}
+use Rattle.definitions.specs.Answers.{Answer}
+use Rattle.exports.specs.declared.judging.Judgement as crossing
+
+-- field by field
+abbrev pub judgementOf : crossing.Judgement → Answer
+judgementOf j = record { number = j .number; place = j .place; count = j .count; value = j .value; cost = 0; bound = 0 }
+
+abbrev pub settingsOf : ℕ → ℕ → ℕ → Settings
+settingsOf n k level = record { n = n; k = k; level = level }
+
+-- the list that is judged: 2, the second, where the first is empty
+abbrev pub holder : List ℕ → ℕ
+holder scores = cond (eqb (length scores) 0) 2 1
+
+-- in place of the part: on Open the list that holds the row, and its count of symbols; otherwise 0 and 0
+abbrev pub heldAnswer : Answer → ℕ → ℕ → Answer
+heldAnswer verdict list k =
+    record { number = verdict .number; place = verdict .place; count = cond (isOpen verdict) k 0; value = cond (isOpen verdict) list 0; cost = 0; bound = 0 }
