@@ -33,6 +33,13 @@ enum {
     KV_ROWS = 20           /* the most rows of a list, and the room that it asks for */
 };
 
+/* What the counter does. */
+enum {
+    KV_OPEN = 1,   /* opens the pouch: one ticket stands out */
+    KV_ASK = 2,    /* asks a person */
+    KV_NOTHING = 3 /* has no ticket */
+};
+
 /* A field that an entry does not mention is 0. */
 struct kv_answer {
     uint16_t number; /* the refusal's number, 0 where the call is not refused */
@@ -41,6 +48,14 @@ struct kv_answer {
     uint16_t value;
     uint16_t cost;
     uint16_t bound;
+};
+
+/* What the counter's entries answer: a place in a long list does not fit sixteen bits. */
+struct kv_verdict {
+    uint64_t place;  /* of the refusal */
+    uint16_t number; /* the refusal's number, 0 where the call is not refused */
+    uint16_t value;
+    uint16_t count;
 };
 
 /*
@@ -162,6 +177,65 @@ struct kv_answer kv_list_of_reliabilities(size_t n, size_t k, size_t level, size
                                           const uint16_t *reliabilities, size_t reliabilities_len,
                                           uint8_t *rows, size_t rows_len,
                                           uint16_t *scores, size_t scores_len);
+
+/*
+ * The list has rows[kr + j] as symbol j of the message of row r, and scores[r] as its score. It may
+ * have any number of rows; that of its scores, scores_len, says how many. It is in list order when
+ * scores fall, and equal ones are ordered by the message's symbol 0, then symbol 1 and so on,
+ * smaller first.
+ * value: KV_NOTHING where there are no rows; KV_OPEN where there is one, or where scores[0] is at
+ * least scores[1] + lead; else KV_ASK.
+ * Refusals: 1 unless 2 <= k <= 15; 2 where lead is 0; 3 where rows_len is not k * scores_len, the
+ * rows are not in list order, or two rows, wherever they stand, have the same message; 5 where a
+ * symbol is above 15, place its index in rows, the first one's.
+ */
+struct kv_verdict kv_judge(size_t k,
+                           const uint8_t *rows, size_t rows_len,
+                           const uint16_t *scores, size_t scores_len,
+                           size_t lead);
+
+/*
+ * Asked after kv_judge, with the same inputs.
+ * value, count: where kv_judge answers KV_OPEN, 1 and k: the row that is opened is the first count
+ * symbols of rows. Else both are 0.
+ * Refusals: those of kv_judge.
+ */
+struct kv_verdict kv_open(size_t k,
+                          const uint8_t *rows, size_t rows_len,
+                          const uint16_t *scores, size_t scores_len,
+                          size_t lead);
+
+/*
+ * Two lists, each as kv_judge takes it, with the n, k and level that its photograph was read with.
+ * value: KV_ASK where both have rows and their first messages differ; else what kv_judge answers
+ * for the first list, or for the second where the first has no rows.
+ * Refusals: 1 unless 2 <= k <= n <= 15, for each list; 2 unless 1 <= level <= KV_LEVEL, for each
+ * list, where lead is 0, or where n, k or level of the lists differ; 3 where either list has a
+ * length, an order or a message twice that kv_judge refuses; 5 where a symbol is above 15, place its
+ * index in rows, or rows_len + its index in others, the first one's, rows before others.
+ */
+struct kv_verdict kv_judge_both(size_t n, size_t k, size_t level,
+                                const uint8_t *rows, size_t rows_len,
+                                const uint16_t *scores, size_t scores_len,
+                                size_t other_n, size_t other_k, size_t other_level,
+                                const uint8_t *others, size_t others_len,
+                                const uint16_t *other_scores, size_t other_scores_len,
+                                size_t lead);
+
+/*
+ * Asked after kv_judge_both, with the same inputs.
+ * value, count: where kv_judge_both answers KV_OPEN, the list that holds the row which is opened, 1
+ * for the first and 2 for the second, and k: the row is the first count symbols of rows, or of
+ * others. Else both are 0.
+ * Refusals: those of kv_judge_both.
+ */
+struct kv_verdict kv_open_both(size_t n, size_t k, size_t level,
+                               const uint8_t *rows, size_t rows_len,
+                               const uint16_t *scores, size_t scores_len,
+                               size_t other_n, size_t other_k, size_t other_level,
+                               const uint8_t *others, size_t others_len,
+                               const uint16_t *other_scores, size_t other_scores_len,
+                               size_t lead);
 
 #ifdef __cplusplus
 }

@@ -1,6 +1,6 @@
 //! The entries as the archive has them, and calls of them over slices.
 
-/// What every entry answers. A field that an entry does not mention is 0; so is every field but
+/// What an entry answers. A field that an entry does not mention is 0; so is every field but
 /// `number` and `place` where the call is refused.
 #[repr(C)]
 #[derive(Clone, Copy, Debug, Default, PartialEq, Eq)]
@@ -19,7 +19,24 @@ pub struct Answer {
     pub bound: u16,
 }
 
-/// Declares each entry, and its call: numbers; then inputs; then lent outputs.
+/// What the counter's entries answer. Where the call is refused, every field but `number` and `place`
+/// is 0.
+#[repr(C)]
+#[derive(Clone, Copy, Debug, Default, PartialEq, Eq)]
+pub struct Judgement {
+    /// The refusal's place, which in a long list does not fit sixteen bits.
+    pub place: u64,
+    /// The refusal's number, 0 where the call is not refused.
+    pub number: u16,
+    /// Of a call that judges, 1 where the counter opens, 2 where it asks, 3 where it has nothing. Of
+    /// one that opens, the list that holds the row: 1 for the first, 2 for the second; 0 where none
+    /// is opened.
+    pub value: u16,
+    /// Of a call that opens, how many symbols of that list are the row.
+    pub count: u16,
+}
+
+/// Declares each entry, and its call: a slice is a pointer and its length.
 ///
 /// The archive asks of a caller that each pointer and its length are memory that is there, aligned
 /// and not changed by others during the call, and that lent output overlaps no input. Here both
@@ -29,25 +46,23 @@ macro_rules! entries {
     ($(
         $(#[$about:meta])*
         $call:ident = $entry:ident(
-            $($number:ident: $kind:ty),*; $($input:ident: [$of:ty])?; $($out:ident: [$cell:ty]),*
-        );
+            $($name:ident: $($number:ident)? $(&[$input:ident])? $(&mut [$out:ident])?),*
+        ) -> $answer:ident;
     )*) => {
         extern "C" {
-            $(fn $entry(
-                $($number: $kind,)* $($input: *const $of, _: usize,)? $($out: *mut $cell, _: usize),*
-            ) -> Answer;)*
+            $(fn $entry($(
+                $name: $($number)? $(*const $input, _: usize)? $(*mut $out, _: usize)?
+            ),*) -> $answer;)*
         }
 
         $($(#[$about])*
-        pub fn $call(
-            $($number: $kind,)* $($input: &[$of],)? $($out: &mut [$cell]),*
-        ) -> Answer {
+        pub fn $call($($name: $($number)? $(&[$input])? $(&mut [$out])?),*) -> $answer {
             unsafe {
-                $entry(
-                    $($number,)*
-                    $($input.as_ptr(), $input.len(),)?
-                    $($out.as_mut_ptr(), $out.len()),*
-                )
+                $entry($(
+                    $($number::from($name))?
+                    $(<[$input]>::as_ptr($name), $name.len())?
+                    $(<[$out]>::as_mut_ptr($name), $name.len())?
+                ),*)
             }
         })*
     };
@@ -55,40 +70,63 @@ macro_rules! entries {
 
 entries! {
     /// `value`: a + b.
-    sum = kv_sum(a: u8, b: u8;;);
+    sum = kv_sum(a: u8, b: u8) -> Answer;
 
     /// `value`: a times b.
-    product = kv_product(a: u8, b: u8;;);
+    product = kv_product(a: u8, b: u8) -> Answer;
 
     /// `value`: the symbol whose product with a is 1.
-    inverse = kv_inverse(a: u8;;);
+    inverse = kv_inverse(a: u8) -> Answer;
 
     /// `count`: n. `out` begins with the codeword; it has room for n.
-    encode = kv_encode(n: usize, k: usize; message: [u8]; out: [u8]);
+    encode = kv_encode(n: usize, k: usize, message: &[u8], out: &mut [u8]) -> Answer;
 
     /// `count`: 16n. `out` begins with the matrix; it has room for 16n.
-    multiplicities = kv_multiplicities(n: usize, level: usize; reliabilities: [u16]; out: [u8]);
+    multiplicities = kv_multiplicities(
+        n: usize, level: usize, reliabilities: &[u16], out: &mut [u8]
+    ) -> Answer;
 
     /// `cost` and `bound` of the matrix.
-    cost_and_bound = kv_cost_and_bound(n: usize, k: usize; matrix: [u8];);
+    cost_and_bound = kv_cost_and_bound(n: usize, k: usize, matrix: &[u8]) -> Answer;
 
     /// `bound`, and `count` of the coefficients. `out` begins with these; it has room for
     /// [`COEFFICIENTS`](crate::COEFFICIENTS).
-    interpolate = kv_interpolate(n: usize, k: usize, limit: usize; matrix: [u8]; out: [u8]);
+    interpolate = kv_interpolate(
+        n: usize, k: usize, limit: usize, matrix: &[u8], out: &mut [u8]
+    ) -> Answer;
 
     /// `count` of the messages. `out` begins with these, one after the other; it has room for k
     /// times the whole part of degree / (k-1).
-    roots = kv_roots(degree: usize, k: usize; coefficients: [u8]; out: [u8]);
+    roots = kv_roots(degree: usize, k: usize, coefficients: &[u8], out: &mut [u8]) -> Answer;
 
     /// `count` of the rows. `rows` begins with their messages, one after the other, and `scores`
     /// with their scores; they have room for k times [`ROWS`](crate::ROWS) and for that many.
     list_of_multiplicities = kv_list_of_multiplicities(
-        n: usize, k: usize, limit: usize; matrix: [u8]; rows: [u8], scores: [u16]
-    );
+        n: usize, k: usize, limit: usize, matrix: &[u8], rows: &mut [u8], scores: &mut [u16]
+    ) -> Answer;
 
     /// As [`list_of_multiplicities`] of the matrix that the reliabilities have at this level.
     list_of_reliabilities = kv_list_of_reliabilities(
-        n: usize, k: usize, level: usize, limit: usize; reliabilities: [u16];
-        rows: [u8], scores: [u16]
-    );
+        n: usize, k: usize, level: usize, limit: usize, reliabilities: &[u16],
+        rows: &mut [u8], scores: &mut [u16]
+    ) -> Answer;
+
+    /// `value` of the verdict on one list.
+    judge = kv_judge(k: usize, rows: &[u8], scores: &[u16], lead: usize) -> Judgement;
+
+    /// `value` 1 and `count` k where [`judge`] answers that the counter opens: `rows` begins with
+    /// the row.
+    open = kv_open(k: usize, rows: &[u8], scores: &[u16], lead: usize) -> Judgement;
+
+    judge_both = kv_judge_both(
+        n: usize, k: usize, level: usize, rows: &[u8], scores: &[u16],
+        other_n: usize, other_k: usize, other_level: usize, others: &[u8], other_scores: &[u16],
+        lead: usize
+    ) -> Judgement;
+
+    open_both = kv_open_both(
+        n: usize, k: usize, level: usize, rows: &[u8], scores: &[u16],
+        other_n: usize, other_k: usize, other_level: usize, others: &[u8], other_scores: &[u16],
+        lead: usize
+    ) -> Judgement;
 }

@@ -2,7 +2,7 @@
 //!
 //! For a caller that has no allocator, or wants to see what a call leaves in lent memory: a refused
 //! call changes none of it, and one that is accepted changes only what it says it writes. Whether a
-//! call is refused says [`Answer::refusal`].
+//! call is refused says [`Answer::refusal`], and of the counter's calls [`Judgement::refusal`].
 //!
 //! ```
 //! let mut codeword = [255; 4];
@@ -16,32 +16,51 @@
 //! ```
 
 pub use crate::archive::{
-    cost_and_bound, encode, interpolate, inverse, list_of_multiplicities, list_of_reliabilities,
-    multiplicities, product, roots, sum, Answer,
+    cost_and_bound, encode, interpolate, inverse, judge, list_of_multiplicities,
+    list_of_reliabilities, multiplicities, open, product, roots, sum, Answer, Judgement,
 };
-use crate::Refusal;
+use crate::{archive, Photograph, Refusal};
 
 impl Answer {
     /// The refusal, `None` where the call is not refused.
     pub fn refusal(self) -> Option<Refusal> {
-        match self.number {
-            0 => None,
-            1 => Some(Refusal::Sizes),
-            2 => Some(Refusal::Setting),
-            3 => Some(Refusal::Length),
-            4 => Some(Refusal::Room),
-            5 => Some(Refusal::Symbol(self.place.into())),
-            6 => Some(Refusal::Column(self.place.into())),
-            7 => Some(Refusal::Cost),
-            // The library gives no number above this one.
-            8.. => Some(Refusal::Zero),
-        }
+        Refusal::of(self.number, self.place.into())
     }
 
     pub(crate) fn accepted(self) -> Result<Answer, Refusal> {
-        match self.refusal() {
-            None => Ok(self),
-            Some(refusal) => Err(refusal),
-        }
+        self.refusal().map_or(Ok(self), Err)
     }
+}
+
+impl Judgement {
+    /// The refusal, `None` where the call is not refused.
+    pub fn refusal(self) -> Option<Refusal> {
+        Refusal::of(self.number, self.place as usize)
+    }
+
+    pub(crate) fn accepted(self) -> Result<Judgement, Refusal> {
+        self.refusal().map_or(Ok(self), Err)
+    }
+}
+
+/// An entry that takes two lists.
+type OfBoth =
+    fn(usize, usize, usize, &[u8], &[u16], usize, usize, usize, &[u8], &[u16], usize) -> Judgement;
+
+fn of_both(entry: OfBoth, a: Photograph<'_>, b: Photograph<'_>, lead: usize) -> Judgement {
+    entry(
+        a.sizes.n, a.sizes.k, a.level, a.rows, a.scores, b.sizes.n, b.sizes.k, b.level, b.rows,
+        b.scores, lead,
+    )
+}
+
+/// `value` of the verdict on the lists of two photographs.
+pub fn judge_both(first: Photograph<'_>, second: Photograph<'_>, lead: usize) -> Judgement {
+    of_both(archive::judge_both, first, second, lead)
+}
+
+/// `value` of the list and `count` k where [`judge_both`] answers that the counter opens: the rows
+/// of the first list begin with the row where it is 1, those of the second where it is 2.
+pub fn open_both(first: Photograph<'_>, second: Photograph<'_>, lead: usize) -> Judgement {
+    of_both(archive::open_both, first, second, lead)
 }

@@ -19,6 +19,9 @@
 //! # Ok::<(), kv::Refusal>(())
 //! ```
 //!
+//! What to do with such a list says [`judge`], and with those of two photographs [`judge_both`]: open
+//! the pouch, ask a person, or nothing.
+//!
 //! Symbols are 0 to 15, polynomials over bits modulo x⁴ + x + 1; alpha is 2. A matrix or a list of
 //! reliabilities has the entry of position i, symbol b at 16i + b. Whatever numbers and slices come
 //! in, no call panics and every call returns: it answers, or says its [`Refusal`].
@@ -27,6 +30,7 @@
 
 #[allow(unsafe_code)]
 mod archive;
+mod counter;
 pub mod lent;
 mod list;
 mod matrix;
@@ -34,6 +38,7 @@ mod polynomial;
 mod refusal;
 mod symbols;
 
+pub use counter::{judge, judge_both, open, open_both, Photograph, Verdict};
 pub use list::{list_of_multiplicities, list_of_reliabilities, Listed, Row};
 pub use matrix::{cost_and_bound, multiplicities, CostAndBound};
 pub use polynomial::{interpolate, roots, Polynomial};

@@ -20,6 +20,33 @@ pub struct Listed {
     pub rows: Vec<Row>,
 }
 
+/// As [`judge`](crate::judge) and [`Photograph`](crate::Photograph) take a list.
+///
+/// ```
+/// let rows = vec![
+///     kv::Row { score: 17, message: vec![1, 0] },
+///     kv::Row { score: 11, message: vec![0, 1] },
+/// ];
+/// let listed = kv::Listed { rows };
+/// assert_eq!(listed.messages(), [1, 0, 0, 1]);
+/// assert_eq!(listed.scores(), [17, 11]);
+/// let verdict = kv::judge(2, &listed.messages(), &listed.scores(), 6);
+/// assert_eq!(verdict, Ok(kv::Verdict::Open));
+/// ```
+impl Listed {
+    /// The messages, one after the other.
+    pub fn messages(&self) -> Vec<u8> {
+        let messages = self.rows.iter().map(|row| row.message.as_slice());
+        messages.collect::<Vec<_>>().concat()
+    }
+
+    /// The score of each message. No list has one that does not fit; the greatest stands for it.
+    pub fn scores(&self) -> Vec<u16> {
+        let score = |row: &Row| u16::try_from(row.score).unwrap_or(u16::MAX);
+        self.rows.iter().map(score).collect()
+    }
+}
+
 /// The list of a call that is lent room for it.
 fn listed(k: usize, list: impl FnOnce(&mut [u8], &mut [u16]) -> Answer) -> Result<Listed, Refusal> {
     let (mut messages, mut scores) = ([0; ROWS * POSITIONS], [0; ROWS]);

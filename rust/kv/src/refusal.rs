@@ -14,14 +14,17 @@ use std::fmt::{Display, Formatter, Result};
 pub enum Refusal {
     /// 1: n or k is not among the sizes that the entry takes.
     Sizes,
-    /// 2: the level, the limit or the degree is not among those that the entry takes.
+    /// 2: the level, the limit, the degree or the lead is not among those that the entry takes, or
+    /// two lists have unequal settings.
     Setting,
-    /// 3: the input has not the length that the sizes ask for.
+    /// 3: the input has not the length that the sizes ask for, or rows are not in list order or
+    /// repeat a message.
     Length,
     /// 4: lent memory is too short. Only the calls of [`lent`](crate::lent) are refused so: the
     /// others bring enough.
     Room,
-    /// 5: the entry at this index is above the greatest one allowed, and none before it is.
+    /// 5: the entry at this index is above the greatest one allowed, and none before it is. The
+    /// indexes of a second list run on after the first's last.
     Symbol(usize),
     /// 6: the reliabilities of this position sum to more than 4096, and those of none before it do.
     Column(usize),
@@ -32,6 +35,22 @@ pub enum Refusal {
 }
 
 impl Refusal {
+    /// The one that an entry answers, `None` where it answers 0.
+    pub(crate) fn of(number: u16, place: usize) -> Option<Refusal> {
+        match number {
+            0 => None,
+            1 => Some(Refusal::Sizes),
+            2 => Some(Refusal::Setting),
+            3 => Some(Refusal::Length),
+            4 => Some(Refusal::Room),
+            5 => Some(Refusal::Symbol(place)),
+            6 => Some(Refusal::Column(place)),
+            7 => Some(Refusal::Cost),
+            // The library gives no number above this one.
+            8.. => Some(Refusal::Zero),
+        }
+    }
+
     /// The number that document 01 has for it.
     pub fn number(self) -> u16 {
         match self {

@@ -1,12 +1,24 @@
 //! Whatever comes in, each call answers what the same call with lent memory does.
 
-use kv::lent::{self, Answer};
-use kv::{CostAndBound, Listed, Polynomial, Refusal, Row, Settings, Sizes};
+use kv::lent::{self, Answer, Judgement};
+use kv::{CostAndBound, Listed, Photograph, Polynomial, Refusal, Row, Settings, Sizes, Verdict};
 
 const NUMBERS: [usize; 10] = [0, 1, 2, 3, 5, 15, 16, 225, 1 << 32, usize::MAX];
 const LENGTHS: [usize; 9] = [0, 1, 2, 3, 6, 31, 32, 240, 257];
 const ENTRIES: [u8; 4] = [0, 1, 15, 255];
 const RELIABILITIES: [u16; 3] = [0, 256, u16::MAX];
+/// Rows and scores, which are lists where k is 2, but for the last four.
+const LISTS: [(&[u8], &[u16]); 9] = [
+    (&[], &[]),
+    (&[1, 0], &[9]),
+    (&[0, 1], &[9]),
+    (&[1, 0, 0, 1], &[9, 7]),
+    (&[0, 1, 1, 0, 1, 1], &[9, 9, 0]),
+    (&[1, 0, 0, 1], &[9, 9]),
+    (&[1, 0, 1, 0], &[9, 7]),
+    (&[1, 255], &[9]),
+    (&[1, 0, 0], &[9]),
+];
 /// More than any call asks for.
 const ROOM: usize = 1000;
 
@@ -125,6 +137,77 @@ fn reliabilities() {
                 kv::list_of_reliabilities(Sizes { n, k }, settings, &input),
                 found
             );
+        }
+    }
+}
+
+/// What a call that judges comes to.
+fn verdict(answer: Judgement) -> Result<Verdict, Refusal> {
+    let verdicts = [Verdict::Open, Verdict::Ask, Verdict::Nothing];
+    match answer.refusal() {
+        None => Ok(verdicts[usize::from(answer.value) - 1]),
+        Some(refusal) => Err(refusal),
+    }
+}
+
+/// Where the part lies that a call which opens comes to: at the first list's start, or the second's.
+fn part(answer: Judgement, rows: &[u8], others: &[u8]) -> (*const u8, usize) {
+    let list = [rows, rows, others][usize::from(answer.value)];
+    (list.as_ptr(), list[..answer.count.into()].len())
+}
+
+fn place(part: &[u8]) -> (*const u8, usize) {
+    (part.as_ptr(), part.len())
+}
+
+#[test]
+fn one_list() {
+    let of_any_length = inputs(&ENTRIES).into_iter().flat_map(|rows| {
+        let with_each = move |scores| (rows.clone(), scores);
+        inputs(&RELIABILITIES).into_iter().map(with_each)
+    });
+    let lists = LISTS.map(|(rows, scores)| (rows.to_vec(), scores.to_vec()));
+    for (rows, scores) in of_any_length.chain(lists) {
+        for (k, lead) in pairs() {
+            let judged = verdict(lent::judge(k, &rows, &scores, lead));
+            assert_eq!(kv::judge(k, &rows, &scores, lead), judged);
+            let opened = part(lent::open(k, &rows, &scores, lead), &rows, &[]);
+            assert_eq!(place(kv::open(k, &rows, &scores, lead)), opened);
+        }
+    }
+}
+
+fn judged_together(first: Photograph, second: Photograph, lead: usize) {
+    let judged = verdict(lent::judge_both(first, second, lead));
+    assert_eq!(kv::judge_both(first, second, lead), judged);
+    let opened = part(
+        lent::open_both(first, second, lead),
+        first.rows,
+        second.rows,
+    );
+    assert_eq!(place(kv::open_both(first, second, lead)), opened);
+}
+
+#[test]
+fn two_lists() {
+    for ((n, k), (level, lead)) in pairs().flat_map(|a| pairs().map(move |b| (a, b))) {
+        for ((rows, scores), (others, other_scores)) in
+            LISTS.into_iter().flat_map(|a| LISTS.map(|b| (a, b)))
+        {
+            let first = Photograph {
+                sizes: Sizes { n, k },
+                level,
+                rows,
+                scores,
+            };
+            let second = Photograph {
+                rows: others,
+                scores: other_scores,
+                ..first
+            };
+            judged_together(first, second, lead);
+            let coarser = Photograph { level: 1, ..second };
+            judged_together(first, coarser, lead);
         }
     }
 }
