@@ -5,6 +5,7 @@
 mod answer;
 pub mod bound;
 pub mod code;
+pub mod counter;
 pub mod field;
 pub mod interpolation;
 pub mod list;

@@ -15,7 +15,7 @@ pub enum Refusal {
 }
 
 impl Refusal {
-    fn number(self) -> u16 {
+    pub fn number(self) -> u16 {
         match self {
             Refusal::Sizes => 1,
             Refusal::Setting => 2,
@@ -28,7 +28,7 @@ impl Refusal {
         }
     }
 
-    fn place(self) -> usize {
+    pub fn place(self) -> usize {
         match self {
             Refusal::Symbol(index) => index,
             Refusal::Column(position) => position,
