@@ -64,7 +64,7 @@ impl Comparison {
                 self.differ(call, ("answered", &proved), ("refused", &bare));
             }
         }
-        self.tally.call(*answer);
+        self.tally.call(answer.number, answer.count);
         self.seen.list(call, *answer, memory.scores.part());
         *answer
     }

@@ -38,11 +38,15 @@ impl Made {
         made
     }
 
-    /// The refusal that document 01 asks for: the lowest number, and the first place.
     pub fn refusal(&self) -> Option<Refusal> {
-        let order = |fault: &Refusal| (fault.number(), fault.place());
-        self.faults.iter().copied().min_by_key(order)
+        first_of(&self.faults)
     }
+}
+
+/// The refusal that document 01 asks for: the lowest number, and the first place.
+pub fn first_of(faults: &[Refusal]) -> Option<Refusal> {
+    let order = |fault: &Refusal| (fault.number(), fault.place());
+    faults.iter().copied().min_by_key(order)
 }
 
 /// A number of a call, apart from its sizes.

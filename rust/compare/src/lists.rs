@@ -3,11 +3,11 @@
 use crate::call::Call;
 use crate::edges::Line;
 use crate::entry::{Entry, Program};
+use crate::tally::{suffices, Named};
 use kv::lent::Answer;
 use second::bound::{cost_and_bound, cost_of_entry, GREATEST_LIMIT};
 use second::field::SYMBOLS;
 use second::list::MOST_ROWS;
-use std::process::exit;
 use tags::{hard_word, ERASED};
 
 /// A call of these sizes with room for a list.
@@ -70,7 +70,7 @@ impl Seen {
         self.scores_just_above += usize::from(score == bound + 1);
     }
 
-    fn by_name(&self) -> [(&'static str, usize); 7] {
+    fn by_name(&self) -> Named<7> {
         [
             ("lists with rows", self.lists),
             ("with several", self.lists_of_many),
@@ -84,14 +84,7 @@ impl Seen {
 
     /// Says what was seen. A run fails that saw too little of something.
     pub fn suffices(&self, least: &Seen) {
-        for ((name, seen), (_, least)) in self.by_name().into_iter().zip(least.by_name()) {
-            if seen < least {
-                eprintln!("{name}: {seen}; at least {least} were to be seen");
-                exit(1);
-            }
-        }
-        let number_of = |(name, seen)| format!("{name}: {seen}");
-        println!("seen: {}", self.by_name().map(number_of).join(", "));
+        suffices(self.by_name(), least.by_name());
     }
 }
 

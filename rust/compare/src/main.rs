@@ -6,6 +6,7 @@ mod columns;
 mod comparison;
 mod contents;
 mod cost_and_bound;
+mod counter;
 mod edges;
 mod encode;
 mod entry;
@@ -34,4 +35,5 @@ fn main() {
     list_of_reliabilities::compare();
     edges::compare();
     limits::compare();
+    counter::compare();
 }

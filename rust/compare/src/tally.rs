@@ -1,6 +1,5 @@
 //! What was compared for one entry.
 
-use kv::lent::Answer;
 use kv::Refusal;
 use std::collections::{BTreeMap, BTreeSet};
 use std::process::exit;
@@ -34,10 +33,10 @@ impl Tally {
         }
     }
 
-    pub fn call(&mut self, answer: Answer) {
+    pub fn call(&mut self, number: u16, count: u16) {
         self.calls += 1;
-        self.counted += usize::from(answer.count);
-        *self.by_refusal.entry(answer.number).or_default() += 1;
+        self.counted += usize::from(count);
+        *self.by_refusal.entry(number).or_default() += 1;
     }
 
     pub fn faults(&mut self, faults: &[Refusal]) {
@@ -81,4 +80,19 @@ impl Tally {
             by_refusal.join(", "),
         );
     }
+}
+
+/// What was seen, each by its name, and how often.
+pub type Named<const COUNT: usize> = [(&'static str, usize); COUNT];
+
+/// Says what was seen. A run fails that saw too little of something.
+pub fn suffices<const COUNT: usize>(seen: Named<COUNT>, least: Named<COUNT>) {
+    for ((name, seen), (_, least)) in seen.into_iter().zip(least) {
+        if seen < least {
+            eprintln!("{name}: {seen}; at least {least} were to be seen");
+            exit(1);
+        }
+    }
+    let number_of = |(name, seen)| format!("{name}: {seen}");
+    println!("seen: {}", seen.map(number_of).join(", "));
 }
