@@ -15,6 +15,8 @@ static uint16_t reliabilities[KV_SYMBOLS * N];
 static uint8_t coefficients[KV_COEFFICIENTS];
 static uint8_t rows[KV_ROWS * N];
 static uint16_t scores[KV_ROWS];
+static uint8_t messages[2 * N];
+static const uint16_t falling[] = {2, 1};
 static struct kv_answer polynomial, answer;
 static size_t k;
 
@@ -39,6 +41,18 @@ static void *list_of_multiplicities(void *unused) {
 static void *list_of_reliabilities(void *unused) {
     answer = kv_list_of_reliabilities(N, k, KV_LEVEL, KV_LIMIT, reliabilities, KV_SYMBOLS * N, rows,
                                       sizeof rows, scores, KV_ROWS);
+    return unused;
+}
+
+static void *judge_both(void *unused) {
+    answer.number = kv_judge_both(N, k, KV_LEVEL, messages, 2 * k, falling, 2,
+                                  N, k, KV_LEVEL, messages, 2 * k, falling, 2, 1).number;
+    return unused;
+}
+
+static void *open_both(void *unused) {
+    answer.number = kv_open_both(N, k, KV_LEVEL, messages, 2 * k, falling, 2,
+                                 N, k, KV_LEVEL, messages, 2 * k, falling, 2, 1).number;
     return unused;
 }
 
@@ -84,9 +98,12 @@ int main(void) {
         matrix[KV_SYMBOLS * i + 1] = KV_LEVEL;
         reliabilities[KV_SYMBOLS * i + 1] = KV_WHOLE;
     }
+    for (size_t i = 0; i < 2 * N; i++) messages[i] = i % KV_SYMBOLS;
     measure("interpolation", interpolate);
     measure("roots", roots);
     measure("list of multiplicities", list_of_multiplicities);
     measure("list of reliabilities", list_of_reliabilities);
+    measure("judge both", judge_both);
+    measure("open both", open_both);
     return 0;
 }
