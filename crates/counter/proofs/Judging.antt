@@ -6,10 +6,17 @@ use mathlib.Core.Path.{_≡_, refl, sym, _∙_, ap}
 use Prim.Native.Nat.{ℕ, _+_, _≤_, _<_}
 use native.Mathlib.Nat.{suc-ne-zero, suc-inj}
 use native.Mathlib.Omega.{arith}
-use borrow.Author.Tests.{le-leb, lt-leb}
+use borrow.Author.Tests.{le-leb, lt-leb, eq-eqb, ne-eqb}
 use lib.Dec.{leb}
 use lib.ListN.{length, getD}
-use Rattle.counter.specs.Judging.{toOpen, toAsk, nothing, judged}
+use Rattle.counter.specs.Judging.{toOpen, toAsk, nothing, judged, chosen}
+
+-- the list that is judged
+pub first-chosen : (scores otherScores : List ℕ) → 1 ≤ length scores → scores ≡ chosen scores otherScores
+first-chosen scores otherScores h = rw (ne-eqb (length scores) 0 (λ e. let z : ⊥ = omega arith in z))
+
+pub second-chosen : (scores otherScores : List ℕ) → length scores ≡ 0 → otherScores ≡ chosen scores otherScores
+second-chosen scores otherScores h = rw (eq-eqb (length scores) 0 h)
 
 module _ (g : ℕ) where
   pub judged-none : (scores : List ℕ) → length scores ≡ 0 → nothing ≡ judged g scores

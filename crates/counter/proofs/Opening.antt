@@ -3,19 +3,19 @@
 use mathlib.Core.Bool.{true, false, false≢true}
 use mathlib.Core.List.{List, [], _∷_}
 use mathlib.Core.Logic.{⊎-elim}
-use mathlib.Core.Path.{_≡_, refl, ap, ap₂}
+use mathlib.Core.Path.{_≡_, refl, _∙_, ap, ap₂}
 use Prim.Native.Nat.{ℕ, suc, _+_, _*_, _-_, _≤_}
-use native.Mathlib.Nat.{zero-add, sub-zero, mul-le-mul, mul-one, le-refl}
+use native.Mathlib.Nat.{zero-add, mul-zero, mul-le-mul, mul-one, le-refl}
 use native.Mathlib.Omega.{arith}
 use denote.Enum.Declared.{tagOf}
 use denote.Ref.{RefT}
 use types.Run.{OneOf}
 use borrow.Author.Tests.{eqb-true, eq-eqb, ne-eqb}
-use lib.ListN.{length, take}
+use lib.ListN.{length, take, drop}
 use Rattle.counter.proofs.Both.{both-full}
 use Rattle.counter.proofs.Verdict.{the-type}
 use Rattle.counter.proofs.Judging.{open-some}
-use Rattle.counter.specs.Handing.{front, isOpen}
+use Rattle.counter.specs.Handing.{partAt, front, isOpen}
 use Rattle.counter.specs.Judging.{toOpen, judged, apart, chosen, bothJudged, judgeTable, bothTable, judgeAnswer, bothAnswer}
 use Rattle.counter.specs.Verdict.{toldVerdict}
 use Rattle.counter.specs.declared.Settings.{Settings}
@@ -25,13 +25,26 @@ use Rattle.definitions.proofs.Table.{Accepts, next, end, size-means, sizes-mean
 use Rattle.definitions.proofs.Tools.{split}
 use Rattle.definitions.specs.Answers.{refused, valued}
 use Rattle.definitions.specs.Field.{Code}
+use Rattle.definitions.specs.Listing.{rowAt}
 use Rattle.definitions.specs.Refusals.{Line, tried}
 use Rattle.refusals.proofs.Chain.{told-is}
 use Rattle.rows.proofs.Rows.{listed-means}
 
--- the part from 0 to k of a slice is its front
-pub front-part : (rows : RefT (List ℕ)) (k : ℕ) → ((rows .ptr .0, 0 + rows .ptr .1), take (k - 0) (rows .now)) ≡ front k rows
-front-part rows k = ap₂ (λ (offset size : ℕ). ((rows .ptr .0, offset), take size (rows .now))) (zero-add (rows .ptr .1)) (sub-zero k)
+-- the list's first row is its front
+pub front-row : (k : ℕ) (rows row : RefT (List ℕ)) → row .now ≡ rowAt k (rows .now) 0 → row .ptr ≡ (rows .ptr .0, k * 0 + rows .ptr .1)
+    → partAt row ≡ front k rows
+front-row k rows row e p =
+    let start : k * 0 + rows .ptr .1 ≡ rows .ptr .1 = omega (arith, mul-zero k) in
+    ap₂ (λ (place : ℕ × ℕ) (symbols : List ℕ). (place, symbols)) (p ∙ ap (λ (offset : ℕ). (rows .ptr .0, offset)) start)
+    (e ∙ ap (λ (from : ℕ). take k (drop from (rows .now))) (mul-zero k))
+
+-- and the part from 0 to 0 is its front of none
+pub front-none : (rows : RefT (List ℕ)) → ((rows .ptr .0, 0 + rows .ptr .1), take (0 - 0) (rows .now)) ≡ front 0 rows
+front-none rows = ap (λ (offset : ℕ). ((rows .ptr .0, offset), [])) (zero-add (rows .ptr .1))
+
+-- a row that fits from the list's start
+pub first-row-fits : (k size : ℕ) → k ≤ size → k * 0 + k ≤ size
+first-row-fits k size h = omega (arith, mul-zero k)
 
 no-one : (n : ℕ) → _≡_ {A = ℕ} 0 (suc n) → ⊥
 no-one n e = omega arith

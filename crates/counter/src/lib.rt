@@ -69,7 +69,7 @@ pub fn opened<'a, 's>(k: usize, rows: &'a [u8], scores: &'s [u16], lead: usize) 
     ensures { λ r. ⌜ partAt r ≡ opened sixteen k (rows .entry) (now (scores .entry)) lead ⌝ }
 {
     if let Verdict::Open = judge(k, rows, scores, lead) {
-        return &rows[0..k];
+        return rows::row(k, rows, 0);
     }
     &rows[0..0]
 }
@@ -114,10 +114,10 @@ fn both_judged(
     if apart(k, rows, scores, others, other_scores) {
         return Verdict::Ask;
     }
-    if scores.len() == 0 {
-        return judged(other_scores, lead);
+    if scores.len() != 0 {
+        return judged(scores, lead);
     }
-    judged(scores, lead)
+    judged(other_scores, lead)
 }
 
 pub fn judge_both(
@@ -162,9 +162,9 @@ pub fn opened_both<'a, 's, 't>(
     let k = first.k;
     if let Verdict::Open = judge_both(first, rows, scores, second, others, other_scores, lead) {
         if scores.len() == 0 {
-            return &others[0..k];
+            return rows::row(k, others, 0);
         }
-        return &rows[0..k];
+        return rows::row(k, rows, 0);
     }
     &rows[0..0]
 }

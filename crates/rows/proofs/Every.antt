@@ -2,7 +2,7 @@
 -- Assumes nothing.
 use mathlib.Core.Bool.{Bool, true, false, true≢false}
 use mathlib.Core.Path.{_≡_, refl, sym, _∙_, ap}
-use Prim.Native.Nat.{ℕ, zero, suc, _+_, _<_}
+use Prim.Native.Nat.{ℕ, zero, suc, _+_, _-_, _≤_, _<_}
 use native.Mathlib.Decide.{decLt}
 use native.Mathlib.Nat.{not-suc-le-zero}
 use native.Mathlib.Numerals.{add-one}
@@ -34,6 +34,14 @@ module _ (test : ℕ → Bool) where
   pub every-of : (n : ℕ) → ((i : ℕ) → i < n → test i ≡ true) → every n test ≡ true
   every-of zero h = every-none
   every-of (suc n) h = ap (λ (m : ℕ). every m test) (sym (add-one n)) ∙ every-more n (every-of n (λ i l. h i (omega arith))) (h n (omega arith))
+
+  -- going down: each from i on does, and the one before it
+  pub down-more : (i j : ℕ) → 1 ≤ i → ((t : ℕ) → i ≤ t → t < j → test t ≡ true) → test (i - 1) ≡ true → (t : ℕ) → i - 1 ≤ t → t < j → test t ≡ true
+  down-more i j h above e t from to =
+      elim (decLt t i) [
+        | yes l ↦ (let here : i - 1 ≡ t = omega arith in ap test (sym here) ∙ e)
+        | no n ↦ above t (omega arith) to
+      ]
 
   -- one does not
   pub every-but : (n i : ℕ) → i < n → test i ≡ false → every n test ≡ false

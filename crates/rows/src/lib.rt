@@ -12,7 +12,8 @@ use refusals::Refusal;
 
 pub fn row<'a>(k: usize, rows: &'a [u8], i: usize) -> &'a [u8]
     requires { ⌜ k * i + k ≤ length (now rows) ⌝ }
-    ensures { λ r. ⌜ now r ≡ rowAt k (now (rows .entry)) i ⌝ }
+    ensures symbols { λ r. ⌜ now r ≡ rowAt k (now (rows .entry)) i ⌝ }
+    ensures place { λ r. ⌜ r .ptr ≡ (rows .entry .ptr .0, k * i + rows .entry .ptr .1) ⌝ }
 {
     let from = k * i;
     let to = from + k;
@@ -80,16 +81,16 @@ fn in_order(k: usize, rows: &[u8], scores: &[u16]) -> bool
 
 // No row before row j has its message.
 fn is_new(k: usize, rows: &[u8], j: usize) -> bool
-    requires { ⌜ k * j + k ≤ length (now rows) ⌝ }
+    requires { ⌜ (0 < j) × (k * j + k ≤ length (now rows)) ⌝ }
     ensures { λ r. ⌜ r ≡ isNew k (now (rows .entry)) j ⌝ }
 {
     let message = row(k, rows, j);
-    let mut i = 0;
-    while i < j {
+    let mut i = j;
+    while 0 < i {
+        i -= 1;
         if same(row(k, rows, i), message) {
             return false;
         }
-        i += 1;
     }
     true
 }
@@ -98,7 +99,7 @@ fn all_new(k: usize, rows: &[u8], count: usize) -> bool
     requires { ⌜ k * count ≤ length (now rows) ⌝ }
     ensures { λ r. ⌜ r ≡ every count (isNew k (now (rows .entry))) ⌝ }
 {
-    let mut j = 0;
+    let mut j = 1;
     while j < count {
         if !is_new(k, rows, j) {
             return false;

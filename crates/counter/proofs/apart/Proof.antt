@@ -37,13 +37,13 @@ same-requires c κs =
     let e = r .before in
     let a = e .before .before .before .before .before .before .args in
     let fits = first-fits e in
-    ap length (r .row .ensures) ∙ row-length (a .k) (a .rows .now) 0 (fits .0) ∙ sym (row-length (a .k) (a .others .now) 0 (fits .1)) ∙ sym (ap length (c .row2 .ensures))
+    ap length (r .row .ensures .0) ∙ row-length (a .k) (a .rows .now) 0 (fits .0) ∙ sym (row-length (a .k) (a .others .now) 0 (fits .1)) ∙ sym (ap length (c .row2 .ensures .0))
 
 returns-3 : tie.Need-returns-3
 returns-3 c =
     let r = c .before in
     let e = r .before .before in
-    rw (ne-eqb _ _ (e .before .if1 .left), ne-eqb _ _ (e .if2 .left)) (ap not (c .same .ensures ∙ ap₂ same (r .before .row .ensures) (r .row2 .ensures)))
+    rw (ne-eqb _ _ (e .before .if1 .left), ne-eqb _ _ (e .if2 .left)) (ap not (c .same .ensures ∙ ap₂ same (r .before .row .ensures .0) (r .row2 .ensures .0)))
 
 pub apart-spec : {M : Type 1} → statement M
 apart-spec =

@@ -1,8 +1,9 @@
 -- On Open the row is there, and the part begins where the list does.
 use mathlib.Core.Bool.{Bool, true, false, cond}
 use mathlib.Core.Path.{_≡_, sym, _∙_, ap}
+use lib.ListN.{length}
 use borrow.Author.Needs.{needs}
-use Rattle.counter.proofs.Opening.{front-part, other-verdict, row-there}
+use Rattle.counter.proofs.Opening.{front-row, front-none, first-row-fits, other-verdict, row-there}
 use Rattle.counter.specs.Handing.{front, isOpen}
 use Rattle.counter.specs.Judging.{judgeAnswer}
 use Rattle.counter.specs.Verdict.{toldVerdict}
@@ -14,20 +15,23 @@ use Rattle.counter.proofs.opened.Tie as tie
 opens : (c : tie.After-enum-told) → (let a = c .before .before .before .before .before .args in isOpen (judgeAnswer sixteen (a .k) (a .rows .now) (a .scores .now) (a .lead)) ≡ true)
 opens c = ap isOpen (sym (c .before .before .judge .ensures) ∙ ap toldVerdict (c .enum-told .given .1))
 
-part-result-end : tie.Need-part-result-end
-part-result-end c = let a = c .before .before .before .before .before .args in row-there sixteen (a .k) (a .rows .now) (a .scores .now) (a .lead) (opens c)
+row-requires : tie.Need-row-requires
+row-requires c κs =
+    let a = c .before .before .before .before .before .args in
+    first-row-fits (a .k) (length (a .rows .now)) (row-there sixteen (a .k) (a .rows .now) (a .scores .now) (a .lead) (opens c))
 
 returns : tie.Need-returns
 returns c =
     let a = c .before .before .before .before .before .before .args in
-    front-part (a .rows) (a .k) ∙ sym (ap (λ (b : Bool). cond b (front (a .k) (a .rows)) (front 0 (a .rows))) (opens (c .before)))
+    front-row (a .k) (a .rows) (c .row .result) (c .row .ensures .0) (c .row .ensures .1)
+    ∙ sym (ap (λ (b : Bool). cond b (front (a .k) (a .rows)) (front 0 (a .rows))) (opens (c .before)))
 
 returns-2 : tie.Need-returns-2
 returns-2 c =
     let j = c .before .before in
     let a = j .before .before .before .args in
     let none : isOpen (toldVerdict (j .judge .result)) ≡ false = other-verdict (j .judge .result) (c .before .match .keys2) in
-    front-part (a .rows) 0 ∙ sym (ap (λ (b : Bool). cond b (front (a .k) (a .rows)) (front 0 (a .rows))) (sym (ap isOpen (j .judge .ensures)) ∙ none))
+    front-none (a .rows) ∙ sym (ap (λ (b : Bool). cond b (front (a .k) (a .rows)) (front 0 (a .rows))) (sym (ap isOpen (j .judge .ensures)) ∙ none))
 
 pub opened-spec : {M : Type 1} → statement M
 opened-spec =
@@ -35,9 +39,7 @@ opened-spec =
     (tie.spec
     (λ c κs. search needs)
     (λ c. search needs)
-    (λ c. search needs)
-    (λ c. search needs)
-    part-result-end
+    row-requires
     returns
     (λ c. search needs)
     (λ c. search needs)

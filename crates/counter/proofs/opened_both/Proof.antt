@@ -6,7 +6,7 @@ use lib.Dec.{eqb}
 use lib.ListN.{length}
 use borrow.Author.Needs.{needs}
 use borrow.Author.Tests.{eq-eqb, ne-eqb}
-use Rattle.counter.proofs.Opening.{front-part, other-verdict, row-in-judged}
+use Rattle.counter.proofs.Opening.{front-row, front-none, first-row-fits, other-verdict, row-in-judged}
 use Rattle.counter.specs.Handing.{Part, front, isOpen}
 use Rattle.counter.specs.Judging.{bothAnswer}
 use Rattle.counter.specs.Verdict.{toldVerdict}
@@ -36,30 +36,36 @@ there c =
     let a = entry (c .before .before) .args in
     row-in-judged sixteen (a .first) (a .rows .now) (a .scores .now) (a .second) (a .others .now) (a .other-scores .now) (a .lead) (opens c)
 
-part-result-end : tie.Need-part-result-end
-part-result-end c = there (c .before) .0 (c .if1 .taken)
+row-requires : tie.Need-row-requires
+row-requires c κs =
+    let a = entry (c .before .before .before) .args in
+    first-row-fits (a .first .k) (length (a .others .now)) (there (c .before) .0 (c .if1 .taken))
 
 returns : tie.Need-returns
 returns c =
     let t = c .before in
     let s = entry (t .before .before .before) in
-    front-part (s .args .others) (s .args .first .k) ∙ sym (ap₂ (handed s) (opens (t .before)) (eq-eqb _ _ (t .if1 .taken)))
+    front-row (s .args .first .k) (s .args .others) (c .row .result) (c .row .ensures .0) (c .row .ensures .1)
+    ∙ sym (ap₂ (handed s) (opens (t .before)) (eq-eqb _ _ (t .if1 .taken)))
 
-part-result-end-2 : tie.Need-part-result-end-2
-part-result-end-2 c = there (c .before) .1 (c .if1 .left)
+row-requires-2 : tie.Need-row-requires-2
+row-requires-2 c κs =
+    let a = entry (c .before .before .before) .args in
+    first-row-fits (a .first .k) (length (a .rows .now)) (there (c .before) .1 (c .if1 .left))
 
 returns-2 : tie.Need-returns-2
 returns-2 c =
     let t = c .before in
     let s = entry (t .before .before .before) in
-    front-part (s .args .rows) (s .args .first .k) ∙ sym (ap₂ (handed s) (opens (t .before)) (ne-eqb _ _ (t .if1 .left)))
+    front-row (s .args .first .k) (s .args .rows) (c .row2 .result) (c .row2 .ensures .0) (c .row2 .ensures .1)
+    ∙ sym (ap₂ (handed s) (opens (t .before)) (ne-eqb _ _ (t .if1 .left)))
 
 returns-3 : tie.Need-returns-3
 returns-3 c =
     let j = c .before .before in
     let s = entry j in
     let none : isOpen (toldVerdict (j .judge-both .result)) ≡ false = other-verdict (j .judge-both .result) (c .before .match .keys2) in
-    front-part (s .args .rows) 0 ∙ sym (ap (λ (b : Bool). handed s b (eqb (length (s .args .scores .now)) 0)) (sym (ap isOpen (j .judge-both .ensures)) ∙ none))
+    front-none (s .args .rows) ∙ sym (ap (λ (b : Bool). handed s b (eqb (length (s .args .scores .now)) 0)) (sym (ap isOpen (j .judge-both .ensures)) ∙ none))
 
 pub opened-both-spec : {M : Type 1} → statement M
 opened-both-spec =
@@ -67,13 +73,9 @@ opened-both-spec =
     (tie.spec
     (λ c κs. search needs)
     (λ c. search needs)
-    (λ c. search needs)
-    (λ c. search needs)
-    part-result-end
+    row-requires
     returns
-    (λ c. search needs)
-    (λ c. search needs)
-    part-result-end-2
+    row-requires-2
     returns-2
     (λ c. search needs)
     (λ c. search needs)

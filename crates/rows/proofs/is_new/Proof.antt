@@ -1,15 +1,14 @@
--- No row that was looked at has the message, up to the first that has.
+-- From the row before it down, no row that was looked at has the message, up to the first that has.
 use mathlib.Core.Bool.{Bool, true, not}
 use mathlib.Core.List.{List}
 use mathlib.Core.Path.{_≡_, sym, _∙_, ap, ap₂}
-use Prim.Native.Nat.{ℕ, _+_, _*_, _-_, _≤_}
+use Prim.Native.Nat.{ℕ, _+_, _*_, _-_, _≤_, _<_}
 use native.Mathlib.Omega.{arith}
 use lib.ListN.{length}
-use borrow.Author.Needs.{needs}
 use Rattle.definitions.specs.Listing.{rowAt}
-use Rattle.rows.proofs.Every.{every-none, every-more, every-but}
+use Rattle.rows.proofs.Every.{every-of, every-but, down-more}
 use Rattle.rows.proofs.Rows.{earlier-fits, row-length}
-use Rattle.rows.specs.Rows.{every, same}
+use Rattle.rows.specs.Rows.{same}
 use Rattle.rows.proofs.is_new.Statement.{statement}
 use Rattle.rows.proofs.is_new.Tie as tie
 
@@ -17,18 +16,29 @@ abbrev other : ℕ → List ℕ → ℕ → ℕ → Bool
 other k rows j i = not (same (rowAt k rows i) (rowAt k rows j))
 
 abbrev Inv-loop : tie.InvT-loop
-Inv-loop k rows j message i₀ i = (i ≤ j) × (every i (other k rows j) ≡ true)
+Inv-loop k rows j message i₀ i = (i ≤ j) × ((t : ℕ) → i ≤ t → t < j → other k rows j t ≡ true)
 
 abbrev μ-loop : tie.MeasureT-loop
-μ-loop k rows j message i₀ i = j - i
+μ-loop k rows j message i₀ i = i
+
+row-requires : tie.Need-row-requires Inv-loop μ-loop
+row-requires c κs = c .before .pre .1
 
 loop-holds : tie.Need-loop-holds Inv-loop μ-loop
-loop-holds c = let a = c .before .before .args in (omega arith, every-none (other (a .k) (a .rows .now) (a .j)))
+loop-holds c = (omega arith, λ t from to. let z : ⊥ = omega arith in absurd z)
 
-fits : (c : tie.In-loop Inv-loop μ-loop) → (let a = c .before .before .before .before .args in a .k * c .before .loop .i + a .k ≤ length (a .rows .now))
+some : (c : tie.In-loop Inv-loop μ-loop) → 1 ≤ c .before .loop .i
+some c = let p = c .before .before .before .before .pre .0 in omega arith
+
+sub-i : tie.Need-sub-i Inv-loop μ-loop
+sub-i c = some c
+
+fits : (c : tie.In-loop Inv-loop μ-loop)
+    → (let a = c .before .before .before .before .args in a .k * (c .before .loop .i - 1) + a .k ≤ length (a .rows .now))
 fits c =
     let s = c .before .before .before .before in
-    earlier-fits (s .args .k) (c .before .loop .i) (s .args .j) (length (s .args .rows .now)) (s .pre) (omega arith)
+    let h = c .before .loop .inv .0 in
+    earlier-fits (s .args .k) (c .before .loop .i - 1) (s .args .j) (length (s .args .rows .now)) (s .pre .1) (omega arith)
 
 row-requires-2 : tie.Need-row-requires-2 Inv-loop μ-loop
 row-requires-2 c κs = fits c
@@ -39,38 +49,40 @@ same-requires c κs =
     let r = l .before .before in
     let s = r .before .before in
     let a = s .args in
-    ap length (c .row2 .ensures) ∙ row-length (a .k) (a .rows .now) (l .before .loop .i) (fits l) ∙ sym (row-length (a .k) (a .rows .now) (a .j) (s .pre)) ∙ sym (ap length (r .row .ensures))
+    ap length (c .row2 .ensures .0) ∙ row-length (a .k) (a .rows .now) (l .before .loop .i - 1) (fits l) ∙ sym (row-length (a .k) (a .rows .now) (a .j) (s .pre .1)) ∙ sym (ap length (r .row .ensures .0))
 
 -- what was compared are the two rows
 compared : (c : tie.After-same Inv-loop μ-loop)
     → (let a = c .before .before .before .before .before .before .args in
-    c .same .result ≡ same (rowAt (a .k) (a .rows .now) (c .before .before .before .loop .i)) (rowAt (a .k) (a .rows .now) (a .j)))
-compared c = c .same .ensures ∙ ap₂ same (c .before .row2 .ensures) (c .before .before .before .before .row .ensures)
+    c .same .result ≡ same (rowAt (a .k) (a .rows .now) (c .before .before .before .loop .i - 1)) (rowAt (a .k) (a .rows .now) (a .j)))
+compared c = c .same .ensures ∙ ap₂ same (c .before .row2 .ensures .0) (c .before .before .before .before .row .ensures .0)
 
 returns : tie.Need-returns Inv-loop μ-loop
 returns c =
-    let l = c .before .before .before .before in
+    let in-loop = c .before .before .before in
+    let l = in-loop .before in
     let a = l .before .before .before .args in
-    sym (every-but (other (a .k) (a .rows .now) (a .j)) (a .j) (l .loop .i) (omega arith) (ap not (sym (compared (c .before)) ∙ c .if1 .taken)))
-
-add-i : tie.Need-add-i Inv-loop μ-loop
-add-i c = omega arith
+    let h = some in-loop in
+    let m = l .loop .inv .0 in
+    sym (every-but (other (a .k) (a .rows .now) (a .j)) (a .j) (l .loop .i - 1) (omega arith) (ap not (sym (compared (c .before)) ∙ c .if1 .taken)))
 
 loop-less : tie.Need-loop-less Inv-loop μ-loop
-loop-less c = omega arith
+loop-less c = let h = some (c .before .before .before) in omega arith
 
 loop-again : tie.Need-loop-again Inv-loop μ-loop
 loop-again c =
-    let l = c .before .before .before .before in
+    let in-loop = c .before .before .before in
+    let l = in-loop .before in
     let a = l .before .before .before .args in
-    (omega arith, every-more (other (a .k) (a .rows .now) (a .j)) (l .loop .i) (l .loop .inv .1) (ap not (sym (compared (c .before)) ∙ c .if1 .left)))
+    let m = l .loop .inv .0 in
+    (omega arith, down-more (other (a .k) (a .rows .now) (a .j)) (l .loop .i) (a .j) (some in-loop) (l .loop .inv .1) (ap not (sym (compared (c .before)) ∙ c .if1 .left)))
 
 returns-2 : tie.Need-returns-2 Inv-loop μ-loop
 returns-2 c =
     let l = c .before in
     let a = l .before .before .before .args in
-    let end : l .loop .i ≡ a .j = omega arith in
-    sym (ap (λ (n : ℕ). every n (other (a .k) (a .rows .now) (a .j))) (sym end) ∙ l .loop .inv .1)
+    let end : l .loop .i ≡ 0 = omega arith in
+    sym (every-of (other (a .k) (a .rows .now) (a .j)) (a .j) (λ t h. l .loop .inv .1 t (omega arith) h))
 
 pub is-new-spec : {M : Type 1} → statement M
 is-new-spec =
@@ -78,12 +90,12 @@ is-new-spec =
     (tie.spec
     Inv-loop
     μ-loop
-    (λ c κs. search needs)
+    row-requires
     loop-holds
+    sub-i
     row-requires-2
     same-requires
     returns
-    add-i
     loop-less
     loop-again
     returns-2)

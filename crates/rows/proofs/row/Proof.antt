@@ -1,5 +1,5 @@
 -- The part has k symbols: its end is k behind its start.
-use mathlib.Core.Path.{_≡_, ap}
+use mathlib.Core.Path.{_≡_, refl, ap}
 use Prim.Native.Nat.{ℕ, _+_, _*_, _-_}
 use native.Mathlib.Omega.{arith}
 use lib.ListN.{take, drop}
@@ -11,7 +11,7 @@ returns : tie.Need-returns
 returns c =
     let a = c .before .args in
     let size : a .k * a .i + a .k - a .k * a .i ≡ a .k = omega arith in
-    ap (λ (n : ℕ). take n (drop (a .k * a .i) (a .rows .now))) size
+    (ap (λ (n : ℕ). take n (drop (a .k * a .i) (a .rows .now))) size, refl)
 
 pub row-spec : {M : Type 1} → statement M
 row-spec =

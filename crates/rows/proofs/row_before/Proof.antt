@@ -15,12 +15,12 @@ comes-before-requires : tie.Need-comes-before-requires
 comes-before-requires c κs =
     let s = c .before .before .before .before .before .before .before in
     let a = s .args in
-    ap length (c .before .row .ensures) ∙ row-length (a .k) (a .rows .now) (a .i) (s .pre .0) ∙ sym (row-length (a .k) (a .rows .now) (a .j) (s .pre .1)) ∙ sym (ap length (c .row2 .ensures))
+    ap length (c .before .row .ensures .0) ∙ row-length (a .k) (a .rows .now) (a .i) (s .pre .0) ∙ sym (row-length (a .k) (a .rows .now) (a .j) (s .pre .1)) ∙ sym (ap length (c .row2 .ensures .0))
 
 returns-2 : tie.Need-returns-2
 returns-2 c =
     let r = c .before in
-    rw (eq-eqb _ _ (r .before .before .if1 .left)) (c .comes-before .ensures ∙ ap₂ comesBefore (r .before .row .ensures) (r .row2 .ensures))
+    rw (eq-eqb _ _ (r .before .before .if1 .left)) (c .comes-before .ensures ∙ ap₂ comesBefore (r .before .row .ensures .0) (r .row2 .ensures .0))
 
 pub row-before-spec : {M : Type 1} → statement M
 row-before-spec =
