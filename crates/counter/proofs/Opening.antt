@@ -39,8 +39,8 @@ front-row k rows row e p =
     (e ∙ ap (λ (from : ℕ). take k (drop from (rows .now))) (mul-zero k))
 
 -- and the part from 0 to 0 is its front of none
-pub front-none : (rows : RefT (List ℕ)) → ((rows .ptr .0, 0 + rows .ptr .1), take (0 - 0) (rows .now)) ≡ front 0 rows
-front-none rows = ap (λ (offset : ℕ). ((rows .ptr .0, offset), [])) (zero-add (rows .ptr .1))
+pub empty-front : (rows : RefT (List ℕ)) → ((rows .ptr .0, 0 + rows .ptr .1), take (0 - 0) (rows .now)) ≡ front 0 rows
+empty-front rows = ap (λ (offset : ℕ). ((rows .ptr .0, offset), [])) (zero-add (rows .ptr .1))
 
 -- a row that fits from the list's start
 pub first-row-fits : (k size : ℕ) → k ≤ size → k * 0 + k ≤ size

@@ -1,4 +1,5 @@
-pub mod Messages
 pub mod Every
+pub mod Messages
 pub mod Rows
+pub mod InOrder
 pub mod Written

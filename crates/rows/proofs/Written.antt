@@ -1,48 +1,34 @@
 -- What the library's lists write is such a list: k symbols a score, in list order, no message twice.
 -- Assumes nothing.
-use mathlib.Core.Bool.{true, false, not, cond, false≢true}
-use mathlib.Core.List.{List, [], _∷_, map, flatten, append-nil}
-use mathlib.Core.Logic.{⊎-elim}
-use mathlib.Core.Path.{_≡_, refl, sym, _∙_, ap, ap₂}
+use mathlib.Core.Bool.{true, false, not}
+use mathlib.Core.List.{List, [], map, flatten, append-nil}
+use mathlib.Core.Logic.{inl, inr}
+use mathlib.Core.Path.{_≡_, sym, _∙_, ap}
 use Prim.Native.Nat.{ℕ, _+_, _*_, _-_, _≤_, _<_}
 use native.Mathlib.Omega.{arith}
-use borrow.Author.Tests.{eqb-true, eqb-false, lt-ltb, eq-eqb, ne-eqb, ltb-true}
+use borrow.Author.Tests.{eqb-true, eqb-false, eq-eqb, ltb-true}
 use lib.Dec.{eqb, ltb}
 use lib.ListN.{length, getD, length-map}
 use Rattle.algebra.proofs.Every.{All, all-members, length-flatten, row-of-flatten, symbols-flatten}
-use Rattle.definitions.proofs.Above.{Precedes, AllAbove, above-in-order}
+use Rattle.definitions.proofs.Above.{Precedes, above-in-order}
 use Rattle.definitions.proofs.Messages.{Before}
 use Rattle.definitions.proofs.Ordered.{ordered-at}
 use Rattle.definitions.proofs.Refusals.{first-above}
-use Rattle.definitions.proofs.Tools.{split, both, map-at}
+use Rattle.definitions.proofs.Tools.{split, map-at}
 use Rattle.definitions.specs.Code.{Symbols}
 use Rattle.definitions.specs.Field.{Code}
 use Rattle.definitions.specs.Listing.{above, rowAt}
 use Rattle.definitions.specs.Refusals.{firstAbove, symbols}
 use Rattle.definitions.specs.Weights.{score}
 use Rattle.rows.proofs.Every.{every-of}
-use Rattle.rows.specs.Rows.{comesBefore, same, rowBefore, isNew, isList, listed}
+use Rattle.rows.proofs.InOrder.{Stands, stands-tested}
+use Rattle.rows.proofs.Messages.{same-means}
+use Rattle.rows.specs.Rows.{same, rowBefore, isNew, isList, listed}
 
--- the tests say what they should
-before-tested : (f g : List ℕ) → Before f g → comesBefore f g ≡ true
-unfolding comesBefore
-before-tested [] g b = absurd b
-before-tested (x ∷ f) [] b = absurd b
-before-tested (x ∷ f) (y ∷ g) b =
-    ⊎-elim (λ h. rw (ne-eqb x y (λ e. let z : ⊥ = omega arith in z)) (lt-ltb x y h)) (λ h. rw (eq-eqb x y (h .0)) (before-tested f g (h .1))) b
-
-pub same-means : (f g : List ℕ) → same f g ≡ true → f ≡ g
-unfolding same
-same-means [] [] e = refl
-same-means [] (y ∷ g) e = absurd (false≢true e)
-same-means (x ∷ f) [] e = absurd (false≢true e)
-same-means (x ∷ f) (y ∷ g) e = let b = both (eqb x y) (same f g) e in ap₂ _∷_ (eqb-true x y (b .0)) (same-means f g (b .1))
-
--- a row whose score is as high, and whose message comes before where it is equal, comes before the other
-row-precedes : (a b : ℕ) (f g : List ℕ) → b ≤ a → (a ≡ b → Before f g) → cond (eqb a b) (comesBefore f g) (ltb b a) ≡ true
-row-precedes a b f g h p =
-    split (eqb a b) (λ e. rw e (before-tested f g (p (eqb-true a b e))))
-    (λ n. rw n (lt-ltb b a (let other = eqb-false a b n in omega arith)))
+-- a row whose score is as high, and whose message comes before where it is equal, stands before the other
+stands : (a b : ℕ) (f g : List ℕ) → b ≤ a → (a ≡ b → Before f g) → Stands a b f g
+stands a b f g h p =
+    split (eqb a b) (λ e. (let same = eqb-true a b e in inr (same, p same))) (λ n. inl (let other = eqb-false a b n in omega arith))
 
 module _ (C : Code) (pos : 0 < C .symbols) (n k : ℕ) (m : List ℕ) (t : ℕ) where
   -- the rows and scores as they are written
@@ -52,29 +38,27 @@ module _ (C : Code) (pos : 0 < C .symbols) (n k : ℕ) (m : List ℕ) (t : ℕ) 
   abbrev pub scoresAbove : List ℕ
   scoresAbove = map (score C n m) (above C n k m t)
 
-  in-order : AllAbove C n k m t
-  in-order = above-in-order C pos n k m t
-
   many : length scoresAbove ≡ length (above C n k m t)
   many = length-map (above C n k m t) (score C n m)
 
   sized : All (λ f. length f ≡ k) (above C n k m t)
-  sized = all-members (λ f. length f ≡ k) (above C n k m t) (in-order .sized)
+  sized = all-members (λ f. length f ≡ k) (above C n k m t) (above-in-order C pos n k m t .sized)
 
   row-is : (i : ℕ) → i < length (above C n k m t) → rowAt k rowsAbove i ≡ getD (above C n k m t) i []
   row-is i h = ap (λ (l : List ℕ). rowAt k l i) (sym (append-nil rowsAbove)) ∙ row-of-flatten k (above C n k m t) [] sized i h
 
   precedes : (i j : ℕ) → i < j → j < length (above C n k m t) → rowBefore k rowsAbove scoresAbove i j ≡ true
   precedes i j h l =
-      let p = ordered-at (Precedes (score C n m)) (above C n k m t) (in-order .ordered) [] i j h l in
+      let p = ordered-at (Precedes (score C n m)) (above C n k m t) (above-in-order C pos n k m t .ordered) [] i j h l in
       rw (row-is i (omega arith), row-is j l, map-at (score C n m) (above C n k m t) i [] 0 (omega arith), map-at (score C n m) (above C n k m t) j [] 0 l)
-      (row-precedes (score C n m (getD (above C n k m t) i [])) (score C n m (getD (above C n k m t) j [])) (getD (above C n k m t) i []) (getD (above C n k m t) j []) (p .0) (p .1))
+      (stands-tested (score C n m (getD (above C n k m t) i [])) (score C n m (getD (above C n k m t) j [])) (getD (above C n k m t) i []) (getD (above C n k m t) j [])
+      (stands (score C n m (getD (above C n k m t) i [])) (score C n m (getD (above C n k m t) j [])) (getD (above C n k m t) i []) (getD (above C n k m t) j []) (p .0) (p .1)))
 
   new : (j : ℕ) → j < length (above C n k m t) → isNew k rowsAbove j ≡ true
   new j l = every-of (λ (i : ℕ). not (same (rowAt k rowsAbove i) (rowAt k rowsAbove j))) j (λ i h.
       split (same (rowAt k rowsAbove i) (rowAt k rowsAbove j))
       (λ y.
-      let e = in-order .once i j (omega arith) l (sym (row-is i (omega arith)) ∙ same-means (rowAt k rowsAbove i) (rowAt k rowsAbove j) y ∙ row-is j l) in
+      let e = above-in-order C pos n k m t .once i j (omega arith) l (sym (row-is i (omega arith)) ∙ same-means (rowAt k rowsAbove i) (rowAt k rowsAbove j) y ∙ row-is j l) in
       let z : ⊥ = omega arith in absurd z)
       (λ f. ap not f))
 
@@ -93,7 +77,7 @@ module _ (C : Code) (pos : 0 < C .symbols) (n k : ℕ) (m : List ℕ) (t : ℕ) 
 
   pub above-symbols : symbols C rowsAbove .given ≡ false
   above-symbols =
-      let all = symbols-flatten C pos (above C n k m t) (all-members (λ f. Symbols C f) (above C n k m t) (in-order .symbols)) in
+      let all = symbols-flatten C pos (above C n k m t) (all-members (λ f. Symbols C f) (above C n k m t) (above-in-order C pos n k m t .symbols)) in
       split (ltb (firstAbove (C .symbols - 1) rowsAbove) (length rowsAbove))
       (λ y.
       let bad = first-above (C .symbols - 1) rowsAbove (ltb-true (firstAbove (C .symbols - 1) rowsAbove) (length rowsAbove) y) in

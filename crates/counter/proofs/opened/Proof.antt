@@ -3,7 +3,7 @@ use mathlib.Core.Bool.{Bool, true, false, cond}
 use mathlib.Core.Path.{_≡_, sym, _∙_, ap}
 use lib.ListN.{length}
 use borrow.Author.Needs.{needs}
-use Rattle.counter.proofs.Opening.{front-row, front-none, first-row-fits, other-verdict, row-there}
+use Rattle.counter.proofs.Opening.{front-row, empty-front, first-row-fits, other-verdict, row-there}
 use Rattle.counter.specs.Handing.{front, isOpen}
 use Rattle.counter.specs.Judging.{judgeAnswer}
 use Rattle.counter.specs.Verdict.{toldVerdict}
@@ -31,7 +31,7 @@ returns-2 c =
     let j = c .before .before in
     let a = j .before .before .before .args in
     let none : isOpen (toldVerdict (j .judge .result)) ≡ false = other-verdict (j .judge .result) (c .before .match .keys2) in
-    front-none (a .rows) ∙ sym (ap (λ (b : Bool). cond b (front (a .k) (a .rows)) (front 0 (a .rows))) (sym (ap isOpen (j .judge .ensures)) ∙ none))
+    empty-front (a .rows) ∙ sym (ap (λ (b : Bool). cond b (front (a .k) (a .rows)) (front 0 (a .rows))) (sym (ap isOpen (j .judge .ensures)) ∙ none))
 
 pub opened-spec : {M : Type 1} → statement M
 opened-spec =

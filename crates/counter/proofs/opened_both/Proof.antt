@@ -6,7 +6,7 @@ use lib.Dec.{eqb}
 use lib.ListN.{length}
 use borrow.Author.Needs.{needs}
 use borrow.Author.Tests.{eq-eqb, ne-eqb}
-use Rattle.counter.proofs.Opening.{front-row, front-none, first-row-fits, other-verdict, row-in-judged}
+use Rattle.counter.proofs.Opening.{front-row, empty-front, first-row-fits, other-verdict, row-in-judged}
 use Rattle.counter.specs.Handing.{Part, front, isOpen}
 use Rattle.counter.specs.Judging.{bothAnswer}
 use Rattle.counter.specs.Verdict.{toldVerdict}
@@ -65,7 +65,7 @@ returns-3 c =
     let j = c .before .before in
     let s = entry j in
     let none : isOpen (toldVerdict (j .judge-both .result)) ≡ false = other-verdict (j .judge-both .result) (c .before .match .keys2) in
-    front-none (s .args .rows) ∙ sym (ap (λ (b : Bool). handed s b (eqb (length (s .args .scores .now)) 0)) (sym (ap isOpen (j .judge-both .ensures)) ∙ none))
+    empty-front (s .args .rows) ∙ sym (ap (λ (b : Bool). handed s b (eqb (length (s .args .scores .now)) 0)) (sym (ap isOpen (j .judge-both .ensures)) ∙ none))
 
 pub opened-both-spec : {M : Type 1} → statement M
 opened-both-spec =

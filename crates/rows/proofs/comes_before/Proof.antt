@@ -1,7 +1,7 @@
 -- Where they differ the symbols decide; where they do not, neither comes before the other.
 use native.Mathlib.Omega.{arith}
 use borrow.Author.Needs.{needs}
-use Rattle.rows.proofs.Messages.{before-told, before-same}
+use Rattle.rows.proofs.Messages.{before-by-difference, before-same}
 use Rattle.rows.proofs.comes_before.Statement.{statement}
 use Rattle.rows.proofs.comes_before.Tie as tie
 
@@ -26,7 +26,7 @@ returns-2 c =
     let d = c .before .before .before in
     let s = d .before .before .before in
     let l = d .first-difference .ensures .within in
-    before-told (s .args .f .now) (s .args .g .now) (d .first-difference .result) (s .pre) (d .first-difference .ensures) (omega arith)
+    before-by-difference (s .args .f .now) (s .args .g .now) (d .first-difference .result) (s .pre) (d .first-difference .ensures) (omega arith)
 
 pub comes-before-spec : {M : Type 1} → statement M
 comes-before-spec =

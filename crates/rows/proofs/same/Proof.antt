@@ -1,13 +1,13 @@
 -- They are one message where they differ nowhere.
 use borrow.Author.Needs.{needs}
-use Rattle.rows.proofs.Messages.{same-told}
+use Rattle.rows.proofs.Messages.{same-by-difference}
 use Rattle.rows.proofs.same.Statement.{statement}
 use Rattle.rows.proofs.same.Tie as tie
 
 returns : tie.Need-returns
 returns c =
     let s = c .before .before .before in
-    same-told (s .args .f .now) (s .args .g .now) (c .first-difference .result) (s .pre) (c .first-difference .ensures)
+    same-by-difference (s .args .f .now) (s .args .g .now) (c .first-difference .result) (s .pre) (c .first-difference .ensures)
 
 pub same-spec : {M : Type 1} → statement M
 same-spec = tie.close (tie.spec (λ c κs. search needs) returns)
