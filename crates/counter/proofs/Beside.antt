@@ -40,8 +40,8 @@ not-both true b e = e
 not-both false b e = refl
 
 module _ (k g : ℕ) where
-  self-judged : (rows scores : List ℕ) → bothJudged k g rows scores rows scores ≡ judged g scores
-  self-judged rows scores =
+  self-alone : (rows scores : List ℕ) → bothJudged k g rows scores rows scores ≡ judged g scores
+  self-alone rows scores =
       let same-first = same-self (rowAt k rows 0) in
       let together : apart k rows scores rows scores ≡ false =
       not-both (not (eqb (length scores) 0)) _ (not-both (not (eqb (length scores) 0)) _ (ap not same-first)) in
@@ -51,12 +51,12 @@ module _ (k g : ℕ) where
       either true l = refl
       either false l = refl
 
-  first-judged : (rows scores : List ℕ) → bothJudged k g rows scores [] [] ≡ judged g scores
-  first-judged rows [] = refl
-  first-judged rows (s ∷ scores) = rw (ne-eqb (suc (length scores)) 0 (suc-ne-zero (length scores)))
+  first-alone : (rows scores : List ℕ) → bothJudged k g rows scores [] [] ≡ judged g scores
+  first-alone rows [] = refl
+  first-alone rows (s ∷ scores) = rw (ne-eqb (suc (length scores)) 0 (suc-ne-zero (length scores)))
 
-  second-judged : (others otherScores : List ℕ) → bothJudged k g [] [] others otherScores ≡ judged g otherScores
-  second-judged others otherScores = refl
+  second-alone : (others otherScores : List ℕ) → bothJudged k g [] [] others otherScores ≡ judged g otherScores
+  second-alone others otherScores = refl
 
 -- settings in range, for both lists
 module _ (C : Code) (s : Settings) (fits : sizes C (s .n) (s .k) .given ≡ false) (levels : level (s .level) .given ≡ false) where
@@ -73,11 +73,11 @@ module _ (C : Code) (s : Settings) (fits : sizes C (s .n) (s .k) .given ≡ fals
     beside-itself rows scores =
         rw (fits, levels, k-fits, equal-settings)
         (twice (lead g .given) (listed (s .k) rows scores .given) (symbols C rows .given) (refused 2 0) (refused 3 0) _ _ _ _
-        (ap valued (self-judged (s .k) g rows scores)))
+        (ap valued (self-alone (s .k) g rows scores)))
 
     pub beside-none : (rows scores : List ℕ) → bothAnswer C s rows scores s [] [] g ≡ judgeAnswer C (s .k) rows scores g
-    beside-none rows scores = rw (fits, levels, k-fits, equal-settings, no-rows (s .k), no-symbols C, first-judged (s .k) g rows scores)
+    beside-none rows scores = rw (fits, levels, k-fits, equal-settings, no-rows (s .k), no-symbols C, first-alone (s .k) g rows scores)
 
     pub none-beside : (others otherScores : List ℕ) → bothAnswer C s [] [] s others otherScores g ≡ judgeAnswer C (s .k) others otherScores g
     none-beside others otherScores =
-        rw (fits, levels, k-fits, equal-settings, no-rows (s .k), no-symbols C, zero-add (firstAbove (C .symbols - 1) others), second-judged (s .k) g others otherScores)
+        rw (fits, levels, k-fits, equal-settings, no-rows (s .k), no-symbols C, zero-add (firstAbove (C .symbols - 1) others), second-alone (s .k) g others otherScores)

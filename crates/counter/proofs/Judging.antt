@@ -9,14 +9,14 @@ use native.Mathlib.Omega.{arith}
 use borrow.Author.Tests.{le-leb, lt-leb, eq-eqb, ne-eqb}
 use lib.Dec.{leb}
 use lib.ListN.{length, getD}
-use Rattle.counter.specs.Judging.{toOpen, toAsk, nothing, judged, chosen}
+use Rattle.counter.specs.Judging.{toOpen, toAsk, nothing, judged, ofJudged}
 
--- the list that is judged
-pub first-chosen : (scores otherScores : List ℕ) → 1 ≤ length scores → scores ≡ chosen scores otherScores
-first-chosen scores otherScores h = rw (ne-eqb (length scores) 0 (λ e. let z : ⊥ = omega arith in z))
+-- which list is judged
+pub first-judged : {A : Type 0} (scores : List ℕ) (first second : A) → 1 ≤ length scores → first ≡ ofJudged scores first second
+first-judged scores first second h = rw (ne-eqb (length scores) 0 (λ e. let z : ⊥ = omega arith in z))
 
-pub second-chosen : (scores otherScores : List ℕ) → length scores ≡ 0 → otherScores ≡ chosen scores otherScores
-second-chosen scores otherScores h = rw (eq-eqb (length scores) 0 h)
+pub second-judged : {A : Type 0} (scores : List ℕ) (first second : A) → length scores ≡ 0 → second ≡ ofJudged scores first second
+second-judged scores first second h = rw (eq-eqb (length scores) 0 h)
 
 module _ (g : ℕ) where
   pub judged-none : (scores : List ℕ) → length scores ≡ 0 → nothing ≡ judged g scores

@@ -16,7 +16,7 @@ use Rattle.counter.proofs.Both.{both-full}
 use Rattle.counter.proofs.Verdict.{the-type}
 use Rattle.counter.proofs.Judging.{open-some}
 use Rattle.counter.specs.Handing.{partAt, front, isOpen}
-use Rattle.counter.specs.Judging.{toOpen, judged, apart, chosen, bothJudged, judgeTable, bothTable, judgeAnswer, bothAnswer}
+use Rattle.counter.specs.Judging.{toOpen, judged, apart, ofJudged, bothJudged, judgeTable, bothTable, judgeAnswer, bothAnswer}
 use Rattle.counter.specs.Verdict.{toldVerdict}
 use Rattle.counter.specs.declared.Settings.{Settings}
 use Rattle.counter.specs.declared.Verdict.{Verdict}
@@ -86,12 +86,12 @@ module _ (C : Code) where
   row-in-judged s rows scores t others otherScores g e =
       let r = open-accepts (bothTable C s rows scores t others otherScores g) (bothJudged (s .k) g rows scores others otherScores) e in
       let full = both-full C s t rows scores others otherScores g (r .0) in
-      let some : 1 ≤ length (chosen scores otherScores) = open-some g (chosen scores otherScores) (together (r .1)) in (
+      let some : 1 ≤ length (ofJudged scores scores otherScores) = open-some g (ofJudged scores scores otherScores) (together (r .1)) in (
         λ none. row-of-some (s .k) (length otherScores) (length others) (full .1) (rw (eq-eqb (length scores) 0 none) at some),
         λ any. row-of-some (s .k) (length scores) (length rows) (full .0) (rw (ne-eqb (length scores) 0 any) at some),
       )
     where
-      together : bothJudged (s .k) g rows scores others otherScores ≡ toOpen → judged g (chosen scores otherScores) ≡ toOpen
+      together : bothJudged (s .k) g rows scores others otherScores ≡ toOpen → judged g (ofJudged scores scores otherScores) ≡ toOpen
       together h =
           split (apart (s .k) rows scores others otherScores)
           (λ y. let z : _≡_ {A = ℕ} 2 1 = rw y at h in let no : ⊥ = omega arith in absurd no)

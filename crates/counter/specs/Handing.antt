@@ -5,8 +5,8 @@ use mathlib.Core.List.{List}
 use Prim.Native.Nat.{ℕ}
 use denote.Ref.{RefT}
 use lib.Dec.{eqb}
-use lib.ListN.{length, take}
-use Rattle.counter.specs.Judging.{toOpen, judgeAnswer, bothAnswer}
+use lib.ListN.{take}
+use Rattle.counter.specs.Judging.{toOpen, ofJudged, judgeAnswer, bothAnswer}
 use Rattle.counter.specs.declared.Settings.{Settings}
 use Rattle.definitions.specs.Answers.{Answer}
 use Rattle.definitions.specs.Field.{Code}
@@ -33,4 +33,4 @@ module _ (C : Code) where
   abbrev pub bothOpened : Settings → RefT (List ℕ) → List ℕ → Settings → RefT (List ℕ) → List ℕ → ℕ → Part
   bothOpened s rows scores t others otherScores g =
       cond (isOpen (bothAnswer C s (rows .now) scores t (others .now) otherScores g))
-      (cond (eqb (length scores) 0) (front (s .k) others) (front (s .k) rows)) (front 0 rows)
+      (front (s .k) (ofJudged scores rows others)) (front 0 rows)

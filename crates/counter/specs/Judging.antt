@@ -44,13 +44,14 @@ abbrev pub apart : ℕ → List ℕ → List ℕ → List ℕ → List ℕ → B
 apart k rows scores others otherScores =
     not (eqb (length scores) 0) && (not (eqb (length otherScores) 0) && not (same (rowAt k rows 0) (rowAt k others 0)))
 
--- "Otherwise judge the first list, or the second if the first is empty": the scores of the one that is judged
-abbrev pub chosen : List ℕ → List ℕ → List ℕ
-chosen scores otherScores = cond (eqb (length scores) 0) otherScores scores
+-- "the first list, or the second if the first is empty": what is taken of the one that is judged
+abbrev pub ofJudged : {A : Type 0} → List ℕ → A → A → A
+ofJudged scores first second = cond (eqb (length scores) 0) second first
 
+-- "Otherwise judge the first list, or the second if the first is empty"
 abbrev pub bothJudged : ℕ → ℕ → List ℕ → List ℕ → List ℕ → List ℕ → ℕ
 bothJudged k g rows scores others otherScores =
-    cond (apart k rows scores others otherScores) toAsk (judged g (chosen scores otherScores))
+    cond (apart k rows scores others otherScores) toAsk (judged g (ofJudged scores scores otherScores))
 
 module _ (C : Code) where
   -- "Given one list with its k (sizes as for roots) and a lead g"

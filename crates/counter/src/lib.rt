@@ -1,7 +1,6 @@
 // The counter's part: one list judged, and two judged together. It knows the library's lists by their promises alone.
-ghost use mathlib.Core.List.{List};
 ghost use mathlib.Core.Path.{_≡_};
-ghost use Prim.Native.Nat.{_*_, _≤_, _<_};
+ghost use Prim.Native.Nat.{_*_, _≤_};
 ghost use lib.ListN.{length};
 ghost use Rattle.counter.specs.Handing.{partAt, opened, bothOpened};
 ghost use Rattle.counter.specs.Judging.{judged, sameSettings, apart, bothJudged, judgeAnswer, bothAnswer};

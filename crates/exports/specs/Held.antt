@@ -3,9 +3,8 @@
 use mathlib.Core.Bool.{cond}
 use mathlib.Core.List.{List}
 use Prim.Native.Nat.{ℕ}
-use lib.Dec.{eqb}
-use lib.ListN.{length}
 use Rattle.counter.specs.Handing.{isOpen}
+use Rattle.counter.specs.Judging.{ofJudged}
 use Rattle.counter.specs.declared.Settings.{Settings}
 use Rattle.definitions.specs.Answers.{Answer}
 use Rattle.exports.specs.declared.judging.Judgement as crossing
@@ -17,9 +16,9 @@ judgementOf j = record { number = j .number; place = j .place; count = j .count;
 abbrev pub settingsOf : ℕ → ℕ → ℕ → Settings
 settingsOf n k level = record { n = n; k = k; level = level }
 
--- the list that is judged: 2, the second, where the first is empty
+-- the number of the list that is judged
 abbrev pub holder : List ℕ → ℕ
-holder scores = cond (eqb (length scores) 0) 2 1
+holder scores = ofJudged scores 1 2
 
 -- in place of the part: on Open the list that holds the row, and its count of symbols; otherwise 0 and 0
 abbrev pub heldAnswer : Answer → ℕ → ℕ → Answer

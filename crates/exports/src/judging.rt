@@ -1,9 +1,7 @@
 // The counter's entries for C: a place of a long list does not fit sixteen bits, and no reference is handed back.
-ghost use mathlib.Core.Bool.{cond, true};
+ghost use mathlib.Core.Bool.{true};
 ghost use mathlib.Core.Path.{_≡_};
 ghost use Prim.Native.Nat.{_<_};
-ghost use lib.Dec.{eqb};
-ghost use lib.ListN.{length};
 ghost use Rattle.counter.specs.Handing.{isOpen};
 ghost use Rattle.counter.specs.Judging.{judgeAnswer, bothAnswer};
 ghost use Rattle.counter.specs.Verdict.{toldVerdict};

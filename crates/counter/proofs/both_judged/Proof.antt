@@ -4,7 +4,7 @@ use mathlib.Core.Path.{sym, _∙_, ap}
 use Prim.Native.Nat.{ℕ}
 use native.Mathlib.Omega.{arith}
 use borrow.Author.Needs.{needs}
-use Rattle.counter.proofs.Judging.{first-chosen, second-chosen}
+use Rattle.counter.proofs.Judging.{first-judged, second-judged}
 use Rattle.counter.specs.Judging.{judged}
 use Rattle.definitions.specs.Answers.{valued}
 use Rattle.counter.proofs.both_judged.Statement.{statement}
@@ -19,7 +19,7 @@ returns-2 c =
     let p = t .before .before in
     let a = p .before .before .before .before .before .args in
     rw (sym (p .apart .ensures) ∙ t .before .if1 .left)
-    (c .judged .ensures ∙ ap (λ (l : List ℕ). valued (judged (a .lead) l)) (first-chosen (a .scores .now) (a .other-scores .now) (omega arith)))
+    (c .judged .ensures ∙ ap (λ (l : List ℕ). valued (judged (a .lead) l)) (first-judged (a .scores .now) (a .scores .now) (a .other-scores .now) (omega arith)))
 
 returns-3 : tie.Need-returns-3
 returns-3 c =
@@ -27,7 +27,7 @@ returns-3 c =
     let p = t .before .before in
     let a = p .before .before .before .before .before .args in
     rw (sym (p .apart .ensures) ∙ t .before .if1 .left)
-    (c .judged2 .ensures ∙ ap (λ (l : List ℕ). valued (judged (a .lead) l)) (second-chosen (a .scores .now) (a .other-scores .now) (omega arith)))
+    (c .judged2 .ensures ∙ ap (λ (l : List ℕ). valued (judged (a .lead) l)) (second-judged (a .scores .now) (a .scores .now) (a .other-scores .now) (omega arith)))
 
 pub both-judged-spec : {M : Type 1} → statement M
 both-judged-spec =

@@ -21,7 +21,7 @@ entry c = c .before .before .before .before .before
 abbrev handed : tie.Start → Bool → Bool → Part
 handed s opens none =
     let a = s .args in
-    cond opens (cond none (front (a .first .k) (a .others)) (front (a .first .k) (a .rows))) (front 0 (a .rows))
+    cond opens (front (a .first .k) (cond none (a .others) (a .rows))) (front 0 (a .rows))
 
 -- what was judged is Open
 opens : (c : tie.After-enum-told)
