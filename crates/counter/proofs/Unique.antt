@@ -13,7 +13,7 @@ use Rattle.counter.specs.declared.Settings.{Settings}
 use Rattle.counter.specs.declared.Verdict.{Verdict}
 use Rattle.counter.specs.declared.Verdict.the-variants.{Open, Ask, Nothing, Refused}
 use Rattle.definitions.specs.Answers.{Answer}
-use Rattle.definitions.specs.Field.{sixteen}
+use Rattle.definitions.specs.Field.{Code}
 use Rattle.refusals.proofs.Unique.{same-told, answerOf, refused-back}
 
 verdictOf : Answer → Verdict
@@ -29,14 +29,6 @@ verdict-back (Refused r) = refused-back (λ a. getD (Nothing ∷ Open ∷ Ask �
 one-verdict : {x y : Verdict} {a : Answer} → toldVerdict x ≡ a → toldVerdict y ≡ a → x ≡ y
 one-verdict = same-told toldVerdict verdictOf verdict-back
 
-pub judge-unique : (k : ℕ) (rows scores : List ℕ) (g : ℕ) (x y : Verdict)
-    → toldVerdict x ≡ judgeAnswer sixteen k rows scores g → toldVerdict y ≡ judgeAnswer sixteen k rows scores g → x ≡ y
-judge-unique k rows scores g x y = one-verdict
-
-pub judge-both-unique : (s : Settings) (rows scores : List ℕ) (t : Settings) (others otherScores : List ℕ) (g : ℕ) (x y : Verdict)
-    → toldVerdict x ≡ bothAnswer sixteen s rows scores t others otherScores g → toldVerdict y ≡ bothAnswer sixteen s rows scores t others otherScores g → x ≡ y
-judge-both-unique s rows scores t others otherScores g x y = one-verdict
-
 -- one place and one content
 abbrev SamePart : RefT (List ℕ) → RefT (List ℕ) → Type 0
 SamePart x y = (x .ptr ≡ y .ptr) × (x .now ≡ y .now)
@@ -44,11 +36,20 @@ SamePart x y = (x .ptr ≡ y .ptr) × (x .now ≡ y .now)
 one-part : (x y : RefT (List ℕ)) (p : Part) → partAt x ≡ p → partAt y ≡ p → SamePart x y
 one-part x y p e f = (ap (λ (p : Part). p .0) (e ∙ sym f), ap (λ (p : Part). p .1) (e ∙ sym f))
 
-pub opened-unique : (k : ℕ) (rows : RefT (List ℕ)) (scores : List ℕ) (g : ℕ) (x y : RefT (List ℕ))
-    → partAt x ≡ opened sixteen k rows scores g → partAt y ≡ opened sixteen k rows scores g → SamePart x y
-opened-unique k rows scores g x y = one-part x y (opened sixteen k rows scores g)
+module _ (C : Code) where
+  pub judge-unique : (k : ℕ) (rows scores : List ℕ) (g : ℕ) (x y : Verdict)
+      → toldVerdict x ≡ judgeAnswer C k rows scores g → toldVerdict y ≡ judgeAnswer C k rows scores g → x ≡ y
+  judge-unique k rows scores g x y = one-verdict
 
-pub opened-both-unique : (s : Settings) (rows : RefT (List ℕ)) (scores : List ℕ) (t : Settings) (others : RefT (List ℕ)) (otherScores : List ℕ) (g : ℕ)
-    (x y : RefT (List ℕ))
-    → partAt x ≡ bothOpened sixteen s rows scores t others otherScores g → partAt y ≡ bothOpened sixteen s rows scores t others otherScores g → SamePart x y
-opened-both-unique s rows scores t others otherScores g x y = one-part x y (bothOpened sixteen s rows scores t others otherScores g)
+  pub judge-both-unique : (s : Settings) (rows scores : List ℕ) (t : Settings) (others otherScores : List ℕ) (g : ℕ) (x y : Verdict)
+      → toldVerdict x ≡ bothAnswer C s rows scores t others otherScores g → toldVerdict y ≡ bothAnswer C s rows scores t others otherScores g → x ≡ y
+  judge-both-unique s rows scores t others otherScores g x y = one-verdict
+
+  pub opened-unique : (k : ℕ) (rows : RefT (List ℕ)) (scores : List ℕ) (g : ℕ) (x y : RefT (List ℕ))
+      → partAt x ≡ opened C k rows scores g → partAt y ≡ opened C k rows scores g → SamePart x y
+  opened-unique k rows scores g x y = one-part x y (opened C k rows scores g)
+
+  pub opened-both-unique : (s : Settings) (rows : RefT (List ℕ)) (scores : List ℕ) (t : Settings) (others : RefT (List ℕ)) (otherScores : List ℕ) (g : ℕ)
+      (x y : RefT (List ℕ))
+      → partAt x ≡ bothOpened C s rows scores t others otherScores g → partAt y ≡ bothOpened C s rows scores t others otherScores g → SamePart x y
+  opened-both-unique s rows scores t others otherScores g x y = one-part x y (bothOpened C s rows scores t others otherScores g)

@@ -3,18 +3,20 @@
 use mathlib.Core.Bool.{true, false, not}
 use mathlib.Core.List.{List, [], map, flatten, append-nil}
 use mathlib.Core.Logic.{inl, inr}
-use mathlib.Core.Path.{_≡_, sym, _∙_, ap}
+use mathlib.Core.Path.{_≡_, sym, _∙_, ap, ap₂}
 use Prim.Native.Nat.{ℕ, _+_, _*_, _-_, _≤_, _<_}
 use native.Mathlib.Omega.{arith}
 use borrow.Author.Tests.{eqb-true, eqb-false, eq-eqb, ltb-true}
 use lib.Dec.{eqb, ltb}
-use lib.ListN.{length, getD, length-map}
+use lib.ListN.{length, take, drop, getD, length-map}
+use lib.Seq.{take-at}
 use Rattle.algebra.proofs.Every.{All, all-members, length-flatten, row-of-flatten, symbols-flatten}
 use Rattle.definitions.proofs.Above.{Precedes, above-in-order}
 use Rattle.definitions.proofs.Messages.{Before}
 use Rattle.definitions.proofs.Ordered.{ordered-at}
 use Rattle.definitions.proofs.Refusals.{first-above}
 use Rattle.definitions.proofs.Tools.{split, map-at}
+use Rattle.definitions.specs.Answers.{rowsOnto, scoresOnto}
 use Rattle.definitions.specs.Code.{Symbols}
 use Rattle.definitions.specs.Field.{Code}
 use Rattle.definitions.specs.Listing.{above, rowAt}
@@ -32,10 +34,10 @@ stands a b f g h p =
 
 module _ (C : Code) (pos : 0 < C .symbols) (n k : ℕ) (m : List ℕ) (t : ℕ) where
   -- the rows and scores as they are written
-  abbrev pub rowsAbove : List ℕ
+  abbrev rowsAbove : List ℕ
   rowsAbove = flatten (above C n k m t)
 
-  abbrev pub scoresAbove : List ℕ
+  abbrev scoresAbove : List ℕ
   scoresAbove = map (score C n m) (above C n k m t)
 
   many : length scoresAbove ≡ length (above C n k m t)
@@ -71,16 +73,40 @@ module _ (C : Code) (pos : 0 < C .symbols) (n k : ℕ) (m : List ℕ) (t : ℕ) 
         every-of (isNew k rowsAbove) (length scoresAbove) (λ j h. new j (omega arith)),
       )
 
-  -- so neither line is given
-  pub above-listed : listed k rowsAbove scoresAbove .given ≡ false
-  above-listed = ap not is-list
+  symbols-there : Symbols C rowsAbove
+  symbols-there = symbols-flatten C pos (above C n k m t) (all-members (λ f. Symbols C f) (above C n k m t) (above-in-order C pos n k m t .symbols))
 
-  pub above-symbols : symbols C rowsAbove .given ≡ false
-  above-symbols =
-      let all = symbols-flatten C pos (above C n k m t) (all-members (λ f. Symbols C f) (above C n k m t) (above-in-order C pos n k m t .symbols)) in
+  no-symbol-above : symbols C rowsAbove .given ≡ false
+  no-symbol-above =
       split (ltb (firstAbove (C .symbols - 1) rowsAbove) (length rowsAbove))
       (λ y.
       let bad = first-above (C .symbols - 1) rowsAbove (ltb-true (firstAbove (C .symbols - 1) rowsAbove) (length rowsAbove) y) in
-      let good = all (firstAbove (C .symbols - 1) rowsAbove) in
+      let good = symbols-there (firstAbove (C .symbols - 1) rowsAbove) in
       let z : ⊥ = omega arith in absurd z)
       (λ f. f)
+
+  -- the rows counted and their scores, as the promises of the lists leave them in the lent memory
+  module _ (before memory : List ℕ) where
+    abbrev pub rowsWritten : List ℕ
+    rowsWritten = take (k * length (above C n k m t)) (rowsOnto k (above C n k m t) before)
+
+    abbrev pub scoresWritten : List ℕ
+    scoresWritten = take (length (above C n k m t)) (scoresOnto C n m (above C n k m t) memory)
+
+    rows-are : rowsWritten ≡ rowsAbove
+    rows-are =
+        take-at rowsAbove (drop (k * length (above C n k m t)) before) (k * length (above C n k m t)) (length-flatten k (above C n k m t) sized)
+
+    scores-are : scoresWritten ≡ scoresAbove
+    scores-are = take-at scoresAbove (drop (length (above C n k m t)) memory) (length (above C n k m t)) many
+
+    -- neither line is given
+    pub above-listed : listed k rowsWritten scoresWritten .given ≡ false
+    above-listed = ap₂ (λ (r s : List ℕ). listed k r s .given) rows-are scores-are ∙ ap not is-list
+
+    pub above-symbols : symbols C rowsWritten .given ≡ false
+    above-symbols = ap (λ (r : List ℕ). symbols C r .given) rows-are ∙ no-symbol-above
+
+    -- a score for each row
+    pub many-written : length scoresWritten ≡ length (above C n k m t)
+    many-written = ap length scores-are ∙ many
