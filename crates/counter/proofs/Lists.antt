@@ -21,38 +21,38 @@ use Rattle.rows.proofs.Written.{rowsWritten, scoresWritten, above-listed, above
 lead-some : (g : ℕ) → 1 ≤ g → lead g .given ≡ false
 lead-some g h = ne-eqb g 0 (λ e. let z : ⊥ = omega arith in z)
 
--- one list, of any matrix and threshold, as it stands in memory that was lent
-module _ (C : Code) (pos : 0 < C .symbols) (n k g : ℕ) (some : 1 ≤ g) (m : List ℕ) (t : ℕ) (before memory : List ℕ) (fits : size C k .given ≡ false) where
+-- one list, of any matrix and threshold, as it stands in the lists that were lent
+module _ (C : Code) (pos : 0 < C .symbols) (n k g : ℕ) (some : 1 ≤ g) (m : List ℕ) (t : ℕ) (rowsLent scoresLent : List ℕ) (fits : size C k .given ≡ false) where
   abbrev verdict : Answer
-  verdict = judgeAnswer C k (rowsWritten C pos n k m t before memory) (scoresWritten C pos n k m t before memory) g
+  verdict = judgeAnswer C k (rowsWritten C pos n k m t rowsLent scoresLent) (scoresWritten C pos n k m t rowsLent scoresLent) g
 
-  pub list-judged : verdict ≡ valued (judged g (scoresWritten C pos n k m t before memory))
+  pub list-judged : verdict ≡ valued (judged g (scoresWritten C pos n k m t rowsLent scoresLent))
   list-judged =
-      sym (accepts refused (valued (judged g (scoresWritten C pos n k m t before memory)))
-      (next fits (next (lead-some g some) (next (above-listed C pos n k m t before memory) (next (above-symbols C pos n k m t before memory) end)))))
+      sym (accepts refused (valued (judged g (scoresWritten C pos n k m t rowsLent scoresLent)))
+      (next fits (next (lead-some g some) (next (above-listed C pos n k m t rowsLent scoresLent) (next (above-symbols C pos n k m t rowsLent scoresLent) end)))))
 
   pub one-row-opens : length (above C n k m t) ≡ 1 → verdict ≡ valued toOpen
   one-row-opens one =
-      list-judged ∙ ap valued (sym (judged-one g (scoresWritten C pos n k m t before memory) (many-written C pos n k m t before memory ∙ one)))
+      list-judged ∙ ap valued (sym (judged-one g (scoresWritten C pos n k m t rowsLent scoresLent) (many-written C pos n k m t rowsLent scoresLent ∙ one)))
 
 -- two lists of the same settings, of any two matrices
-module _ (C : Code) (pos : 0 < C .symbols) (s : Settings) (g : ℕ) (some : 1 ≤ g) (m o : List ℕ) (t u : ℕ) (before memory behind store : List ℕ) where
+module _ (C : Code) (pos : 0 < C .symbols) (s : Settings) (g : ℕ) (some : 1 ≤ g) (m o : List ℕ) (t u : ℕ) (rowsLent scoresLent othersLent otherScoresLent : List ℕ) where
   abbrev rows : List ℕ
-  rows = rowsWritten C pos (s .n) (s .k) m t before memory
+  rows = rowsWritten C pos (s .n) (s .k) m t rowsLent scoresLent
 
   abbrev scores : List ℕ
-  scores = scoresWritten C pos (s .n) (s .k) m t before memory
+  scores = scoresWritten C pos (s .n) (s .k) m t rowsLent scoresLent
 
   abbrev others : List ℕ
-  others = rowsWritten C pos (s .n) (s .k) o u behind store
+  others = rowsWritten C pos (s .n) (s .k) o u othersLent otherScoresLent
 
   abbrev otherScores : List ℕ
-  otherScores = scoresWritten C pos (s .n) (s .k) o u behind store
+  otherScores = scoresWritten C pos (s .n) (s .k) o u othersLent otherScoresLent
 
   pub lists-judged : sizes C (s .n) (s .k) .given ≡ false → level (s .level) .given ≡ false
       → bothAnswer C s rows scores s others otherScores g ≡ valued (bothJudged (s .k) g rows scores others otherScores)
   lists-judged fits levels =
       sym (accepts refused (valued (bothJudged (s .k) g rows scores others otherScores))
       (next fits (next fits (next levels (next levels (next (lead-some g some) (next (equal-settings C s fits levels)
-      (next (above-listed C pos (s .n) (s .k) m t before memory) (next (above-listed C pos (s .n) (s .k) o u behind store)
-      (next (above-symbols C pos (s .n) (s .k) m t before memory) (next (above-symbols C pos (s .n) (s .k) o u behind store) end)))))))))))
+      (next (above-listed C pos (s .n) (s .k) m t rowsLent scoresLent) (next (above-listed C pos (s .n) (s .k) o u othersLent otherScoresLent)
+      (next (above-symbols C pos (s .n) (s .k) m t rowsLent scoresLent) (next (above-symbols C pos (s .n) (s .k) o u othersLent otherScoresLent) end)))))))))))

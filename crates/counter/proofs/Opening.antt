@@ -3,9 +3,9 @@
 use mathlib.Core.Bool.{true, false, false≢true}
 use mathlib.Core.List.{List, [], _∷_}
 use mathlib.Core.Logic.{⊎-elim}
-use mathlib.Core.Path.{_≡_, refl, _∙_, ap, ap₂}
-use Prim.Native.Nat.{ℕ, suc, _+_, _*_, _-_, _≤_}
-use native.Mathlib.Nat.{zero-add, mul-zero, mul-le-mul, mul-one, le-refl}
+use mathlib.Core.Path.{_≡_, refl, sym, _∙_, ap, ap₂}
+use Prim.Native.Nat.{ℕ, _+_, _*_, _-_, _≤_}
+use native.Mathlib.Nat.{zero-add, mul-zero, mul-le-mul, mul-one, le-refl, suc-ne-zero}
 use native.Mathlib.Omega.{arith}
 use denote.Enum.Declared.{tagOf}
 use denote.Ref.{RefT}
@@ -46,12 +46,9 @@ empty-front rows = ap (λ (offset : ℕ). ((rows .ptr .0, offset), [])) (zero-ad
 pub first-row-fits : (k size : ℕ) → k ≤ size → k * 0 + k ≤ size
 first-row-fits k size h = omega (arith, mul-zero k)
 
-no-one : (n : ℕ) → _≡_ {A = ℕ} 0 (suc n) → ⊥
-no-one n e = omega arith
-
 -- a verdict that is not Open, by the number of its case, opens none
 pub other-verdict : (v : Verdict) → OneOf (1 ∷ 2 ∷ 3 ∷ []) (tagOf the-type v) → isOpen (toldVerdict v) ≡ false
-other-verdict Open n = ⊎-elim (λ e. absurd (no-one 0 e)) (⊎-elim (λ e. absurd (no-one 1 e)) (λ e. absurd (no-one 2 e))) n
+other-verdict Open n = ⊎-elim (λ e. absurd (suc-ne-zero 0 (sym e))) (⊎-elim (λ e. absurd (suc-ne-zero 1 (sym e))) (λ e. absurd (suc-ne-zero 2 (sym e)))) n
 other-verdict Ask n = refl
 other-verdict Nothing n = refl
 other-verdict (Refused r) n = ap isOpen (told-is r)

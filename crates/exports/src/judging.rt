@@ -5,6 +5,7 @@ ghost use Prim.Native.Nat.{_<_};
 ghost use Rattle.counter.specs.Handing.{isOpen};
 ghost use Rattle.counter.specs.Judging.{judgeAnswer, bothAnswer};
 ghost use Rattle.counter.specs.Verdict.{toldVerdict};
+ghost use Rattle.definitions.specs.Answers.{valued};
 ghost use Rattle.definitions.specs.Field.{sixteen};
 ghost use Rattle.exports.specs.Held.{judgementOf, settingsOf, holder, heldAnswer};
 ghost use Rattle.refusals.specs.Refusal.{toldRefusal};
@@ -31,14 +32,14 @@ fn refused(r: Refusal) -> Judgement
     }
 }
 
-fn accepted(value: u16, count: u16) -> Judgement
-    ensures { λ j. ⌜ judgementOf j ≡ record { number = 0; place = 0; count = count; value = value; cost = 0; bound = 0 } ⌝ }
+fn valued(value: u16) -> Judgement
+    ensures { λ j. ⌜ judgementOf j ≡ valued value ⌝ }
 {
     Judgement {
         place: 0,
         number: 0,
         value,
-        count,
+        count: 0,
     }
 }
 
@@ -46,9 +47,9 @@ fn judged(v: Verdict) -> Judgement
     ensures { λ j. ⌜ judgementOf j ≡ toldVerdict v ⌝ }
 {
     match v {
-        Verdict::Open => accepted(1, 0),
-        Verdict::Ask => accepted(2, 0),
-        Verdict::Nothing => accepted(3, 0),
+        Verdict::Open => valued(1),
+        Verdict::Ask => valued(2),
+        Verdict::Nothing => valued(3),
         Verdict::Refused(r) => refused(r),
     }
 }

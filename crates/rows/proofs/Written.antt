@@ -85,20 +85,20 @@ module _ (C : Code) (pos : 0 < C .symbols) (n k : ℕ) (m : List ℕ) (t : ℕ) 
       let z : ⊥ = omega arith in absurd z)
       (λ f. f)
 
-  -- the rows counted and their scores, as the promises of the lists leave them in the lent memory
-  module _ (before memory : List ℕ) where
+  -- the rows counted and their scores, as the promises of the lists leave them in the memory that was lent
+  module _ (rowsLent scoresLent : List ℕ) where
     abbrev pub rowsWritten : List ℕ
-    rowsWritten = take (k * length (above C n k m t)) (rowsOnto k (above C n k m t) before)
+    rowsWritten = take (k * length (above C n k m t)) (rowsOnto k (above C n k m t) rowsLent)
 
     abbrev pub scoresWritten : List ℕ
-    scoresWritten = take (length (above C n k m t)) (scoresOnto C n m (above C n k m t) memory)
+    scoresWritten = take (length (above C n k m t)) (scoresOnto C n m (above C n k m t) scoresLent)
 
     rows-are : rowsWritten ≡ rowsAbove
     rows-are =
-        take-at rowsAbove (drop (k * length (above C n k m t)) before) (k * length (above C n k m t)) (length-flatten k (above C n k m t) sized)
+        take-at rowsAbove (drop (k * length (above C n k m t)) rowsLent) (k * length (above C n k m t)) (length-flatten k (above C n k m t) sized)
 
     scores-are : scoresWritten ≡ scoresAbove
-    scores-are = take-at scoresAbove (drop (length (above C n k m t)) memory) (length (above C n k m t)) many
+    scores-are = take-at scoresAbove (drop (length (above C n k m t)) scoresLent) (length (above C n k m t)) many
 
     -- neither line is given
     pub above-listed : listed k rowsWritten scoresWritten .given ≡ false

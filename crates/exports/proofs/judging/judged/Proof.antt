@@ -6,13 +6,13 @@ use Rattle.exports.proofs.judging.judged.Statement.{statement}
 use Rattle.exports.proofs.judging.judged.Tie as tie
 
 returns : tie.Need-returns
-returns c = c .accepted .ensures ∙ sym (ap toldVerdict (c .before .enum-told .given .1))
+returns c = c .valued .ensures ∙ sym (ap toldVerdict (c .before .enum-told .given .1))
 
 returns-2 : tie.Need-returns-2
-returns-2 c = c .accepted2 .ensures ∙ sym (ap toldVerdict (c .before .enum-told2 .given .1))
+returns-2 c = c .valued2 .ensures ∙ sym (ap toldVerdict (c .before .enum-told2 .given .1))
 
 returns-3 : tie.Need-returns-3
-returns-3 c = c .accepted3 .ensures ∙ sym (ap toldVerdict (c .before .enum-told3 .given .1))
+returns-3 c = c .valued3 .ensures ∙ sym (ap toldVerdict (c .before .enum-told3 .given .1))
 
 returns-4 : tie.Need-returns-4
 returns-4 c = c .refused .ensures ∙ sym (ap toldVerdict (c .before .before .v .given .1))
