@@ -5,11 +5,11 @@ use mathlib.Core.Bool.{true, false, _&&_}
 use mathlib.Core.List.{List, [], _∷_}
 use mathlib.Core.Path.{_≡_, refl}
 use Prim.Native.Nat.{ℕ, _-_, _≤_, _<_}
-use borrow.Author.Tests.{leb-true, ltb-false, eqb-true, not-false}
+use borrow.Author.Tests.{leb-true, ltb-true, ltb-false, eqb-true, not-false}
 use native.Mathlib.Omega.{arith}
-use lib.Dec.{eqb, leb}
+use lib.Dec.{eqb, leb, ltb}
 use lib.ListN.{length, getD}
-use Rattle.definitions.proofs.Refusals.{none-above}
+use Rattle.definitions.proofs.Refusals.{first-above, none-above}
 use Rattle.definitions.proofs.Tools.{split, both}
 use Rattle.definitions.specs.Bound.{count}
 use Rattle.definitions.specs.Code.{Symbols}
@@ -71,6 +71,17 @@ above-means greatest l e = none-above greatest l (ltb-false (firstAbove greatest
 
 pub symbols-mean : (C : Code) → 0 < C .symbols → (l : List ℕ) → symbols C l .given ≡ false → Symbols C l
 symbols-mean C some l e j = let h = above-means (C .symbols - 1) l e j in omega arith
+
+-- and a list of symbols passes it
+pub symbols-pass : (C : Code) (l : List ℕ) → Symbols C l → symbols C l .given ≡ false
+symbols-pass C l s =
+    let first = firstAbove (C .symbols - 1) l in
+    split (ltb first (length l))
+    (λ y.
+    let bad = first-above (C .symbols - 1) l (ltb-true first (length l) y) in
+    let good = s first in
+    let z : ⊥ = omega arith in absurd z)
+    (λ n. n)
 
 pub cost-means : (G : ℕ) (m : List ℕ) → costWithin G m .given ≡ false → cost m ≤ G
 cost-means G m e = ltb-false G (cost m) e

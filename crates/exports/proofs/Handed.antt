@@ -17,8 +17,8 @@ use Rattle.exports.specs.Held.{judgementOf, holder, heldAnswer}
 use Rattle.exports.specs.declared.judging.Judgement as crossing
 
 -- list 2 is the second, any other number the first
-abbrev listOf : RefT (List ℕ) → RefT (List ℕ) → ℕ → RefT (List ℕ)
-listOf rows others number = cond (eqb number 2) others rows
+abbrev numbered : RefT (List ℕ) → RefT (List ℕ) → ℕ → RefT (List ℕ)
+numbered rows others number = cond (eqb number 2) others rows
 
 module _ (C : Code) where
   pub part-told : (k : ℕ) (rows : RefT (List ℕ)) (scores : List ℕ) (g : ℕ)
@@ -27,7 +27,7 @@ module _ (C : Code) where
 
   pub both-part-told : (s : Settings) (rows : RefT (List ℕ)) (scores : List ℕ) (t : Settings) (others : RefT (List ℕ)) (otherScores : List ℕ) (g : ℕ)
       → (let told = heldAnswer (bothAnswer C s (rows .now) scores t (others .now) otherScores g) (holder scores) (s .k) in
-      bothOpened C s rows scores t others otherScores g ≡ front (told .count) (listOf rows others (told .value)))
+      bothOpened C s rows scores t others otherScores g ≡ front (told .count) (numbered rows others (told .value)))
   both-part-told s rows scores t others otherScores g =
       split (isOpen (bothAnswer C s (rows .now) scores t (others .now) otherScores g))
       (λ y. rw y (split (eqb (length scores) 0) (λ z. rw z) (λ z. rw z)))

@@ -6,21 +6,21 @@ use mathlib.Core.Logic.{inl, inr}
 use mathlib.Core.Path.{_≡_, sym, _∙_, ap, ap₂}
 use Prim.Native.Nat.{ℕ, _+_, _*_, _-_, _≤_, _<_}
 use native.Mathlib.Omega.{arith}
-use borrow.Author.Tests.{eqb-true, eqb-false, eq-eqb, ltb-true}
-use lib.Dec.{eqb, ltb}
+use borrow.Author.Tests.{eqb-true, eqb-false, eq-eqb}
+use lib.Dec.{eqb}
 use lib.ListN.{length, take, drop, getD, length-map}
 use lib.Seq.{take-at}
 use Rattle.algebra.proofs.Every.{All, all-members, length-flatten, row-of-flatten, symbols-flatten}
 use Rattle.definitions.proofs.Above.{Precedes, above-in-order}
 use Rattle.definitions.proofs.Messages.{Before}
 use Rattle.definitions.proofs.Ordered.{ordered-at}
-use Rattle.definitions.proofs.Refusals.{first-above}
+use Rattle.definitions.proofs.Table.{symbols-pass}
 use Rattle.definitions.proofs.Tools.{split, map-at}
 use Rattle.definitions.specs.Answers.{rowsOnto, scoresOnto}
 use Rattle.definitions.specs.Code.{Symbols}
 use Rattle.definitions.specs.Field.{Code}
 use Rattle.definitions.specs.Listing.{above, rowAt}
-use Rattle.definitions.specs.Refusals.{firstAbove, symbols}
+use Rattle.definitions.specs.Refusals.{symbols}
 use Rattle.definitions.specs.Weights.{score}
 use Rattle.rows.proofs.Every.{every-of}
 use Rattle.rows.proofs.InOrder.{Stands, stands-tested}
@@ -73,17 +73,10 @@ module _ (C : Code) (pos : 0 < C .symbols) (n k : ℕ) (m : List ℕ) (t : ℕ) 
         every-of (isNew k rowsAbove) (length scoresAbove) (λ j h. new j (omega arith)),
       )
 
-  symbols-there : Symbols C rowsAbove
-  symbols-there = symbols-flatten C pos (above C n k m t) (all-members (λ f. Symbols C f) (above C n k m t) (above-in-order C pos n k m t .symbols))
-
-  no-symbol-above : symbols C rowsAbove .given ≡ false
-  no-symbol-above =
-      split (ltb (firstAbove (C .symbols - 1) rowsAbove) (length rowsAbove))
-      (λ y.
-      let bad = first-above (C .symbols - 1) rowsAbove (ltb-true (firstAbove (C .symbols - 1) rowsAbove) (length rowsAbove) y) in
-      let good = symbols-there (firstAbove (C .symbols - 1) rowsAbove) in
-      let z : ⊥ = omega arith in absurd z)
-      (λ f. f)
+  all-symbols : symbols C rowsAbove .given ≡ false
+  all-symbols =
+      symbols-pass C rowsAbove
+      (symbols-flatten C pos (above C n k m t) (all-members (λ f. Symbols C f) (above C n k m t) (above-in-order C pos n k m t .symbols)))
 
   -- the rows counted and their scores, as the promises of the lists leave them in the memory that was lent
   module _ (rowsLent scoresLent : List ℕ) where
@@ -105,7 +98,7 @@ module _ (C : Code) (pos : 0 < C .symbols) (n k : ℕ) (m : List ℕ) (t : ℕ) 
     above-listed = ap₂ (λ (r s : List ℕ). listed k r s .given) rows-are scores-are ∙ ap not is-list
 
     pub above-symbols : symbols C rowsWritten .given ≡ false
-    above-symbols = ap (λ (r : List ℕ). symbols C r .given) rows-are ∙ no-symbol-above
+    above-symbols = ap (λ (r : List ℕ). symbols C r .given) rows-are ∙ all-symbols
 
     -- a score for each row
     pub many-written : length scoresWritten ≡ length (above C n k m t)

@@ -4,12 +4,16 @@ use mathlib.Core.Path.{_≡_, sym, _∙_, ap}
 use lib.ListN.{length}
 use borrow.Author.Needs.{needs}
 use Rattle.counter.proofs.Opening.{front-row, empty-front, first-row-fits, other-verdict, row-there}
-use Rattle.counter.specs.Handing.{front, isOpen}
+use Rattle.counter.specs.Handing.{Part, front, isOpen}
 use Rattle.counter.specs.Judging.{judgeAnswer}
 use Rattle.counter.specs.Verdict.{toldVerdict}
 use Rattle.definitions.specs.Field.{sixteen}
 use Rattle.counter.proofs.opened.Statement.{statement}
 use Rattle.counter.proofs.opened.Tie as tie
+
+-- what is handed back, by whether it is opened
+abbrev handed : tie.Start → Bool → Part
+handed s opens = cond opens (front (s .args .k) (s .args .rows)) (front 0 (s .args .rows))
 
 -- what was judged is Open
 opens : (c : tie.After-enum-told) → (let a = c .before .before .before .before .before .args in isOpen (judgeAnswer sixteen (a .k) (a .rows .now) (a .scores .now) (a .lead)) ≡ true)
@@ -22,16 +26,15 @@ row-requires c κs =
 
 returns : tie.Need-returns
 returns c =
-    let a = c .before .before .before .before .before .before .args in
-    front-row (a .k) (a .rows) (c .row .result) (c .row .ensures .0) (c .row .ensures .1)
-    ∙ sym (ap (λ (b : Bool). cond b (front (a .k) (a .rows)) (front 0 (a .rows))) (opens (c .before)))
+    let s = c .before .before .before .before .before .before in
+    front-row (s .args .k) (s .args .rows) (c .row .result) (c .row .ensures .0) (c .row .ensures .1) ∙ sym (ap (handed s) (opens (c .before)))
 
 returns-2 : tie.Need-returns-2
 returns-2 c =
     let j = c .before .before in
-    let a = j .before .before .before .args in
+    let s = j .before .before .before in
     let none : isOpen (toldVerdict (j .judge .result)) ≡ false = other-verdict (j .judge .result) (c .before .match .keys2) in
-    empty-front (a .rows) ∙ sym (ap (λ (b : Bool). cond b (front (a .k) (a .rows)) (front 0 (a .rows))) (sym (ap isOpen (j .judge .ensures)) ∙ none))
+    empty-front (s .args .rows) ∙ sym (ap (handed s) (sym (ap isOpen (j .judge .ensures)) ∙ none))
 
 pub opened-spec : {M : Type 1} → statement M
 opened-spec =
