@@ -48,6 +48,22 @@ impl<'a> Case<'a> {
         }
     }
 
+    /// Both lists as the library takes them.
+    pub fn of_library<'b>(&self, lent: &'b Memory) -> [kv::Photograph<'b>; 2] {
+        [
+            self.first.of_library(&lent.first),
+            self.second.of_library(&lent.second),
+        ]
+    }
+
+    /// As the second program takes them.
+    pub fn of_second<'b>(&self, lent: &'b Memory) -> [second::counter::Photograph<'b>; 2] {
+        [
+            self.first.of_second(&lent.first),
+            self.second.of_second(&lent.second),
+        ]
+    }
+
     pub fn faults_of_first(&self) -> Vec<Refusal> {
         let [_, k, _] = self.first.settings;
         let bad_size = !sizes_allowed(MOST_POSITIONS, k);
@@ -87,7 +103,7 @@ impl LentList {
         }
     }
 
-    pub fn list(&self) -> List<'_> {
+    fn list(&self) -> List<'_> {
         List {
             rows: self.rows.part(),
             scores: self.scores.part(),
@@ -118,7 +134,7 @@ impl<'b> Photograph<'b> {
     }
 
     /// As the library takes it, with the list that is lent.
-    pub fn of_library<'a>(&self, lent: &'a LentList) -> kv::Photograph<'a> {
+    fn of_library<'a>(&self, lent: &'a LentList) -> kv::Photograph<'a> {
         let [n, k, level] = self.settings;
         kv::Photograph {
             sizes: kv::Sizes { n, k },
@@ -129,7 +145,7 @@ impl<'b> Photograph<'b> {
     }
 
     /// As the second program takes it.
-    pub fn of_second<'a>(&self, lent: &'a LentList) -> second::counter::Photograph<'a> {
+    fn of_second<'a>(&self, lent: &'a LentList) -> second::counter::Photograph<'a> {
         let [n, k, level] = self.settings;
         second::counter::Photograph {
             n,

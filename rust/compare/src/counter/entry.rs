@@ -2,15 +2,25 @@
 
 use crate::counter::case::{Case, Memory};
 use crate::entry::Program;
-use kv::lent::Judgement;
+use kv::lent::{self, Judgement};
 use kv::Refusal;
-use second::counter::Verdict;
+use second::counter::{self, List, Photograph, Verdict};
+
+/// The call of an entry in both programs, by the lists that it takes.
+enum Calls {
+    Alone {
+        proved: fn(usize, &[u8], &[u16], usize) -> Judgement,
+        second: fn(usize, List, usize) -> Verdict,
+    },
+    Both {
+        proved: fn(kv::Photograph<'_>, kv::Photograph<'_>, usize) -> Judgement,
+        second: fn(Photograph, Photograph, usize) -> Verdict,
+    },
+}
 
 pub struct Entry {
     pub name: &'static str,
-    pub proved: fn(&Case, &Memory) -> Judgement,
-    pub second: fn(&Case, &Memory) -> Verdict,
-    pub faults: fn(&Case) -> Vec<Refusal>,
+    calls: Calls,
 }
 
 /// The numbers of the refusals that each of them can give.
@@ -18,60 +28,34 @@ pub const REFUSALS: [u16; 4] = [1, 2, 3, 5];
 
 pub static JUDGE: Entry = Entry {
     name: "judge",
-    proved: |case, lent| {
-        let [_, k, _] = case.first.settings;
-        let (rows, scores) = (lent.first.rows.part(), lent.first.scores.part());
-        kv::lent::judge(k, rows, scores, case.lead)
+    calls: Calls::Alone {
+        proved: lent::judge,
+        second: counter::judge,
     },
-    second: |case, lent| {
-        let [_, k, _] = case.first.settings;
-        second::counter::judge(k, lent.first.list(), case.lead)
-    },
-    faults: |case| case.faults_of_first(),
 };
 
 pub static OPEN: Entry = Entry {
     name: "open",
-    proved: |case, lent| {
-        let [_, k, _] = case.first.settings;
-        let (rows, scores) = (lent.first.rows.part(), lent.first.scores.part());
-        kv::lent::open(k, rows, scores, case.lead)
+    calls: Calls::Alone {
+        proved: lent::open,
+        second: counter::open,
     },
-    second: |case, lent| {
-        let [_, k, _] = case.first.settings;
-        second::counter::open(k, lent.first.list(), case.lead)
-    },
-    faults: |case| case.faults_of_first(),
 };
 
 pub static JUDGE_BOTH: Entry = Entry {
     name: "judge both",
-    proved: |case, lent| {
-        let first = case.first.of_library(&lent.first);
-        let second = case.second.of_library(&lent.second);
-        kv::lent::judge_both(first, second, case.lead)
+    calls: Calls::Both {
+        proved: lent::judge_both,
+        second: counter::judge_both,
     },
-    second: |case, lent| {
-        let first = case.first.of_second(&lent.first);
-        let second = case.second.of_second(&lent.second);
-        second::counter::judge_both(first, second, case.lead)
-    },
-    faults: |case| case.faults_of_both(),
 };
 
 pub static OPEN_BOTH: Entry = Entry {
     name: "open both",
-    proved: |case, lent| {
-        let first = case.first.of_library(&lent.first);
-        let second = case.second.of_library(&lent.second);
-        kv::lent::open_both(first, second, case.lead)
+    calls: Calls::Both {
+        proved: lent::open_both,
+        second: counter::open_both,
     },
-    second: |case, lent| {
-        let first = case.first.of_second(&lent.first);
-        let second = case.second.of_second(&lent.second);
-        second::counter::open_both(first, second, case.lead)
-    },
-    faults: |case| case.faults_of_both(),
 };
 
 fn in_common(verdict: Verdict) -> Judgement {
@@ -84,10 +68,35 @@ fn in_common(verdict: Verdict) -> Judgement {
 }
 
 impl Entry {
+    fn proved(&self, case: &Case, lent: &Memory) -> Judgement {
+        let [first, second] = case.of_library(lent);
+        match self.calls {
+            Calls::Alone { proved, .. } => {
+                proved(first.sizes.k, first.rows, first.scores, case.lead)
+            }
+            Calls::Both { proved, .. } => proved(first, second, case.lead),
+        }
+    }
+
+    fn second(&self, case: &Case, lent: &Memory) -> Verdict {
+        let [first, other] = case.of_second(lent);
+        match self.calls {
+            Calls::Alone { second, .. } => second(first.k, first.list, case.lead),
+            Calls::Both { second, .. } => second(first, other, case.lead),
+        }
+    }
+
+    pub fn faults(&self, case: &Case) -> Vec<Refusal> {
+        match self.calls {
+            Calls::Alone { .. } => case.faults_of_first(),
+            Calls::Both { .. } => case.faults_of_both(),
+        }
+    }
+
     pub fn answer_in(&self, program: Program, case: &Case, lent: &Memory) -> Judgement {
         match program {
-            Program::Proved => (self.proved)(case, lent),
-            Program::Second => in_common((self.second)(case, lent)),
+            Program::Proved => self.proved(case, lent),
+            Program::Second => in_common(self.second(case, lent)),
         }
     }
 

@@ -111,7 +111,7 @@ impl Judging {
     /// Ends the run, moreover, unless the refusal is that of the faults which were put in.
     pub fn compare_made(&mut self, case: &Case) {
         let answer = self.compare(case);
-        let faults = (self.entry.faults)(case);
+        let faults = self.entry.faults(case);
         if answer.refusal() != first_of(&faults) {
             eprintln!("{} answers {answer:?} to {case:?}", self.entry.name);
             eprintln!("the faults in it: {faults:?}");
