@@ -17,7 +17,8 @@ use Rattle.definitions.specs.Field.{Code}
 use Rattle.definitions.specs.Listing.{rowAt}
 use Rattle.definitions.specs.Refusals.{tried, size, sizes, level, symbols, firstAbove}
 use Rattle.rows.proofs.Messages.{same-self}
-use Rattle.rows.specs.Rows.{listed, every}
+use Rattle.definitions.specs.Tools.{every}
+use Rattle.rows.specs.Rows.{listed}
 
 -- a line that is tried twice is tried once
 twice : {A : Type 0} (a b c : Bool) (x y p q u v : A) → u ≡ v → cond a x (cond b y (cond b y (cond c p (cond c q u)))) ≡ cond a x (cond b y (cond c p v))

@@ -1,5 +1,6 @@
 pub mod Tools
 pub mod Zeros
+pub mod Every
 pub mod Symbols
 pub mod Ordered
 pub mod Joined
@@ -16,4 +17,6 @@ pub mod Table
 pub mod Loops
 pub mod Sums
 pub mod Powers
+pub mod Held
+pub mod Editing
 pub mod Direct

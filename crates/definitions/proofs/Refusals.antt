@@ -52,6 +52,15 @@ module _ (greatest : ℕ) where
             rw e (first-above l (le-of-suc-le-suc (rw e at h)))
       ]
 
+  -- it is looked for up to the end
+  pub first-within : (l : List ℕ) → firstAbove greatest l ≤ length l
+  first-within [] = rw first-nil (omega arith)
+  first-within (x ∷ l) =
+      elim (decLt greatest x) [
+        | yes a ↦ rw (first-stop x l a) (omega arith)
+        | no n ↦ (let r = first-within l in rw (first-step x l (omega arith)) (omega arith))
+      ]
+
   -- what stands before it is not
   pub before-above : (l : List ℕ) (j : ℕ) → j < firstAbove greatest l → getD l j 0 ≤ greatest
   before-above [] j h = omega arith

@@ -1,10 +1,11 @@
--- Sums taken apart: in two, in blocks of equal size, and without a tail of zeros; and the sum of numbers that fall by the same step.
+-- Sums taken apart: in two, in blocks of equal size, without a tail of zeros, and but for one term; and the sum of numbers that fall by the same step.
 -- Assumes nothing.
 use mathlib.Core.Path.{_≡_, sym, _∙_, ap}
-use Prim.Native.Nat.{ℕ, zero, suc, _+_, _*_, _-_, _≤_}
-use native.Mathlib.Nat.{add-zero, add-suc, mul-zero, suc-mul, mul-suc, mul-add, mul-left-comm, mul-le-mul-left}
+use Prim.Native.Nat.{ℕ, zero, suc, _+_, _*_, _-_, _≤_, _<_}
+use native.Mathlib.Decide.{decLt}
+use native.Mathlib.Nat.{not-suc-le-zero, add-zero, add-suc, mul-zero, suc-mul, mul-suc, mul-add, mul-left-comm, mul-le-mul-left}
 use native.Mathlib.Omega.{arith}
-use Rattle.definitions.proofs.Tools.{sum-zero, sum-one, sum-suc}
+use Rattle.definitions.proofs.Tools.{sum-zero, sum-one, sum-suc, sum-ext}
 use Rattle.definitions.specs.Tools.{sum}
 
 pub sum-append : (m n : ℕ) (f : ℕ → ℕ) → sum (m + n) f ≡ sum m f + sum n (λ j. f (m + j))
@@ -22,7 +23,7 @@ sum-blocks q (suc n) f =
     (sum-append (q * n) q f ∙ ap (λ (s : ℕ). s + sum q (λ b. f (q * n + b))) (sum-blocks q n f)
     ∙ sym (sum-suc n (λ i. sum q (λ b. f (q * i + b)))))
 
-sum-of-zeros : (n : ℕ) (f : ℕ → ℕ) → ((j : ℕ) → f j ≡ 0) → sum n f ≡ 0
+pub sum-of-zeros : (n : ℕ) (f : ℕ → ℕ) → ((j : ℕ) → f j ≡ 0) → sum n f ≡ 0
 sum-of-zeros zero f z = sum-zero f
 sum-of-zeros (suc n) f z = let e = sum-of-zeros n f z in let g = z n in rw (sum-suc n f) (omega arith)
 
@@ -33,6 +34,25 @@ sum-tail m n f h z =
     let r = sum-of-zeros (n - m) (λ j. f (m + j)) (λ j. z (m + j) (omega arith)) in
     let a = sum-append m (n - m) f in
     ap (λ (k : ℕ). sum k f) e ∙ a ∙ ap (λ (s : ℕ). sum m f + s) r ∙ add-zero (sum m f)
+
+-- terms that are the same but for one
+pub sum-but : (n i : ℕ) (f g : ℕ → ℕ) → i < n → ((j : ℕ) → j < n → (j ≡ i → ⊥) → f j ≡ g j) → sum n f + g i ≡ sum n g + f i
+sum-but zero i f g h same = absurd (not-suc-le-zero h)
+sum-but (suc n) i f g h same =
+    let a = sum-suc n f in
+    let b = sum-suc n g in
+    elim (decLt i n) [
+      | yes l ↦
+          let r = sum-but n i f g l (λ j k. same j (omega arith)) in
+          let last = same n (omega arith) (λ e. let z : ⊥ = omega arith in z) in
+          omega arith
+      | no m ↦
+          let here : n ≡ i = omega arith in
+          let front = sum-ext n f g (λ j k. same j (omega arith) (λ e. let z : ⊥ = omega arith in z)) in
+          let fi = ap f here in
+          let gi = ap g here in
+          omega arith
+    ]
 
 module _ (v : ℕ) where
   -- v (j + 2) (j + 1) is 2 v (j + 1) more than v (j + 1) j

@@ -9,3 +9,5 @@ pub mod Roots
 pub mod Listing
 pub mod Refusals
 pub mod Answers
+pub mod Held
+pub mod Editing

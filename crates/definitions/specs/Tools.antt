@@ -1,6 +1,6 @@
 -- Words that the definitions are written with.
 -- Assumes nothing.
-use mathlib.Core.Bool.{Bool, cond}
+use mathlib.Core.Bool.{Bool, true, cond, _&&_}
 use mathlib.Core.List.{List, [], _∷_, _++_}
 use Prim.Native.Nat.{ℕ, zero, suc, _+_}
 
@@ -13,6 +13,11 @@ below (suc n) = below n ++ (n ∷ [])
 unfoldable pub sum : ℕ → (ℕ → ℕ) → ℕ
 sum zero f = 0
 sum (suc n) f = sum n f + f n
+
+-- every number below n passes the test
+unfoldable pub every : ℕ → (ℕ → Bool) → Bool
+every zero test = true
+every (suc n) test = every n test && test n
 
 -- the smallest number that passes the test, of those up to n; n where none before it does
 unfoldable pub smallest : (ℕ → Bool) → ℕ → ℕ

@@ -14,7 +14,7 @@ use lib.Dec.{eqb, ltb}
 use lib.ListN.{length, getD}
 use Rattle.definitions.proofs.Messages.{Before}
 use Rattle.definitions.specs.Listing.{rowAt}
-use Rattle.rows.proofs.Every.{every-at}
+use Rattle.definitions.proofs.Every.{every-at}
 use Rattle.rows.proofs.Messages.{decided-tested, decided-means, decided-through, before-tested, before-means, before-through}
 use Rattle.rows.specs.Rows.{comesBefore, rowBefore, inOrder}
 

@@ -1,4 +1,3 @@
-pub mod Every
 pub mod Messages
 pub mod Rows
 pub mod InOrder

@@ -12,7 +12,8 @@ use lib.ListN.{length, drop, length-drop}
 use lib.Seq.{length-take-le}
 use Rattle.definitions.proofs.Tools.{both}
 use Rattle.definitions.specs.Listing.{rowAt}
-use Rattle.rows.specs.Rows.{inOrder, every, isNew, isList, listed}
+use Rattle.definitions.specs.Tools.{every}
+use Rattle.rows.specs.Rows.{inOrder, isNew, isList, listed}
 
 -- what the line says of a list that passes it
 pub listed-means : (k : ℕ) (rows scores : List ℕ) → listed k rows scores .given ≡ false → length rows ≡ k * length scores

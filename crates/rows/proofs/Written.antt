@@ -22,7 +22,7 @@ use Rattle.definitions.specs.Field.{Code}
 use Rattle.definitions.specs.Listing.{above, rowAt}
 use Rattle.definitions.specs.Refusals.{symbols}
 use Rattle.definitions.specs.Weights.{score}
-use Rattle.rows.proofs.Every.{every-of}
+use Rattle.definitions.proofs.Every.{every-of}
 use Rattle.rows.proofs.InOrder.{Stands, stands-tested}
 use Rattle.rows.proofs.Messages.{same-means}
 use Rattle.rows.specs.Rows.{same, rowBefore, isNew, isList, listed}

@@ -2,11 +2,12 @@
 -- Assumes nothing.
 use mathlib.Core.Bool.{Bool, true, false, cond, not, _&&_}
 use mathlib.Core.List.{List, [], _∷_}
-use Prim.Native.Nat.{ℕ, zero, suc, _+_, _-_, _*_}
+use Prim.Native.Nat.{ℕ, _+_, _-_, _*_}
 use lib.Dec.{eqb, ltb}
 use lib.ListN.{length, getD}
 use Rattle.definitions.specs.Listing.{rowAt}
 use Rattle.definitions.specs.Refusals.{Line, line}
+use Rattle.definitions.specs.Tools.{every}
 
 -- "ordered by f₀, then f₁ and so on, smaller symbol first": f comes before g
 unfoldable pub comesBefore : List ℕ → List ℕ → Bool
@@ -20,11 +21,6 @@ same [] [] = true
 same [] (b ∷ g) = false
 same (a ∷ f) [] = false
 same (a ∷ f) (b ∷ g) = eqb a b && same f g
-
--- every number below n passes the test
-unfoldable pub every : ℕ → (ℕ → Bool) → Bool
-every zero test = true
-every (suc n) test = every n test && test n
 
 -- "by falling score, equal scores in root order": row i comes before row j
 abbrev pub rowBefore : ℕ → List ℕ → List ℕ → ℕ → ℕ → Bool

@@ -3,10 +3,11 @@ ghost use mathlib.Core.Path.{_≡_};
 ghost use Prim.Native.Nat.{_+_, _*_, _≤_, _<_};
 ghost use lib.ListN.{length};
 ghost use Rattle.definitions.specs.Listing.{rowAt};
+ghost use Rattle.definitions.specs.Tools.{every};
 ghost use Rattle.refusals.specs.Checked.{orLine, toldChecked};
 ghost use Rattle.refusals.specs.declared.Checked.the-variants.{Passed};
 ghost use Rattle.rows.specs.Differ.{Differ};
-ghost use Rattle.rows.specs.Rows.{comesBefore, same, every, rowBefore, inOrder, isNew, isList, listed};
+ghost use Rattle.rows.specs.Rows.{comesBefore, same, rowBefore, inOrder, isNew, isList, listed};
 use refusals::Checked;
 use refusals::Refusal;
 

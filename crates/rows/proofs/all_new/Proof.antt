@@ -6,9 +6,10 @@ use native.Mathlib.Omega.{arith}
 use lib.ListN.{length}
 use borrow.Author.Tests.{not-true, not-false}
 use Rattle.definitions.specs.Listing.{rowAt}
-use Rattle.rows.proofs.Every.{every-none, every-more, every-at, every-of, every-but}
+use Rattle.definitions.specs.Tools.{every}
+use Rattle.definitions.proofs.Every.{every-none, every-more, every-at, every-of, every-but}
 use Rattle.rows.proofs.Rows.{row-fits}
-use Rattle.rows.specs.Rows.{every, isNew, same}
+use Rattle.rows.specs.Rows.{isNew, same}
 use Rattle.rows.proofs.all_new.Statement.{statement}
 use Rattle.rows.proofs.all_new.Tie as tie
 

@@ -6,9 +6,10 @@ use Prim.Native.Nat.{ℕ, _+_, _-_, _≤_}
 use native.Mathlib.Omega.{arith}
 use lib.ListN.{length}
 use borrow.Author.Tests.{not-true, not-false}
-use Rattle.rows.proofs.Every.{every-none, every-more, every-but}
+use Rattle.definitions.proofs.Every.{every-none, every-more, every-but}
 use Rattle.rows.proofs.Rows.{row-fits}
-use Rattle.rows.specs.Rows.{every, rowBefore}
+use Rattle.definitions.specs.Tools.{every}
+use Rattle.rows.specs.Rows.{rowBefore}
 use Rattle.rows.proofs.in_order.Statement.{statement}
 use Rattle.rows.proofs.in_order.Tie as tie
 

@@ -6,7 +6,7 @@ use Prim.Native.Nat.{ℕ, _+_, _*_, _-_, _≤_, _<_}
 use native.Mathlib.Omega.{arith}
 use lib.ListN.{length}
 use Rattle.definitions.specs.Listing.{rowAt}
-use Rattle.rows.proofs.Every.{every-of, every-but, down-more}
+use Rattle.definitions.proofs.Every.{every-of, every-but, down-more}
 use Rattle.rows.proofs.Rows.{earlier-fits, row-length}
 use Rattle.rows.specs.Rows.{same}
 use Rattle.rows.proofs.is_new.Statement.{statement}

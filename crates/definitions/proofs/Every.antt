@@ -7,8 +7,8 @@ use native.Mathlib.Decide.{decLt}
 use native.Mathlib.Nat.{not-suc-le-zero}
 use native.Mathlib.Numerals.{add-one}
 use native.Mathlib.Omega.{arith}
 use Rattle.definitions.proofs.Tools.{both, split}
-use Rattle.rows.specs.Rows.{every}
+use Rattle.definitions.specs.Tools.{every}
 
 module _ (test : ℕ → Bool) where
   pub every-none : every 0 test ≡ true

@@ -1,0 +1,319 @@
+-- The edits of a matrix record: the lowest place of an entry above 5, what their lines say, and that after any sequence of them the stored
+-- numbers are those that the entries define.
+-- Assumes nothing.
+use mathlib.Core.Bool.{Bool, true, false, not, _||_, false≢true}
+use mathlib.Core.List.{List, [], _∷_, map}
+use mathlib.Core.Path.{_≡_, refl, sym, _∙_, ap, ap₂}
+use Prim.Native.Nat.{ℕ, _+_, _*_, _≤_, _<_}
+use native.Mathlib.Decide.{decLt, ℕ-discrete}
+use native.Mathlib.Nat.{mul-suc, mul-add, mul-le-mul-left}
+use native.Mathlib.Omega.{arith}
+use borrow.Author.Tests.{ltb-false, leb-false, eqb-true, not-false, lt-ltb, le-ltb}
+use lib.Dec.{eqb, leb, ltb}
+use lib.ListN.{length, getD, drop, set, replicate, length-replicate, length-set, List·getD-append, List·getD-eq-default}
+use lib.Seq.{getD-set-same, getD-set-other}
+use Rattle.definitions.proofs.Held.{Rightly, rightly-means, length-cleared, cleared-below, length-filled, filled-behind, place-within}
+use Rattle.definitions.proofs.Refusals.{first-within, first-above, before-above}
+use Rattle.definitions.proofs.Table.{whatever, Whatever, last, or, size-means, entries-mean, above-means}
+use Rattle.definitions.proofs.Tools.{split, length-map-below, map-below-at, smallest-is, smallest-le, smallest-fails}
+use Rattle.definitions.proofs.Zeros.{zero-at}
+use Rattle.definitions.specs.Editing.{anyAbove, position, sameSize, symbol, stored, lowestAbove, inOrOut, noMatrix, freshHeld, bytesHeld, setTable, setHeld, clearTable, clearHeld, addTable, addHeld, freshTable, bytesTable}
+use Rattle.definitions.specs.Field.{Code}
+use Rattle.definitions.specs.Held.{Held, held, places, noEntries, totalsOf, heldOf, filled, withEntry, withoutColumn, withAdded, rightly}
+use Rattle.definitions.specs.Limits.{greatestLevel}
+use Rattle.definitions.specs.Refusals.{firstAbove}
+use Rattle.definitions.specs.Tools.{below}
+use Rattle.definitions.specs.Weights.{cost}
+
+-- ---- the lowest place
+
+either-false : (a b : Bool) → (a || b) ≡ false → (a ≡ false) × (b ≡ false)
+either-false true b e = absurd (false≢true (sym e))
+either-false false b e = (refl, e)
+
+module _ (j : ℕ) where
+  pub none-yet : anyAbove [] j ≡ false
+  none-yet = refl
+
+  pub low-too : (e : List ℕ) (es : List (List ℕ)) → getD e j 0 ≤ greatestLevel → anyAbove es j ≡ false → anyAbove (e ∷ es) j ≡ false
+  low-too e es h n = rw (le-ltb greatestLevel (getD e j 0) h) n
+
+  pub above-here : (e : List ℕ) (es : List (List ℕ)) → greatestLevel < getD e j 0 → anyAbove (e ∷ es) j ≡ true
+  above-here e es h = rw (lt-ltb greatestLevel (getD e j 0) h)
+
+  pub above-later : (e : List ℕ) (es : List (List ℕ)) → anyAbove es j ≡ true → anyAbove (e ∷ es) j ≡ true
+  above-later e es h = split (ltb greatestLevel (getD e j 0)) (λ y. rw y) (λ n. rw n h)
+
+  low-first : (e : List ℕ) (es : List (List ℕ)) → anyAbove (e ∷ es) j ≡ false → (getD e j 0 ≤ greatestLevel) × (anyAbove es j ≡ false)
+  low-first e es n =
+      let b = either-false (ltb greatestLevel (getD e j 0)) (anyAbove es j) n in
+      (ltb-false greatestLevel (getD e j 0) (b .0), b .1)
+
+-- an entry of the sum
+pub added-at : (d e : List ℕ) (j : ℕ) → j < length d → getD (withAdded d e) j 0 ≡ getD d j 0 + getD e j 0
+added-at d e j h = map-below-at (λ (j : ℕ). getD d j 0 + getD e j 0) (length d) j 0 h
+
+pub length-added : (d e : List ℕ) → length (withAdded d e) ≡ length d
+length-added d e = length-map-below (λ (j : ℕ). getD d j 0 + getD e j 0) (length d)
+
+module _ (C : Code) (e : List ℕ) (full : length e ≡ places C) where
+  -- what comes out has no entry above 5 before the first of what goes in: that is the lowest
+  lowest-is-first : (d : List ℕ) → ((j : ℕ) → j < firstAbove greatestLevel e → getD d j 0 ≤ greatestLevel)
+      → firstAbove greatestLevel e ≡ lowestAbove C (e ∷ d ∷ [])
+  lowest-is-first d low =
+      let first = firstAbove greatestLevel e in
+      let w = first-within greatestLevel e in
+      sym
+      (smallest-is (anyAbove (e ∷ d ∷ [])) (places C) first (omega arith)
+      (λ j h. low-too j e (d ∷ []) (before-above greatestLevel e j h) (low-too j d [] (low j h) (none-yet j)))
+      (λ h. above-here first e (d ∷ []) (first-above greatestLevel e (omega arith))))
+
+  module _ (at x : ℕ) (h : at < length e) where
+    set-low : (j : ℕ) → (j ≡ at → x ≤ greatestLevel) → getD e j 0 ≤ greatestLevel → getD (set e at x) j 0 ≤ greatestLevel
+    set-low j new old =
+        elim (ℕ-discrete j at) [
+          | yes s ↦
+              let low = new s in
+              let here = ap (λ (k : ℕ). getD (set e at x) k 0) s ∙ getD-set-same e at x 0 h in
+              omega arith
+          | no n ↦ (let there = getD-set-other e at j x 0 n in omega arith)
+        ]
+
+    -- of an entry that is set: the old entries alone count, or the new one lies before them
+    pub lowest-old : (at < firstAbove greatestLevel e → x ≤ greatestLevel) → firstAbove greatestLevel e ≡ lowestAbove C (e ∷ set e at x ∷ [])
+    lowest-old new = lowest-is-first (set e at x) (λ j l. set-low j (λ s. new (omega arith)) (before-above greatestLevel e j l))
+
+    pub lowest-new : greatestLevel < x → at < firstAbove greatestLevel e → at ≡ lowestAbove C (e ∷ set e at x ∷ [])
+    lowest-new bad l =
+        let here = getD-set-same e at x 0 h in
+        sym
+        (smallest-is (anyAbove (e ∷ set e at x ∷ [])) (places C) at (omega arith)
+        (λ j k.
+        low-too j e (set e at x ∷ []) (before-above greatestLevel e j (omega arith))
+        (low-too j (set e at x) [] (set-low j (λ s. let z : ⊥ = omega arith in absurd z) (before-above greatestLevel e j (omega arith))) (none-yet j)))
+        (λ _. above-later at e (set e at x ∷ []) (above-here at (set e at x) [] (omega arith))))
+
+  -- of a column that is cleared: the old entries alone count
+  pub lowest-cleared : (i : ℕ) → i < C .positions → firstAbove greatestLevel e ≡ lowestAbove C (e ∷ withoutColumn C e i ∷ [])
+  lowest-cleared i hi =
+      let w = mul-le-mul-left (C .symbols) hi in
+      let s = mul-suc (C .symbols) i in
+      lowest-is-first (withoutColumn C e i)
+      (λ j h. let below = cleared-below C e i (omega arith) j in let low = before-above greatestLevel e j h in omega arith)
+
+  -- of a sum: it is above wherever one of both is
+  module _ (d : List ℕ) (i : ℕ) (passed : (j : ℕ) → j < i → anyAbove (e ∷ d ∷ withAdded e d ∷ []) j ≡ false) where
+    pub sum-found : i < length e → greatestLevel < getD e i 0 + getD d i 0 → i ≡ lowestAbove C (e ∷ d ∷ withAdded e d ∷ [])
+    sum-found h bad =
+        let here = added-at e d i h in
+        sym
+        (smallest-is (anyAbove (e ∷ d ∷ withAdded e d ∷ [])) (places C) i (omega arith) passed
+        (λ _. above-later i e (d ∷ withAdded e d ∷ []) (above-later i d (withAdded e d ∷ []) (above-here i (withAdded e d) [] (omega arith)))))
+
+    pub sum-passed : i < length e → getD e i 0 + getD d i 0 ≤ greatestLevel → anyAbove (e ∷ d ∷ withAdded e d ∷ []) i ≡ false
+    sum-passed h low =
+        let here = added-at e d i h in
+        low-too i e (d ∷ withAdded e d ∷ []) (omega arith) (low-too i d (withAdded e d ∷ []) (omega arith) (low-too i (withAdded e d) [] (omega arith) (none-yet i)))
+
+    pub sum-none : length e ≤ i → places C ≡ lowestAbove C (e ∷ d ∷ withAdded e d ∷ [])
+    sum-none h =
+        sym
+        (smallest-is (anyAbove (e ∷ d ∷ withAdded e d ∷ [])) (places C) (places C) (omega arith) (λ j l. passed j (omega arith))
+        (λ l. let z : ⊥ = omega arith in absurd z))
+
+-- ---- what a line says of a call that passes it
+
+pub position-means : (n i : ℕ) → position n i .given ≡ false → i < n
+position-means n i e = leb-false n i e
+
+pub sameSize-means : (n o : ℕ) → sameSize n o .given ≡ false → n ≡ o
+sameSize-means n o e = eqb-true n o (not-false (eqb n o) e)
+
+module _ (C : Code) where
+  pub symbol-means : (b : ℕ) → symbol C b .given ≡ false → b < C .symbols
+  symbol-means b e = leb-false (C .symbols) b e
+
+  pub stored-means : (h : Held) → stored C h .given ≡ false → Rightly C h
+  stored-means h e = rightly-means C h (not-false (rightly C h) e)
+
+  -- no entry of any of the matrices is above 5
+  pub inOrOut-means : (es : List (List ℕ)) → inOrOut C es .given ≡ false → (j : ℕ) → j < places C → anyAbove es j ≡ false
+  inOrOut-means es e j h =
+      let past = ltb-false (lowestAbove C es) (places C) e in
+      smallest-fails (anyAbove es) (places C) j (omega arith)
+
+  -- so none of the one that comes out
+  out-low : (es : List (List ℕ)) (e : List ℕ) → length e ≡ places C → inOrOut C es .given ≡ false
+      → ((j : ℕ) → anyAbove es j ≡ false → getD e j 0 ≤ greatestLevel) → (j : ℕ) → getD e j 0 ≤ greatestLevel
+  out-low es e full given of j =
+      elim (decLt j (places C)) [
+        | yes l ↦ of j (inOrOut-means es given j l)
+        | no n ↦ (let z = List·getD-eq-default e 0 {n = j} (omega arith) in omega arith)
+      ]
+
+  pub out-of-two : (d e : List ℕ) → length e ≡ places C → inOrOut C (d ∷ e ∷ []) .given ≡ false → (j : ℕ) → getD e j 0 ≤ greatestLevel
+  out-of-two d e full given = out-low (d ∷ e ∷ []) e full given (λ j n. low-first j e [] (low-first j d (e ∷ []) n .1) .0)
+
+  pub out-of-three : (c d e : List ℕ) → length e ≡ places C → inOrOut C (c ∷ d ∷ e ∷ []) .given ≡ false → (j : ℕ) → getD e j 0 ≤ greatestLevel
+  out-of-three c d e full given =
+      out-low (c ∷ d ∷ e ∷ []) e full given (λ j n. low-first j e [] (low-first j d (e ∷ []) (low-first j c (d ∷ e ∷ []) n .1) .1) .0)
+
+  -- ---- any sequence of edits
+
+  -- a record of a matrix within limits, whose stored numbers are right
+  pub record Sound (h : Held) : Type 0 where
+    pub sized : (2 ≤ h .n) × (h .n ≤ C .positions)
+    pub right : Rightly C h
+    pub low : (j : ℕ) → getD (h .entries) j 0 ≤ greatestLevel
+
+  -- "the stored numbers equal those defined by the entries"
+  pub stored-numbers : (h : Held) → Rightly C h → h ≡ heldOf C (h .n) (h .entries)
+  stored-numbers h r = ap₂ (λ (c : ℕ) (t : List ℕ). held (h .n) c t (h .entries)) (r .cost-is) (r .totals-are)
+
+  -- what holds the numbers that its entries define is sound where its entries are
+  holds : (n : ℕ) (e : List ℕ) → (2 ≤ n) × (n ≤ C .positions) → length e ≡ places C → ((j : ℕ) → C .symbols * n ≤ j → getD e j 0 ≡ 0)
+      → ((j : ℕ) → getD e j 0 ≤ greatestLevel) → Sound (heldOf C n e)
+  holds n e sized full unused low =
+      record { sized = sized; right = record { full = full; totals-are = refl; cost-is = refl; unused = unused }; low = low }
+
+  no-entry : (j : ℕ) → getD (noEntries C) j 0 ≡ 0
+  no-entry j = zero-at (places C) j
+
+  zeros-hold : (n : ℕ) → (2 ≤ n) × (n ≤ C .positions) → Sound (heldOf C n (noEntries C))
+  zeros-hold n sized =
+      holds n (noEntries C) sized (length-replicate {A = ℕ} (places C) 0) (λ j _. no-entry j) (λ j. let z = no-entry j in omega arith)
+
+  pub fresh-sound : 2 ≤ C .positions → (n : ℕ) → Sound (freshHeld C n)
+  fresh-sound two n =
+      whatever Sound (λ _ _. noMatrix C) (heldOf C n (noEntries C)) (freshTable C n)
+      (or (λ _. zeros-hold 2 (omega arith, two)) (λ s. last (zeros-hold n (size-means C n s))))
+
+  pub bytes-sound : 2 ≤ C .positions → (n : ℕ) (m : List ℕ) → Sound (bytesHeld C n m)
+  bytes-sound two n m =
+      whatever Sound (λ _ _. noMatrix C) (heldOf C n (filled C m)) (bytesTable C n m)
+      (or (λ _. none)
+      (λ s. or (λ _. none)
+      (λ e. or (λ _. none)
+      (λ a. last
+      (let size = entries-mean (C .symbols * n) m e in
+      let sized = size-means C n s in
+      let w : C .symbols * n ≤ places C = mul-le-mul-left (C .symbols) (sized .1) in
+      holds n (filled C m) sized (length-filled C m (omega arith)) (λ j l. filled-behind C m (omega arith) j (omega arith)) (low (omega arith) (above-means greatestLevel m a)))))))
+    where
+      none : Sound (noMatrix C)
+      none = zeros-hold 2 (omega arith, two)
+
+      low : length m ≤ places C → ((j : ℕ) → getD m j 0 ≤ greatestLevel) → (j : ℕ) → getD (filled C m) j 0 ≤ greatestLevel
+      low small h j =
+          elim (decLt j (length m)) [
+            | yes l ↦ (let here = h j in let same = List·getD-append m (drop (length m) (noEntries C)) 0 j l in omega arith)
+            | no n ↦ (let z = filled-behind C m small j (omega arith) in omega arith)
+          ]
+
+  set-sound : (h : Held) → Sound h → (i b x : ℕ) → Sound (setHeld C h i b x)
+  set-sound h s i b x =
+      whatever Sound (λ _ _. h) (heldOf C (h .n) (withEntry C (h .entries) i b x)) (setTable C h i b x)
+      (or (λ _. s)
+      (λ _. or (λ _. s)
+      (λ p. or (λ _. s)
+      (λ q. or (λ _. s)
+      (λ _. or (λ _. s)
+      (λ a. last (new (position-means (h .n) i p) (symbol-means b q) a)))))))
+    where
+      new : i < h .n → b < C .symbols → inOrOut C (h .entries ∷ withEntry C (h .entries) i b x ∷ []) .given ≡ false
+          → Sound (heldOf C (h .n) (withEntry C (h .entries) i b x))
+      new hi hb a =
+          let full = length-set (h .entries) (C .symbols * i + b) x ∙ s .right .full in
+          let w = mul-le-mul-left (C .symbols) hi in
+          let m = mul-suc (C .symbols) i in
+          holds (h .n) (withEntry C (h .entries) i b x) (s .sized) full
+          (λ j l. getD-set-other (h .entries) (C .symbols * i + b) j x 0 (λ e. let z : ⊥ = omega arith in z) ∙ s .right .unused j l)
+          (out-of-two (h .entries) (withEntry C (h .entries) i b x) full a)
+
+  clear-sound : (h : Held) → Sound h → (i : ℕ) → Sound (clearHeld C h i)
+  clear-sound h s i =
+      whatever Sound (λ _ _. h) (heldOf C (h .n) (withoutColumn C (h .entries) i)) (clearTable C h i)
+      (or (λ _. s)
+      (λ _. or (λ _. s)
+      (λ p. or (λ _. s)
+      (λ _. or (λ _. s)
+      (λ a. last (new (position-means (h .n) i p) a))))))
+    where
+      new : i < h .n → inOrOut C (h .entries ∷ withoutColumn C (h .entries) i ∷ []) .given ≡ false
+          → Sound (heldOf C (h .n) (withoutColumn C (h .entries) i))
+      new hi a =
+          let small = s .sized .1 in
+          let all = s .right .full in
+          let w : C .symbols * (i + 1) ≤ places C = mul-le-mul-left (C .symbols) (omega arith) in
+          let m = mul-add (C .symbols) i 1 in
+          let within : C .symbols * i + C .symbols ≤ length (h .entries) = omega arith in
+          let full = length-cleared C (h .entries) i within ∙ all in
+          holds (h .n) (withoutColumn C (h .entries) i) (s .sized) full
+          (λ j l. let below = cleared-below C (h .entries) i within j in let z = s .right .unused j l in omega arith)
+          (out-of-two (h .entries) (withoutColumn C (h .entries) i) full a)
+
+  add-sound : (h : Held) → Sound h → (o : Held) → Sound (addHeld C h o)
+  add-sound h s o =
+      whatever Sound (λ _ _. h) (heldOf C (h .n) (withAdded (h .entries) (o .entries))) (addTable C h o)
+      (or (λ _. s)
+      (λ _. or (λ _. s)
+      (λ n. or (λ _. s)
+      (λ _. or (λ _. s)
+      (λ t. or (λ _. s)
+      (λ a. last (new (sameSize-means (h .n) (o .n) n) (stored-means o t) a)))))))
+    where
+      new : h .n ≡ o .n → Rightly C o → inOrOut C (h .entries ∷ o .entries ∷ withAdded (h .entries) (o .entries) ∷ []) .given ≡ false
+          → Sound (heldOf C (h .n) (withAdded (h .entries) (o .entries)))
+      new same r a =
+          let full = length-added (h .entries) (o .entries) ∙ s .right .full in
+          holds (h .n) (withAdded (h .entries) (o .entries)) (s .sized) full
+          (λ j l.
+          elim (decLt j (length (h .entries))) [
+            | yes k ↦
+                let here = added-at (h .entries) (o .entries) j k in
+                let mine = s .right .unused j l in
+                let e = ap (λ (n : ℕ). C .symbols * n) same in
+                let theirs = r .unused j (omega arith) in
+                omega arith
+            | no k ↦ List·getD-eq-default (withAdded (h .entries) (o .entries)) 0 {n = j} (let e = length-added (h .entries) (o .entries) in omega arith)
+          ])
+          (out-of-three (h .entries) (o .entries) (withAdded (h .entries) (o .entries)) full a)
+
+-- an edit: an entry set, a column cleared, any record added
+pub data Edit : Type 0 where
+  setting : ℕ → ℕ → ℕ → Edit
+  clearing : ℕ → Edit
+  adding : Held → Edit
+
+module _ (C : Code) where
+  -- the record after an edit, accepted or refused, and after one edit after the other
+  pub after : Held → Edit → Held
+  after h (setting i b x) = setHeld C h i b x
+  after h (clearing i) = clearHeld C h i
+  after h (adding o) = addHeld C h o
+
+  pub afterAll : Held → List Edit → Held
+  afterAll h [] = h
+  afterAll h (s ∷ edits) = afterAll (after h s) edits
+
+  pub after-sound : (h : Held) (s : Edit) → Sound C h → Sound C (after h s)
+  unfolding after
+  after-sound h (setting i b x) r = set-sound C h r i b x
+  after-sound h (clearing i) r = clear-sound C h r i
+  after-sound h (adding o) r = add-sound C h r o
+
+  pub afterAll-sound : (h : Held) (edits : List Edit) → Sound C h → Sound C (afterAll h edits)
+  unfolding afterAll
+  afterAll-sound h [] r = r
+  afterAll-sound h (s ∷ edits) r = afterAll-sound (after h s) edits (after-sound h s r)
+
+  -- "After any sequence, the stored numbers equal those defined by the entries": from a fresh record, and from one that was turned from bytes
+  pub after-any-sequence : 2 ≤ C .positions → (n : ℕ) (edits : List Edit)
+      → afterAll (freshHeld C n) edits ≡ heldOf C (afterAll (freshHeld C n) edits .n) (afterAll (freshHeld C n) edits .entries)
+  after-any-sequence two n edits =
+      stored-numbers C (afterAll (freshHeld C n) edits) (afterAll-sound (freshHeld C n) edits (fresh-sound C two n) .right)
+
+  pub after-any-sequence-of-bytes : 2 ≤ C .positions → (n : ℕ) (m : List ℕ) (edits : List Edit)
+      → afterAll (bytesHeld C n m) edits ≡ heldOf C (afterAll (bytesHeld C n m) edits .n) (afterAll (bytesHeld C n m) edits .entries)
+  after-any-sequence-of-bytes two n m edits =
+      stored-numbers C (afterAll (bytesHeld C n m) edits) (afterAll-sound (bytesHeld C n m) edits (bytes-sound C two n m) .right)
