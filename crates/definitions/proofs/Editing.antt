@@ -14,14 +14,14 @@ use lib.ListN.{length, getD, drop, set, replicate, length-replicate, length-set,
 use lib.Seq.{getD-set-same, getD-set-other}
 use Rattle.definitions.proofs.Held.{Rightly, rightly-means, length-cleared, cleared-below, length-filled, filled-behind, place-within}
 use Rattle.definitions.proofs.Refusals.{first-within, first-above, before-above}
-use Rattle.definitions.proofs.Table.{whatever, Whatever, last, or, size-means, entries-mean, above-means}
+use Rattle.definitions.proofs.Table.{Accepts, next, end, whatever, last, or, size-means, entries-mean, above-means}
 use Rattle.definitions.proofs.Tools.{split, length-map-below, map-below-at, smallest-is, smallest-le, smallest-fails}
 use Rattle.definitions.proofs.Zeros.{zero-at}
-use Rattle.definitions.specs.Editing.{anyAbove, position, sameSize, symbol, stored, lowestAbove, inOrOut, noMatrix, freshHeld, bytesHeld, setTable, setHeld, clearTable, clearHeld, addTable, addHeld, freshTable, bytesTable}
+use Rattle.definitions.specs.Editing.{anyAbove, edited, position, sameSize, symbol, stored, lowestAbove, inOrOut, noMatrix, freshTable, freshHeld, bytesTable, bytesHeld, setTable, setHeld, clearTable, clearHeld, addTable, addHeld}
 use Rattle.definitions.specs.Field.{Code}
 use Rattle.definitions.specs.Held.{Held, held, places, noEntries, totalsOf, heldOf, filled, withEntry, withoutColumn, withAdded, rightly}
 use Rattle.definitions.specs.Limits.{greatestLevel}
-use Rattle.definitions.specs.Refusals.{firstAbove}
+use Rattle.definitions.specs.Refusals.{Line, firstAbove}
 use Rattle.definitions.specs.Tools.{below}
 use Rattle.definitions.specs.Weights.{cost}
 
@@ -142,7 +142,7 @@ module _ (C : Code) where
       let past = ltb-false (lowestAbove C es) (places C) e in
       smallest-fails (anyAbove es) (places C) j (omega arith)
 
-  -- so none of the one that comes out
+  -- so none of each of them
   out-low : (es : List (List ℕ)) (e : List ℕ) → length e ≡ places C → inOrOut C es .given ≡ false
       → ((j : ℕ) → anyAbove es j ≡ false → getD e j 0 ≤ greatestLevel) → (j : ℕ) → getD e j 0 ≤ greatestLevel
   out-low es e full given of j =
@@ -150,6 +150,9 @@ module _ (C : Code) where
         | yes l ↦ of j (inOrOut-means es given j l)
         | no n ↦ (let z = List·getD-eq-default e 0 {n = j} (omega arith) in omega arith)
       ]
+
+  pub in-low : (e : List ℕ) (es : List (List ℕ)) → length e ≡ places C → inOrOut C (e ∷ es) .given ≡ false → (j : ℕ) → getD e j 0 ≤ greatestLevel
+  in-low e es full given = out-low (e ∷ es) e full given (λ j n. low-first j e es n .0)
 
   pub out-of-two : (d e : List ℕ) → length e ≡ places C → inOrOut C (d ∷ e ∷ []) .given ≡ false → (j : ℕ) → getD e j 0 ≤ greatestLevel
   out-of-two d e full given = out-low (d ∷ e ∷ []) e full given (λ j n. low-first j e [] (low-first j d (e ∷ []) n .1) .0)
@@ -210,74 +213,47 @@ module _ (C : Code) where
             | no n ↦ (let z = filled-behind C m small j (omega arith) in omega arith)
           ]
 
-  set-sound : (h : Held) → Sound h → (i b x : ℕ) → Sound (setHeld C h i b x)
-  set-sound h s i b x =
-      whatever Sound (λ _ _. h) (heldOf C (h .n) (withEntry C (h .entries) i b x)) (setTable C h i b x)
-      (or (λ _. s)
-      (λ _. or (λ _. s)
-      (λ p. or (λ _. s)
-      (λ q. or (λ _. s)
-      (λ _. or (λ _. s)
-      (λ a. last (new (position-means (h .n) i p) (symbol-means b q) a)))))))
-    where
-      new : i < h .n → b < C .symbols → inOrOut C (h .entries ∷ withEntry C (h .entries) i b x ∷ []) .given ≡ false
-          → Sound (heldOf C (h .n) (withEntry C (h .entries) i b x))
-      new hi hb a =
-          let full = length-set (h .entries) (C .symbols * i + b) x ∙ s .right .full in
-          let w = mul-le-mul-left (C .symbols) hi in
-          let m = mul-suc (C .symbols) i in
-          holds (h .n) (withEntry C (h .entries) i b x) (s .sized) full
-          (λ j l. getD-set-other (h .entries) (C .symbols * i + b) j x 0 (λ e. let z : ⊥ = omega arith in z) ∙ s .right .unused j l)
-          (out-of-two (h .entries) (withEntry C (h .entries) i b x) full a)
+  -- what comes out of an edit of a record that is rightly held
+  module _ (h : Held) (sized : (2 ≤ h .n) × (h .n ≤ C .positions)) (right : Rightly C h) where
+    set-out : (i b x : ℕ) → i < h .n → b < C .symbols → inOrOut C (h .entries ∷ withEntry C (h .entries) i b x ∷ []) .given ≡ false
+        → Sound (heldOf C (h .n) (withEntry C (h .entries) i b x))
+    set-out i b x hi hb a =
+        let full = length-set (h .entries) (C .symbols * i + b) x ∙ right .full in
+        let w = mul-le-mul-left (C .symbols) hi in
+        let m = mul-suc (C .symbols) i in
+        holds (h .n) (withEntry C (h .entries) i b x) sized full
+        (λ j l. getD-set-other (h .entries) (C .symbols * i + b) j x 0 (λ e. let z : ⊥ = omega arith in z) ∙ right .unused j l)
+        (out-of-two (h .entries) (withEntry C (h .entries) i b x) full a)
 
-  clear-sound : (h : Held) → Sound h → (i : ℕ) → Sound (clearHeld C h i)
-  clear-sound h s i =
-      whatever Sound (λ _ _. h) (heldOf C (h .n) (withoutColumn C (h .entries) i)) (clearTable C h i)
-      (or (λ _. s)
-      (λ _. or (λ _. s)
-      (λ p. or (λ _. s)
-      (λ _. or (λ _. s)
-      (λ a. last (new (position-means (h .n) i p) a))))))
-    where
-      new : i < h .n → inOrOut C (h .entries ∷ withoutColumn C (h .entries) i ∷ []) .given ≡ false
-          → Sound (heldOf C (h .n) (withoutColumn C (h .entries) i))
-      new hi a =
-          let small = s .sized .1 in
-          let all = s .right .full in
-          let w : C .symbols * (i + 1) ≤ places C = mul-le-mul-left (C .symbols) (omega arith) in
-          let m = mul-add (C .symbols) i 1 in
-          let within : C .symbols * i + C .symbols ≤ length (h .entries) = omega arith in
-          let full = length-cleared C (h .entries) i within ∙ all in
-          holds (h .n) (withoutColumn C (h .entries) i) (s .sized) full
-          (λ j l. let below = cleared-below C (h .entries) i within j in let z = s .right .unused j l in omega arith)
-          (out-of-two (h .entries) (withoutColumn C (h .entries) i) full a)
+    clear-out : (i : ℕ) → i < h .n → inOrOut C (h .entries ∷ withoutColumn C (h .entries) i ∷ []) .given ≡ false
+        → Sound (heldOf C (h .n) (withoutColumn C (h .entries) i))
+    clear-out i hi a =
+        let small = sized .1 in
+        let all = right .full in
+        let w : C .symbols * (i + 1) ≤ places C = mul-le-mul-left (C .symbols) (omega arith) in
+        let m = mul-add (C .symbols) i 1 in
+        let within : C .symbols * i + C .symbols ≤ length (h .entries) = omega arith in
+        let full = length-cleared C (h .entries) i within ∙ all in
+        holds (h .n) (withoutColumn C (h .entries) i) sized full
+        (λ j l. let below = cleared-below C (h .entries) i within j in let z = right .unused j l in omega arith)
+        (out-of-two (h .entries) (withoutColumn C (h .entries) i) full a)
 
-  add-sound : (h : Held) → Sound h → (o : Held) → Sound (addHeld C h o)
-  add-sound h s o =
-      whatever Sound (λ _ _. h) (heldOf C (h .n) (withAdded (h .entries) (o .entries))) (addTable C h o)
-      (or (λ _. s)
-      (λ _. or (λ _. s)
-      (λ n. or (λ _. s)
-      (λ _. or (λ _. s)
-      (λ t. or (λ _. s)
-      (λ a. last (new (sameSize-means (h .n) (o .n) n) (stored-means o t) a)))))))
-    where
-      new : h .n ≡ o .n → Rightly C o → inOrOut C (h .entries ∷ o .entries ∷ withAdded (h .entries) (o .entries) ∷ []) .given ≡ false
-          → Sound (heldOf C (h .n) (withAdded (h .entries) (o .entries)))
-      new same r a =
-          let full = length-added (h .entries) (o .entries) ∙ s .right .full in
-          holds (h .n) (withAdded (h .entries) (o .entries)) (s .sized) full
-          (λ j l.
-          elim (decLt j (length (h .entries))) [
-            | yes k ↦
-                let here = added-at (h .entries) (o .entries) j k in
-                let mine = s .right .unused j l in
-                let e = ap (λ (n : ℕ). C .symbols * n) same in
-                let theirs = r .unused j (omega arith) in
-                omega arith
-            | no k ↦ List·getD-eq-default (withAdded (h .entries) (o .entries)) 0 {n = j} (let e = length-added (h .entries) (o .entries) in omega arith)
-          ])
-          (out-of-three (h .entries) (o .entries) (withAdded (h .entries) (o .entries)) full a)
+    add-out : (o : Held) → h .n ≡ o .n → Rightly C o → inOrOut C (h .entries ∷ o .entries ∷ withAdded (h .entries) (o .entries) ∷ []) .given ≡ false
+        → Sound (heldOf C (h .n) (withAdded (h .entries) (o .entries)))
+    add-out o same r a =
+        let full = length-added (h .entries) (o .entries) ∙ right .full in
+        holds (h .n) (withAdded (h .entries) (o .entries)) sized full
+        (λ j l.
+        elim (decLt j (length (h .entries))) [
+          | yes k ↦
+              let here = added-at (h .entries) (o .entries) j k in
+              let mine = right .unused j l in
+              let e = ap (λ (n : ℕ). C .symbols * n) same in
+              let theirs = r .unused j (omega arith) in
+              omega arith
+          | no k ↦ List·getD-eq-default (withAdded (h .entries) (o .entries)) 0 {n = j} (let e = length-added (h .entries) (o .entries) in omega arith)
+        ])
+        (out-of-three (h .entries) (o .entries) (withAdded (h .entries) (o .entries)) full a)
 
 -- an edit: an entry set, a column cleared, any record added
 pub data Edit : Type 0 where
@@ -286,21 +262,56 @@ pub data Edit : Type 0 where
   adding : Held → Edit
 
 module _ (C : Code) where
-  -- the record after an edit, accepted or refused, and after one edit after the other
-  pub after : Held → Edit → Held
-  after h (setting i b x) = setHeld C h i b x
-  after h (clearing i) = clearHeld C h i
-  after h (adding o) = addHeld C h o
+  -- its table, the record that comes out where it is accepted, and the record after it, accepted or refused
+  pub tableOf : Held → Edit → List Line
+  tableOf h (setting i b x) = setTable C h i b x
+  tableOf h (clearing i) = clearTable C h i
+  tableOf h (adding o) = addTable C h o
 
-  pub afterAll : Held → List Edit → Held
-  afterAll h [] = h
-  afterAll h (s ∷ edits) = afterAll (after h s) edits
+  pub outOf : Held → Edit → Held
+  outOf h (setting i b x) = heldOf C (h .n) (withEntry C (h .entries) i b x)
+  outOf h (clearing i) = heldOf C (h .n) (withoutColumn C (h .entries) i)
+  outOf h (adding o) = heldOf C (h .n) (withAdded (h .entries) (o .entries))
+
+  pub after : Held → Edit → Held
+  after h s = edited (tableOf h s) h (outOf h s)
+
+  -- as the promises have it
+  pub after-setting : (h : Held) (i b x : ℕ) → after h (setting i b x) ≡ setHeld C h i b x
+  unfolding after tableOf outOf
+  after-setting h i b x = refl
+
+  pub after-clearing : (h : Held) (i : ℕ) → after h (clearing i) ≡ clearHeld C h i
+  unfolding after tableOf outOf
+  after-clearing h i = refl
+
+  pub after-adding : (h o : Held) → after h (adding o) ≡ addHeld C h o
+  unfolding after tableOf outOf
+  after-adding h o = refl
+
+  -- "No accepted call hands out a record whose stored numbers are wrong", whatever record it is handed
+  pub accepted-sound : (h : Held) (s : Edit) → Accepts (tableOf h s) → Sound C (outOf h s)
+  unfolding tableOf outOf
+  accepted-sound h (setting i b x) (next n (next p (next q (next t (next a end))))) =
+      set-out C h (size-means C (h .n) n) (stored-means C h t) i b x (position-means (h .n) i p) (symbol-means C b q) a
+  accepted-sound h (clearing i) (next n (next p (next t (next a end)))) =
+      clear-out C h (size-means C (h .n) n) (stored-means C h t) i (position-means (h .n) i p) a
+  accepted-sound h (adding o) (next n (next m (next t (next u (next a end))))) =
+      add-out C h (size-means C (h .n) n) (stored-means C h t) o (sameSize-means (h .n) (o .n) m) (stored-means C o u) a
+
+  -- a table refuses, or accepts
+  either : (P : Held → Type 0) (before out : Held) (table : List Line) → P before → (Accepts table → P out) → P (edited table before out)
+  either P before out [] r f = f end
+  either P before out (l ∷ table) r f = split (l .given) (λ e. rw e r) (λ e. rw e (either P before out table r (λ a. f (next e a))))
 
   pub after-sound : (h : Held) (s : Edit) → Sound C h → Sound C (after h s)
   unfolding after
-  after-sound h (setting i b x) r = set-sound C h r i b x
-  after-sound h (clearing i) r = clear-sound C h r i
-  after-sound h (adding o) r = add-sound C h r o
+  after-sound h s r = either (Sound C) h (outOf h s) (tableOf h s) r (accepted-sound h s)
+
+  -- one edit after the other
+  pub afterAll : Held → List Edit → Held
+  afterAll h [] = h
+  afterAll h (s ∷ edits) = afterAll (after h s) edits
 
   pub afterAll-sound : (h : Held) (edits : List Edit) → Sound C h → Sound C (afterAll h edits)
   unfolding afterAll

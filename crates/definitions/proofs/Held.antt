@@ -13,7 +13,7 @@ use lib.ListN.{length, getD, take, drop, set, replicate, length-append, length-d
 use lib.Seq.{ext-getD, getD-take, getD-drop, getD-append-add, getD-set-same, getD-set-other, take-at, length-take-le}
 use Rattle.definitions.proofs.Every.{every-at, every-of}
 use Rattle.definitions.proofs.Sums.{sum-of-zeros, sum-blocks, sum-tail, sum-but}
-use Rattle.definitions.proofs.Tools.{both, length-map-below, map-below-at, sum-ext}
+use Rattle.definitions.proofs.Tools.{both, length-map-below, map-below-at, sum-ext, sum-bound}
 use Rattle.definitions.proofs.Zeros.{zeros-of-isZero, isZero-of-zeros, zero-at}
 use Rattle.definitions.specs.Field.{Code}
 use Rattle.definitions.specs.Held.{Held, places, noEntries, totalsOf, heldOf, filled, bytesOf, withEntry, withoutColumn, totalsRight, rightly}
@@ -64,6 +64,10 @@ module _ (C : Code) where
   pub total-at : (e : List ℕ) (i : ℕ) → i < C .positions → getD (totalsOf C e) i 0 ≡ sumOfColumn C e i
   total-at e i h = map-below-at (sumOfColumn C e) (C .positions) i 0 h
 
+  -- of entries of at most g
+  pub column-small : (e : List ℕ) (g : ℕ) → ((j : ℕ) → getD e j 0 ≤ g) → (i : ℕ) → sumOfColumn C e i ≤ C .symbols * g
+  column-small e g low i = sum-bound (C .symbols) g (entry C e i) (λ c _. low (C .symbols * i + c))
+
   -- a column's total as it is stored anew, where no other column has moved
   pub total-moved : (d e : List ℕ) (i t : ℕ) → i < C .positions → t ≡ sumOfColumn C e i
       → ((j : ℕ) → j < C .positions → (j ≡ i → ⊥) → sumOfColumn C d j ≡ sumOfColumn C e j) → set (totalsOf C d) i t ≡ totalsOf C e
@@ -84,7 +88,8 @@ module _ (C : Code) where
   -- ---- an entry that is set
 
   module _ (e : List ℕ) (i b x : ℕ) (hb : b < C .symbols) (h : C .symbols * i + b < length e) where
-    column-set : sumOfColumn C (withEntry C e i b x) i + entry C e i b ≡ sumOfColumn C e i + x
+    -- the column's sum after setting, and the old entry, are the sum before and the new entry
+    pub column-set : sumOfColumn C (withEntry C e i b x) i + entry C e i b ≡ sumOfColumn C e i + x
     column-set =
         let f = entry C (withEntry C e i b x) i in
         let g = entry C e i in
@@ -201,6 +206,16 @@ module _ (C : Code) where
         let b = in-blocks e full in
         omega arith
 
+  -- a column alone costs what its entries cost
+  pub cost-of-column : (e : List ℕ) (i : ℕ) → C .symbols * i + C .symbols ≤ length e
+      → cost (take (C .symbols) (drop (C .symbols * i) e)) ≡ sum (C .symbols) (λ (c : ℕ). entryCost (entry C e i c))
+  cost-of-column e i h =
+      let part = take (C .symbols) (drop (C .symbols * i) e) in
+      let rest = length-drop (C .symbols * i) e in
+      ap (λ (s : ℕ). sum s (λ (c : ℕ). entryCost (getD part c 0))) (length-take-le (C .symbols) (drop (C .symbols * i) e) (omega arith))
+      ∙ sum-ext (C .symbols) (λ c. entryCost (getD part c 0)) (λ c. entryCost (entry C e i c))
+      (λ c hc. ap entryCost (getD-take (C .symbols) (drop (C .symbols * i) e) c 0 hc ∙ getD-drop (C .symbols * i) e c 0))
+
   -- ---- bytes, and the entries of a record
 
   module _ (m : List ℕ) (h : length m ≤ places C) where
@@ -223,6 +238,18 @@ module _ (C : Code) where
     pub cost-filled : cost (filled C m) ≡ cost m
     cost-filled =
         cost-of-front (filled C m) (length m) (let s = length-filled in omega arith) filled-behind ∙ ap cost filled-front
+
+  -- of zeros alone all is zero
+  pub cost-none : cost (noEntries C) ≡ 0
+  cost-none = sum-of-zeros (length (noEntries C)) (λ j. entryCost (getD (noEntries C) j 0)) (λ j. ap entryCost (zero-at (places C) j))
+
+  pub totals-none : totalsOf C (noEntries C) ≡ replicate (C .positions) 0
+  totals-none =
+      let size = length-replicate {A = ℕ} (C .positions) 0 in
+      ext-getD 0 (totalsOf C (noEntries C)) (replicate (C .positions) 0) (length-totals (noEntries C) ∙ sym size)
+      (λ i l.
+      total-at (noEntries C) i (let s = length-totals (noEntries C) in omega arith)
+      ∙ sum-of-zeros (C .symbols) (entry C (noEntries C) i) (λ b. zero-at (places C) (C .symbols * i + b)) ∙ sym (zero-at (C .positions) i))
 
   -- ---- a record that is rightly held
 
@@ -272,9 +299,6 @@ module _ (C : Code) where
   module _ (h : Held) (r : Rightly h) (small : h .n ≤ C .positions) where
     used-within : C .symbols * h .n ≤ length (h .entries)
     used-within = let w = mul-le-mul-left (C .symbols) small in let s = r .full in omega arith
-
-    pub length-bytes : length (bytesOf C h) ≡ C .symbols * h .n
-    length-bytes = length-take-le (C .symbols * h .n) (h .entries) used-within
 
     -- the stored cost is that of the bytes
     pub cost-bytes : h .cost ≡ cost (bytesOf C h)

@@ -17,7 +17,7 @@ use Rattle.definitions.proofs.Tools.{smallest-le}
 use Rattle.definitions.specs.Answers.{Answer, refused, valued, counted, costed, sumAnswer, productAnswer, inverseAnswer, encodeAnswer, multiplicitiesAnswer, costAnswer, interpolated, Interpolated, InterpolationAnswers, rootsAnswer, listAnswer, readAnswer}
 use Rattle.definitions.specs.Bound.{count, bound}
 use Rattle.definitions.specs.Field.{sixteen, inverseOf}
-use Rattle.definitions.specs.Limits.{greatestLevel, greatestRows}
+use Rattle.definitions.specs.Limits.{greatestLevel, greatestLimit, greatestRows}
 use Rattle.definitions.specs.Listing.{listOf}
 use Rattle.definitions.specs.Refusals.{Line, tried, noneAbove, firstAbove, badColumn, columns, fieldTable, inverseTable, encodeTable, multiplicitiesTable, costTable, interpolationTable, rootsTable, listTable, readTable}
 use Rattle.definitions.specs.Roots.{rootsOf}
@@ -26,33 +26,33 @@ use Rattle.definitions.specs.Weights.{matrix, cost}
 use Rattle.exports.specs.Crossing.{Narrow}
 use Rattle.instances.proofs.Codes.{sixteen-field}
 use Rattle.root_tree.proofs.Roots.{roots-at-most}
-use Rattle.weights.proofs.Cost.{cost-small}
+use Rattle.matrix.proofs.Columns.{cost-small}
 
-refused-narrow : (number place : ℕ) → place < 65536 → Narrow (refused number place)
+pub refused-narrow : (number place : ℕ) → place < 65536 → Narrow (refused number place)
 refused-narrow number place h = record { place = h; count = omega arith; value = omega arith; cost = omega arith; bound = omega arith }
 
 valued-narrow : (x : ℕ) → x < 65536 → Narrow (valued x)
 valued-narrow x h = record { place = omega arith; count = omega arith; value = h; cost = omega arith; bound = omega arith }
 
-counted-narrow : (n : ℕ) → n < 65536 → Narrow (counted n)
+pub counted-narrow : (n : ℕ) → n < 65536 → Narrow (counted n)
 counted-narrow n h = record { place = omega arith; count = h; value = omega arith; cost = omega arith; bound = omega arith }
 
-costed-narrow : (c d : ℕ) → c < 65536 → d < 65536 → Narrow (costed c d)
+pub costed-narrow : (c d : ℕ) → c < 65536 → d < 65536 → Narrow (costed c d)
 costed-narrow c d h k = record { place = omega arith; count = omega arith; value = omega arith; cost = h; bound = k }
 
 -- a table whose refusals have small places, and what is accepted
-abbrev Table : Answer → List Line → Type 0
+abbrev pub Table : Answer → List Line → Type 0
 Table accepted = Whatever (λ number place. Narrow (refused number place)) (Narrow accepted)
 
-narrow : (accepted : Answer) (table : List Line) → Table accepted table → Narrow (tried table refused accepted)
+pub narrow : (accepted : Answer) (table : List Line) → Table accepted table → Narrow (tried table refused accepted)
 narrow accepted = whatever Narrow refused accepted
 
 -- a refusal at place 0
-at-none : {number : ℕ} → Narrow (refused number 0)
+pub at-none : {number : ℕ} → Narrow (refused number 0)
 at-none {number} = refused-narrow number 0 (omega arith)
 
 -- a refusal at the first of few numbers above the greatest
-at-first : (greatest : ℕ) (l : List ℕ) → length l < 65536 → noneAbove greatest l .given ≡ true → Narrow (refused 5 (firstAbove greatest l))
+pub at-first : (greatest : ℕ) (l : List ℕ) → length l < 65536 → noneAbove greatest l .given ≡ true → Narrow (refused 5 (firstAbove greatest l))
 at-first greatest l h e = refused-narrow 5 (firstAbove greatest l) (let bad = ltb-true (firstAbove greatest l) (length l) e in omega arith)
 
 -- a refusal at the first of few positions whose numbers sum to more than 4,096
@@ -106,34 +106,36 @@ cost-narrow n k m =
     let full = entries-mean (sixteen .symbols * n) m l in
     or (at-first greatestLevel m (omega arith)) (λ e.
     let none = above-means greatestLevel m e in
-    let small = cost-small sixteen m n (fits .2) full none in
+    let small = cost-small sixteen m (omega arith) none in
     let degree = bound-le (k - 1) (omega arith) (cost m) in
     last (costed-narrow (cost m) (bound (k - 1) (cost m)) (omega arith) (omega arith))))))
 
 interpolated-narrow : (D n : ℕ) → D < 65536 → n < 65536 → Narrow (interpolated D n)
 interpolated-narrow D n h k = record { place = omega arith; count = k; value = omega arith; cost = omega arith; bound = h }
 
+-- a polynomial that is found of a matrix within the limit
+pub found-narrow : (n k G : ℕ) (m out : List ℕ) (answer : Answer) (after : List ℕ) → 2 ≤ k → G ≤ greatestLimit → cost m ≤ G → Interpolated sixteen n k m out answer after
+    → Narrow answer
+found-narrow n k G m out answer after two limit paid found =
+    let size = found .1 .size in
+    let wide = coefficients-fit (k - 1) (omega arith) (cost m) (omega arith) in
+    let degree = bound-le (k - 1) (omega arith) (cost m) in
+    rw (found .2) (interpolated-narrow (bound (k - 1) (cost m)) (length (found .0)) (omega arith) (omega arith))
+
+pub so-refused : {answer : Answer} {after out : List ℕ} {number place : ℕ} → Narrow (refused number place) → (answer ≡ refused number place) × (after ≡ out) → Narrow answer
+so-refused narrow-refused p = rw (p .0) narrow-refused
+
 -- an answer that interpolation's promise allows
 pub interpolation-narrow : (n k G : ℕ) (m out : List ℕ) (answer : Answer) (after : List ℕ) → InterpolationAnswers sixteen n k G m out answer after → Narrow answer
 interpolation-narrow n k G m out answer after =
     whatever (λ (X : Type 0). X → Narrow answer) (λ number place. (answer ≡ refused number place) × (after ≡ out)) (Interpolated sixteen n k m out answer after)
     (interpolationTable sixteen n k G m (length out))
-    (or (λ _. so at-none) (λ s.
+    (or (λ _. so-refused at-none) (λ s.
     let fits = sizes-mean sixteen n k s in
-    or (λ _. so at-none) (λ g.
-    let limit = limit-means G g in
-    or (λ _. so at-none) (λ l.
+    or (λ _. so-refused at-none) (λ g. or (λ _. so-refused at-none) (λ l.
     let full = entries-mean (sixteen .symbols * n) m l in
-    or (λ _. so at-none) (λ _. or (λ e. so (at-first greatestLevel m (omega arith) e)) (λ _. or (λ _. so at-none) (λ c.
-    let paid = cost-means G m c in
-    last (λ found.
-    let size = found .1 .size in
-    let wide = coefficients-fit (k - 1) (omega arith) (cost m) (omega arith) in
-    let degree = bound-le (k - 1) (omega arith) (cost m) in
-    rw (found .2) (interpolated-narrow (bound (k - 1) (cost m)) (length (found .0)) (omega arith) (omega arith))))))))))
-  where
-    so : {number place : ℕ} → Narrow (refused number place) → (answer ≡ refused number place) × (after ≡ out) → Narrow answer
-    so narrow-refused p = rw (p .0) narrow-refused
+    or (λ _. so-refused at-none) (λ _. or (λ e. so-refused (at-first greatestLevel m (omega arith) e)) (λ _. or (λ _. so-refused at-none) (λ c.
+    last (found-narrow n k G m out answer after (fits .0) (limit-means G g) (cost-means G m c)))))))))
 
 pub roots-narrow : (D k : ℕ) (q out : List ℕ) → Narrow (rootsAnswer sixteen D k q out)
 roots-narrow D k q out =
@@ -152,10 +154,10 @@ roots-narrow D k q out =
     last (counted-narrow (length (rootsOf sixteen D k q)) (omega arith)))))))))
 
 -- an answer that counts few rows
-abbrev Few : Answer → Type 0
+abbrev pub Few : Answer → Type 0
 Few answer = answer .count ≤ greatestRows → Narrow answer
 
-few-narrow : (accepted : ℕ) (table : List Line) → Whatever (λ number place. Few (refused number place)) (Few (counted accepted)) table → Few (tried table refused (counted accepted))
+pub few-narrow : (accepted : ℕ) (table : List Line) → Whatever (λ number place. Few (refused number place)) (Few (counted accepted)) table → Few (tried table refused (counted accepted))
 few-narrow accepted = whatever Few refused (counted accepted)
 
 pub list-narrow : (n k G : ℕ) (m rows scores : List ℕ) → Few (listAnswer sixteen n k G m rows scores)

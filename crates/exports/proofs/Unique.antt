@@ -8,14 +8,16 @@ use Rattle.refusals.proofs.Unique.{one-counted}
 use Rattle.refusals.specs.Counted.{toldCounted}
 use Rattle.refusals.specs.declared.Counted.{Counted}
 use Rattle.definitions.specs.Answers.{Answer, sumAnswer, productAnswer, inverseAnswer, encodeAnswer, encodeOut, multiplicitiesAnswer, multiplicitiesOut, costAnswer, InterpolationAnswers, rootsAnswer, rootsOut, listAnswer, listRows, listScores, readAnswer, readRows, readScores}
+use Rattle.definitions.specs.Editing.{heldCostAnswer, HeldInterpolationAnswers, heldListAnswer, heldListRows, heldListScores}
 use Rattle.definitions.specs.Field.{sixteen}
+use Rattle.definitions.specs.Held.{Held}
 use Rattle.exports.specs.Crossing.{answerOf}
 use Rattle.exports.specs.declared.Answer as crossing
 use Rattle.field.proofs.Unique.{one-element}
 use Rattle.field.specs.Element.{toldElement}
 use Rattle.field.specs.declared.Element.{Element}
 use Rattle.instances.proofs.Codes.{sixteen-field}
-use Rattle.interpolation.proofs.Unique.{interpolation-unique, numbers-unique}
+use Rattle.interpolation.proofs.Unique.{interpolation-unique, held-interpolation-unique, numbers-unique, held-numbers-unique}
 use Rattle.interpolation.specs.Interpolated.{toldInterpolated}
 use Rattle.interpolation.specs.declared.Interpolated.{Interpolated}
 use Rattle.weights.proofs.Unique.{one-costed}
@@ -81,6 +83,22 @@ pub list-of-reliabilities-unique : (n k L G : ℕ) (r rows scores : List ℕ) (x
 list-of-reliabilities-unique n k L G r rows scores =
     listed-unique (readAnswer sixteen n k L G r rows scores) (readRows sixteen n k L G r rows scores) (readScores sixteen n k L G r rows scores)
 
+-- the entries that take a record
+pub matrix-cost-unique : (h : Held) (k : ℕ) (x y : Costed) → toldCosted x ≡ heldCostAnswer sixteen h k → toldCosted y ≡ heldCostAnswer sixteen h k → x ≡ y
+matrix-cost-unique h k x y = one-costed
+
+pub matrix-interpolate-unique : (h : Held) (k G : ℕ) (out : List ℕ) (x y : Interpolated) (after again : List ℕ)
+    → HeldInterpolationAnswers sixteen h k G out (toldInterpolated x) after → HeldInterpolationAnswers sixteen h k G out (toldInterpolated y) again
+    → (x ≡ y) × (after ≡ again)
+matrix-interpolate-unique = held-interpolation-unique
+
+pub matrix-list-unique : (h : Held) (k G : ℕ) (rows scores : List ℕ) (x y : Counted) (rowsAfter scoresAfter rowsAgain scoresAgain : List ℕ)
+    → (toldCounted x ≡ heldListAnswer sixteen h k G rows scores) × (rowsAfter ≡ heldListRows sixteen h k G rows scores) × (scoresAfter ≡ heldListScores sixteen h k G rows scores)
+    → (toldCounted y ≡ heldListAnswer sixteen h k G rows scores) × (rowsAgain ≡ heldListRows sixteen h k G rows scores) × (scoresAgain ≡ heldListScores sixteen h k G rows scores)
+    → (x ≡ y) × (rowsAfter ≡ rowsAgain) × (scoresAfter ≡ scoresAgain)
+matrix-list-unique h k G rows scores =
+    listed-unique (heldListAnswer sixteen h k G rows scores) (heldListRows sixteen h k G rows scores) (heldListScores sixteen h k G rows scores)
+
 -- an answer as it crosses to C is told by its numbers
 pub crossing-unique : (a : Answer) (x y : crossing.Answer) → answerOf x ≡ a → answerOf y ≡ a → x ≡ y
 crossing-unique a x y p q = ap back (p ∙ sym q)
@@ -94,3 +112,9 @@ pub crossing-interpolate-unique : (n k G : ℕ) (m out : List ℕ) (x y : crossi
     → (x ≡ y) × (after ≡ again)
 crossing-interpolate-unique n k G m out x y after again p q =
     let u = numbers-unique sixteen sixteen-field n k G m out (answerOf x) (answerOf y) after again p q in (crossing-unique (answerOf y) x y (u .0) refl, u .1)
+
+pub crossing-matrix-interpolate-unique : (h : Held) (k G : ℕ) (out : List ℕ) (x y : crossing.Answer) (after again : List ℕ)
+    → HeldInterpolationAnswers sixteen h k G out (answerOf x) after → HeldInterpolationAnswers sixteen h k G out (answerOf y) again
+    → (x ≡ y) × (after ≡ again)
+crossing-matrix-interpolate-unique h k G out x y after again p q =
+    let u = held-numbers-unique sixteen sixteen-field h k G out (answerOf x) (answerOf y) after again p q in (crossing-unique (answerOf y) x y (u .0) refl, u .1)

@@ -27,7 +27,7 @@ use Rattle.linear.specs.Rows.{Solves, Reduced, Solved, Led}
 use Rattle.interpolation.proofs.Conditions.{length-conditions, conditions-symbols, conditions-wide, through-solves, solves-through}
 use Rattle.interpolation.specs.Found.{Given, Found}
 use Rattle.blocks.specs.Row.{width, block, blocksFor}
-use Rattle.weights.specs.Matrix.{matrixOf, matrixCost}
+use Rattle.matrix.specs.Columns.{matrixOf, matrixCost}
 
 -- ---- the leading coefficient
 

@@ -29,7 +29,7 @@ use Rattle.linear.specs.Rows.{Solves}
 use Rattle.interpolation.proofs.Loaded.{entry-is, used}
 use Rattle.interpolation.proofs.Placing.{place-of, placed-at, placed-each}
 use Rattle.blocks.specs.Row.{width, block}
-use Rattle.weights.specs.Matrix.{matrixOf, columnCost, matrixCost}
+use Rattle.matrix.specs.Columns.{matrixOf, columnCost, matrixCost}
 
 -- ---- how many
 

@@ -10,8 +10,8 @@ use lib.ListN.{length, List·getD-eq-default}
 use Rattle.algebra.specs.Grid.{entryOf}
 use Rattle.definitions.specs.Field.{Code}
 use Rattle.definitions.specs.Weights.{entry}
-use Rattle.weights.proofs.Cost.{matrix-entry}
-use Rattle.weights.specs.Matrix.{matrixOf}
+use Rattle.matrix.proofs.Columns.{matrix-entry}
+use Rattle.matrix.specs.Columns.{matrixOf}
 
 module _ (C : Code) (m : List ℕ) (n : ℕ) (small : n ≤ C .positions) (size : length m ≡ C .symbols * n) (a : List (List ℕ)) (loaded : a ≡ matrixOf C m n) where
   -- the entry of a position and a symbol is that of the bytes

@@ -14,7 +14,9 @@ use Rattle.definitions.proofs.Zeros.{isZero-false}
 use Rattle.definitions.specs.Answers.{Answer, refused, interpolated, Interpolated, InterpolationAnswers}
 use Rattle.definitions.specs.Bound.{bound}
 use Rattle.definitions.specs.Code.{Symbols}
+use Rattle.definitions.specs.Editing.{heldInterpolationTable, HeldInterpolationAnswers}
 use Rattle.definitions.specs.Field.{Code, sixteen}
+use Rattle.definitions.specs.Held.{Held, bytesOf}
 use Rattle.definitions.specs.Polynomial.{Interpolates, leading}
 use Rattle.definitions.specs.Refusals.{Line, tried, interpolationTable}
 use Rattle.definitions.specs.Tools.{sum}
@@ -23,6 +25,7 @@ use Rattle.linear.proofs.Leading.{leading-is}
 use Rattle.linear.proofs.Unique.{interpolates-unique}
 use Rattle.instances.proofs.Codes.{sixteen-field}
 use Rattle.refusals.proofs.Unique.{same-told, answerOf, refused-back}
+use Rattle.interpolation.specs.Answered.{Answered}
 use Rattle.interpolation.specs.Interpolated.{toldInterpolated}
 use Rattle.interpolation.specs.declared.Interpolated as Declared
 use Rattle.interpolation.specs.declared.Interpolated.the-variants.{Of, Refused}
@@ -49,12 +52,21 @@ module _ (C : Code) (F : FieldOf C) (n k G : ℕ) (m out : List ℕ) where
         x .3 ∙ ap (λ (q : List ℕ). q ++ drop (length q) out) e ∙ sym (y .3),
       )
 
-  -- of the numbers of the answer
+  -- of the numbers of the answer, whatever the table
+  answered-unique : (table : List Line) (a b : Answer) (after later : List ℕ) → Answered C table n k m out a after → Answered C table n k m out b later
+      → (a ≡ b) × (after ≡ later)
+  answered-unique table a b after later =
+      tried-unique out a b after later (Interpolated C n k m out a after) (Interpolated C n k m out b later) (accepted-unique a b after later) table
+
+  -- so of bytes
   pub numbers-unique : (a b : Answer) (after later : List ℕ) → InterpolationAnswers C n k G m out a after → InterpolationAnswers C n k G m out b later
       → (a ≡ b) × (after ≡ later)
-  numbers-unique a b after later =
-      tried-unique out a b after later (Interpolated C n k m out a after) (Interpolated C n k m out b later) (accepted-unique a b after later)
-      (interpolationTable C n k G m (length out))
+  numbers-unique = answered-unique (interpolationTable C n k G m (length out))
+
+-- and of a record
+pub held-numbers-unique : (C : Code) → FieldOf C → (h : Held) (k G : ℕ) (out : List ℕ) (a b : Answer) (after later : List ℕ) → HeldInterpolationAnswers C h k G out a after
+    → HeldInterpolationAnswers C h k G out b later → (a ≡ b) × (after ≡ later)
+held-numbers-unique C F h k G out = answered-unique C F (h .n) k G (bytesOf C h) out (heldInterpolationTable C h k G (length out))
 
 -- the answer of its numbers
 interpolatedOf : Answer → Declared.Interpolated
@@ -67,12 +79,20 @@ interpolated-back (Of bound count) = refl
 interpolated-back (Refused r) = refused-back (λ a. Of (a .bound) (a .count)) Refused r
 
 -- two answers with their memories that the promise allows are equal
+told-unique : {x y : Declared.Interpolated} {after later : List ℕ} → (toldInterpolated x ≡ toldInterpolated y) × (after ≡ later) → (x ≡ y) × (after ≡ later)
+told-unique u = (same-told toldInterpolated interpolatedOf interpolated-back (u .0) refl, u .1)
+
 pub interpolation-unique : (n k G : ℕ) (m out : List ℕ) (x y : Declared.Interpolated) (after later : List ℕ)
     → InterpolationAnswers sixteen n k G m out (toldInterpolated x) after → InterpolationAnswers sixteen n k G m out (toldInterpolated y) later
     → (x ≡ y) × (after ≡ later)
 interpolation-unique n k G m out x y after later p q =
-    let u = numbers-unique sixteen sixteen-field n k G m out (toldInterpolated x) (toldInterpolated y) after later p q in
-    (same-told toldInterpolated interpolatedOf interpolated-back (u .0) refl, u .1)
+    told-unique (numbers-unique sixteen sixteen-field n k G m out (toldInterpolated x) (toldInterpolated y) after later p q)
+
+pub held-interpolation-unique : (h : Held) (k G : ℕ) (out : List ℕ) (x y : Declared.Interpolated) (after later : List ℕ)
+    → HeldInterpolationAnswers sixteen h k G out (toldInterpolated x) after → HeldInterpolationAnswers sixteen h k G out (toldInterpolated y) later
+    → (x ≡ y) × (after ≡ later)
+held-interpolation-unique h k G out x y after later p q =
+    told-unique (held-numbers-unique sixteen sixteen-field h k G out (toldInterpolated x) (toldInterpolated y) after later p q)
 
 -- ---- all multiplicities zero
 

@@ -9,11 +9,14 @@ use Rattle.definitions.specs.Bound.{bound, count}
 use Rattle.definitions.specs.Field.{Code}
 use Rattle.definitions.specs.Limits.{greatestLimit}
 use Rattle.definitions.specs.Polynomial.{Interpolates, leading}
-use Rattle.weights.specs.Matrix.{matrixOf, matrixCost}
+use Rattle.matrix.specs.Columns.{matrixOf, matrixCost}
 
--- the rows of the middle one of three systems: no tag costs more up to level 3
+-- the rows of the middle and of the upper one of four systems: no tag costs more up to level 3, and up to level 4
 abbrev pub middleRows : ℕ
 middleRows = 6 * block
+
+abbrev pub upperRows : ℕ
+upperRows = 10 * block
 
 -- a matrix within limits, its cost, its bound and how many coefficients that has, for which there is room
 pub record Given (C : Code) (a : List (List ℕ)) (v D w cost : ℕ) (out : List ℕ) : Type 0 where

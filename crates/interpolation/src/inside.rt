@@ -1,23 +1,28 @@
 // The polynomial of what is within limits already.
-ghost use mathlib.Core.Path.{_≡_};
-ghost use Prim.Native.Nat.{_≤_, _<_};
-ghost use lib.ListN.{length};
-ghost use Rattle.definitions.specs.Bound.{bound};
+ghost use mathlib.Core.List.{[], _∷_};
+ghost use Prim.Native.Nat.{_*_, _≤_, _<_};
+ghost use lib.ListN.{length, take};
 ghost use Rattle.definitions.specs.Field.{sixteen};
-ghost use Rattle.definitions.specs.Limits.{greatestLimit};
+ghost use Rattle.definitions.specs.Refusals.{costWithin};
 ghost use Rattle.conditions.specs.Masks.{Clear};
 ghost use Rattle.linear.specs.Rows.{Led};
-ghost use Rattle.interpolation.specs.Found.{middleRows, Given, Found};
+ghost use Rattle.interpolation.specs.Answered.{Fit, Answered};
+ghost use Rattle.interpolation.specs.Found.{middleRows, upperRows, Given, Found};
+ghost use Rattle.interpolation.specs.Interpolated.{toldInterpolated};
 ghost use Rattle.blocks.specs.Row.{block};
-ghost use Rattle.weights.specs.Matrix.{matrixCost};
+ghost use Rattle.matrix.specs.Columns.{FrontCosts};
+use crate::Interpolated;
 use blocks::BLOCK;
 use blocks::WIDTH;
+use refusals::Refusal;
 use refusals::limits::GREATEST_LIMIT;
 use refusals::limits::POSITIONS;
 use refusals::limits::SYMBOLS;
 
-// The rows of the middle one of three systems: no tag costs more up to level 3.
+// The rows of the middle and of the upper one of four systems: no tag costs more up to level 3, and up to level 4.
 const MIDDLE_ROWS: usize = 6 * BLOCK;
+
+const UPPER_ROWS: usize = 10 * BLOCK;
 
 // 1 at place j, and zeros behind it.
 fn lead(j: usize, count: usize, out: &mut [u8])
@@ -87,6 +92,22 @@ fn middle_polynomial(
     polynomial_in(&mut system, matrix, v, d, count, cost, out)
 }
 
+// In a system of the upper size.
+fn upper_polynomial(
+    matrix: &[[u8; SYMBOLS]; POSITIONS],
+    v: usize,
+    d: usize,
+    count: usize,
+    cost: usize,
+    out: &mut [u8],
+) -> usize
+    requires { ⌜ Given sixteen (now matrix) v d count cost (now out) × (cost ≤ upperRows) ⌝ }
+    ensures { λ r. ⌜ Found sixteen (now (matrix .entry)) v d (now (out .entry)) r (now (out .exit)) ⌝ }
+{
+    let mut system = [[0u8; WIDTH]; UPPER_ROWS];
+    polynomial_in(&mut system, matrix, v, d, count, cost, out)
+}
+
 // In a system of as many rows as the greatest limit.
 fn large_polynomial(
     matrix: &[[u8; SYMBOLS]; POSITIONS],
@@ -109,18 +130,44 @@ pub fn polynomial(
     v: usize,
     d: usize,
     count: usize,
+    cost: usize,
     out: &mut [u8],
 ) -> usize
-    requires { ⌜ (0 < v) × (matrixCost sixteen (now matrix) ≤ greatestLimit) ⌝ }
-    requires { ⌜ (d ≡ bound v (matrixCost sixteen (now matrix))) × (count ≡ Rattle.definitions.specs.Bound.count v d) × (count ≤ length (now out)) ⌝ }
+    requires { ⌜ Given sixteen (now matrix) v d count cost (now out) ⌝ }
     ensures { λ r. ⌜ Found sixteen (now (matrix .entry)) v d (now (out .entry)) r (now (out .exit)) ⌝ }
 {
-    let cost = weights::inside::cost(matrix);
     if cost <= BLOCK {
         return small_polynomial(matrix, v, d, count, cost, out);
     }
     if cost <= MIDDLE_ROWS {
         return middle_polynomial(matrix, v, d, count, cost, out);
     }
+    if cost <= UPPER_ROWS {
+        return upper_polynomial(matrix, v, d, count, cost, out);
+    }
     large_polynomial(matrix, v, d, count, cost, out)
+}
+
+// What passed the checks of its table is interpolated, where it costs no more than the limit.
+pub fn interpolate_priced(
+    entries: &[u8],
+    n: usize,
+    cost: usize,
+    k: usize,
+    limit: usize,
+    out: &mut [u8],
+) -> Interpolated
+    requires { ⌜ Fit sixteen n k limit (length (now out)) ⌝ }
+    requires { ⌜ FrontCosts sixteen n cost (now entries) ⌝ }
+    ensures { λ r. ⌜ Answered sixteen (costWithin limit (take (sixteen .symbols * n) (now (entries .entry))) ∷ []) n k (take (sixteen .symbols * n) (now (entries .entry))) (now (out .entry)) (toldInterpolated r) (now (out .exit)) ⌝ }
+{
+    if limit < cost {
+        return Interpolated::Refused(Refusal::Cost);
+    }
+    let columns = matrix::opened(entries, n);
+    let v = k - 1;
+    let bound = bound::bound(v, cost);
+    let count = bound::count(v, bound);
+    polynomial(&columns, v, bound, count, cost, out);
+    Interpolated::Of { bound, count }
 }

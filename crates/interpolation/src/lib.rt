@@ -1,10 +1,14 @@
 // Interpolation: the polynomial with the smallest leading monomial.
 ghost use Rattle.definitions.specs.Answers.{InterpolationAnswers};
+ghost use Rattle.definitions.specs.Editing.{HeldInterpolationAnswers};
 ghost use Rattle.definitions.specs.Field.{sixteen};
+ghost use Rattle.definitions.specs.Held.{held};
 ghost use Rattle.interpolation.specs.Interpolated.{toldInterpolated};
+ghost use Rattle.matrix.specs.Record.{heldBy};
 
 pub mod inside;
 
+use matrix::Matrix;
 use refusals::Checked;
 use refusals::Refusal;
 use refusals::limits::COEFFICIENT_ROOM;
@@ -28,14 +32,38 @@ pub fn interpolate(n: usize, k: usize, limit: usize, matrix: &[u8], out: &mut [u
     if let Checked::Refused(r) = checked {
         return Interpolated::Refused(r);
     }
-    let columns = weights::inside::load(matrix, n);
-    let cost = weights::inside::cost(&columns);
-    if limit < cost {
-        return Interpolated::Refused(Refusal::Cost);
+    let m = matrix::of_bytes(n, matrix);
+    let entries = m.entries;
+    inside::interpolate_priced(&entries, n, m.cost, k, limit, out)
+}
+
+// Of a matrix record whose parts are lent.
+pub fn interpolate_parts(
+    n: usize,
+    cost: usize,
+    totals: &[u16],
+    entries: &[u8],
+    k: usize,
+    limit: usize,
+    out: &mut [u8],
+) -> Interpolated
+    ensures { λ r. ⌜ HeldInterpolationAnswers sixteen (held n cost (now (totals .entry)) (now (entries .entry))) k limit (now (out .entry)) (toldInterpolated r) (now (out .exit)) ⌝ }
+{
+    let checked = Checked::sizes(n, k)
+        .or(GREATEST_LIMIT < limit, Refusal::Setting)
+        .or(!matrix::rightly(n, cost, totals, entries), Refusal::Length)
+        .or(out.len() < COEFFICIENT_ROOM, Refusal::Room)
+        .symbols(GREATEST_ENTRY, entries);
+    if let Checked::Refused(r) = checked {
+        return Interpolated::Refused(r);
     }
-    let v = k - 1;
-    let bound = bound::bound(v, cost);
-    let count = bound::count(v, bound);
-    inside::polynomial(&columns, v, bound, count, out);
-    Interpolated::Of { bound, count }
+    inside::interpolate_priced(entries, n, cost, k, limit, out)
+}
+
+pub fn interpolate_matrix(m: Matrix, k: usize, limit: usize, out: &mut [u8]) -> Interpolated
+    ensures { λ r. ⌜ HeldInterpolationAnswers sixteen (heldBy m) k limit (now (out .entry)) (toldInterpolated r) (now (out .exit)) ⌝ }
+{
+    let totals = m.totals;
+    let entries = m.entries;
+    interpolate_parts(m.n, m.cost, &totals, &entries, k, limit, out)
 }

@@ -1,19 +1,23 @@
 -- What a list answers and leaves: where a check refuses, where the cost does, and where the rows are listed.
 -- Assumes nothing.
 use mathlib.Core.List.{List, [], _∷_, _++_}
-use mathlib.Core.Path.{_≡_, _∙_, ap}
+use mathlib.Core.Path.{_≡_, _∙_, ap, subst}
 use Prim.Native.Nat.{ℕ, _*_, _≤_, _<_}
 use borrow.Author.Tests.{lt-ltb, le-ltb}
 use native.Mathlib.Omega.{arith}
 use lib.ListN.{length}
+use Rattle.definitions.proofs.Editing.{stored-means}
+use Rattle.definitions.proofs.Held.{Rightly}
 use Rattle.definitions.proofs.Table.{Accepts, stop, next, end, gives, accepts, sizes-mean, level-means, limit-means, entries-mean, room-means}
 use Rattle.definitions.specs.Answers.{Answer, refused, counted}
+use Rattle.definitions.specs.Editing.{stored}
 use Rattle.definitions.specs.Field.{Code}
-use Rattle.definitions.specs.Limits.{greatestLevel, greatestLimit, greatestRows}
+use Rattle.definitions.specs.Held.{Held}
+use Rattle.definitions.specs.Limits.{greatestLevel, greatestRows}
 use Rattle.definitions.specs.Listing.{listOf}
 use Rattle.definitions.specs.Refusals.{Line, sizes, level, limit, entries, room, entriesOf, costWithin}
 use Rattle.definitions.specs.Weights.{cost}
-use Rattle.list.specs.Within.{Lists, Answered}
+use Rattle.list.specs.Within.{Lists, Answered, Fit}
 use Rattle.refusals.proofs.Chain.{Came, told-is, answers, stops, goes-on}
 use Rattle.refusals.specs.Checked.{toldChecked}
 use Rattle.refusals.specs.Refusal.{toldRefusal}
@@ -21,70 +25,85 @@ use Rattle.refusals.specs.declared.Checked.{Checked}
 use Rattle.refusals.specs.declared.Checked.the-variants.{Passed, Refused}
 use Rattle.refusals.specs.declared.Refusal.{Refusal}
 
-module _ (C : Code) (n k : ℕ) (m rows scores : List ℕ) where
-  -- the checks of the front, and the rest of the table after them
-  module _ {front : List Line} {c : Checked} (came : Came front [] (toldChecked c)) (rest : List Line) where
-    pub refused-by-check : {r : Refusal} → c ≡ Refused r → Answered C (front ++ rest) n k m rows scores (toldRefusal r) rows scores
+module _ (C : Code) (n k G : ℕ) (m rows scores : List ℕ) where
+  -- the checks of the front, and the cost, which every table tries last
+  module _ {front : List Line} {c : Checked} (came : Came front [] (toldChecked c)) where
+    pub refused-by-check : {r : Refusal} → c ≡ Refused r → Answered C (front ++ (costWithin G m ∷ [])) n k m rows scores (toldRefusal r) rows scores
     refused-by-check {r} e =
+        let rest = costWithin G m ∷ [] in
         let none = ap (λ (a : Answer). a .count) (told-is r) in
         (answers came rest _ e, (stops came rest (λ _ _. rows) _ e, (stops came rest (λ _ _. scores) _ e, omega arith)))
 
-    pub passed-on : c ≡ Passed → (answer : Answer) (rowsAfter scoresAfter : List ℕ)
-        → Answered C rest n k m rows scores answer rowsAfter scoresAfter → Answered C (front ++ rest) n k m rows scores answer rowsAfter scoresAfter
-    passed-on e answer rowsAfter scoresAfter w = (
-      w .0 ∙ goes-on came rest refused _ e,
-      (w .1 .0 ∙ goes-on came rest (λ _ _. rows) _ e, (w .1 .1 .0 ∙ goes-on came rest (λ _ _. scores) _ e, w .1 .1 .1)),
-    )
+    -- the rest, of the same bytes
+    pub passed-on : c ≡ Passed → {bytes : List ℕ} → bytes ≡ m → (answer : Answer) (rowsAfter scoresAfter : List ℕ)
+        → Answered C (costWithin G bytes ∷ []) n k bytes rows scores answer rowsAfter scoresAfter
+        → Answered C (front ++ (costWithin G m ∷ [])) n k m rows scores answer rowsAfter scoresAfter
+    passed-on e same answer rowsAfter scoresAfter w =
+        let rest = costWithin G m ∷ [] in
+        let of = subst (λ (x : List ℕ). Answered C (costWithin G x ∷ []) n k x rows scores answer rowsAfter scoresAfter) same w in (
+          of .0 ∙ goes-on came rest refused _ e,
+          (of .1 .0 ∙ goes-on came rest (λ _ _. rows) _ e, (of .1 .1 .0 ∙ goes-on came rest (λ _ _. scores) _ e, of .1 .1 .1)),
+        )
 
-  -- the cost, which both tables try last
-  module _ (G : ℕ) where
-    pub refused-by-cost : G < cost m → Answered C (costWithin G m ∷ []) n k m rows scores (refused 7 0) rows scores
-    refused-by-cost h =
-        let g = stop {l = costWithin G m} {table = []} (lt-ltb G (cost m) h) in
-        (gives refused _ g, (gives (λ _ _. rows) _ g, (gives (λ _ _. scores) _ g, omega arith)))
+  pub refused-by-cost : G < cost m → Answered C (costWithin G m ∷ []) n k m rows scores (refused 7 0) rows scores
+  refused-by-cost h =
+      let g = stop {l = costWithin G m} {table = []} (lt-ltb G (cost m) h) in
+      (gives refused _ g, (gives (λ _ _. rows) _ g, (gives (λ _ _. scores) _ g, omega arith)))
 
-    pub listed : cost m ≤ G → (count : ℕ) (rowsAfter scoresAfter : List ℕ) → Lists C n k m (listOf C n k m) rows scores count rowsAfter scoresAfter
-        → Answered C (costWithin G m ∷ []) n k m rows scores (counted count) rowsAfter scoresAfter
-    listed h count rowsAfter scoresAfter w =
-        let a = next {l = costWithin G m} {table = []} (le-ltb G (cost m) h) end in
-        (ap counted (w .counted) ∙ accepts refused _ a, (w .rows-are ∙ accepts (λ _ _. rows) _ a, (w .scores-are ∙ accepts (λ _ _. scores) _ a, w .few)))
+  pub listed : cost m ≤ G → (count : ℕ) (rowsAfter scoresAfter : List ℕ) → Lists C n k m (listOf C n k m) rows scores count rowsAfter scoresAfter
+      → Answered C (costWithin G m ∷ []) n k m rows scores (counted count) rowsAfter scoresAfter
+  listed h count rowsAfter scoresAfter w =
+      let a = next {l = costWithin G m} {table = []} (le-ltb G (cost m) h) end in
+      (ap counted (w .counted) ∙ accepts refused _ a, (w .rows-are ∙ accepts (λ _ _. rows) _ a, (w .scores-are ∙ accepts (λ _ _. scores) _ a, w .few)))
 
--- what a call that passed the checks has
-pub record Fit (C : Code) (n k G size rows scores : ℕ) : Type 0 where
-  pub sized : (2 ≤ k) × (k ≤ n) × (n ≤ C .positions)
-  pub low : G ≤ greatestLimit
-  pub full : size ≡ C .symbols * n
-  pub room-for-rows : greatestRows * k ≤ rows
-  pub room-for-scores : greatestRows ≤ scores
-
+-- the lines that are tried before the cost, and what they say: of bytes
 module _ (C : Code) (n k G : ℕ) (m : List ℕ) (rows scores : ℕ) where
   abbrev pub listFront : List Line
   listFront =
       sizes C n k ∷ limit G ∷ entries (C .symbols * n) m ∷ room (greatestRows * k) rows ∷ room greatestRows scores ∷ entriesOf m ∷ []
 
-  pub list-fits : Accepts listFront → Fit C n k G (length m) rows scores
-  list-fits (next s (next g (next e (next r (next t (next a end)))))) = record {
-    sized = sizes-mean C n k s;
-    low = limit-means G g;
-    full = entries-mean _ m e;
-    room-for-rows = room-means (greatestRows * k) rows r;
-    room-for-scores = room-means greatestRows scores t;
-  }
+  pub list-fits : Accepts listFront → Fit C n k G rows scores × (length m ≡ C .symbols * n)
+  list-fits (next s (next g (next e (next r (next t (next a end)))))) = (
+    record {
+      sized = sizes-mean C n k s;
+      low = limit-means G g;
+      room-for-rows = room-means (greatestRows * k) rows r;
+      room-for-scores = room-means greatestRows scores t;
+    },
+    entries-mean _ m e,
+  )
 
+-- of reliabilities: the lines before the columns, which need what these say
 module _ (C : Code) (n k L G : ℕ) (r : List ℕ) (rows scores : ℕ) where
-  -- the lines before the columns, which need what these say
   abbrev pub readStart : List Line
   readStart =
       sizes C n k ∷ level L ∷ limit G ∷ entries (C .symbols * n) r ∷ room (greatestRows * k) rows ∷ room greatestRows scores ∷ []
 
-  pub read-fits : Accepts readStart → (L ≤ greatestLevel) × Fit C n k G (length r) rows scores
+  pub read-fits : Accepts readStart → (L ≤ greatestLevel) × Fit C n k G rows scores × (length r ≡ C .symbols * n)
   read-fits (next s (next l (next g (next e (next h (next t end)))))) = (
     level-means L l .1,
     record {
       sized = sizes-mean C n k s;
       low = limit-means G g;
-      full = entries-mean _ r e;
       room-for-rows = room-means (greatestRows * k) rows h;
       room-for-scores = room-means greatestRows scores t;
     },
+    entries-mean _ r e,
+  )
+
+-- of a record
+module _ (C : Code) (h : Held) (k G rows scores : ℕ) where
+  abbrev pub heldFront : List Line
+  heldFront =
+      sizes C (h .n) k ∷ limit G ∷ stored C h ∷ room (greatestRows * k) rows ∷ room greatestRows scores ∷ entriesOf (h .entries) ∷ []
+
+  pub held-fits : Accepts heldFront → Fit C (h .n) k G rows scores × Rightly C h
+  held-fits (next s (next g (next e (next r (next t (next a end)))))) = (
+    record {
+      sized = sizes-mean C (h .n) k s;
+      low = limit-means G g;
+      room-for-rows = room-means (greatestRows * k) rows r;
+      room-for-scores = room-means greatestRows scores t;
+    },
+    stored-means C h e,
   )

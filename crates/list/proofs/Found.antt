@@ -12,8 +12,8 @@ use Rattle.definitions.specs.Field.{Code}
 use Rattle.definitions.specs.Limits.{greatestLimit}
 use Rattle.definitions.specs.Weights.{cost}
 use Rattle.interpolation.specs.Found.{Found}
-use Rattle.weights.proofs.Cost.{matrix-cost}
-use Rattle.weights.specs.Matrix.{matrixOf, matrixCost}
+use Rattle.matrix.proofs.Columns.{matrix-cost}
+use Rattle.matrix.specs.Columns.{matrixOf, matrixCost}
 
 -- the bound of a cost within the limit
 pub degree-small : (v price D : ℕ) → 0 < v → price ≤ greatestLimit → D ≡ bound v price → D ≤ greatestLimit

@@ -33,7 +33,7 @@ use Rattle.ranking.proofs.Scores.{matrix-score}
 use Rattle.ranking.proofs.Written.{Sized}
 use Rattle.ranking.specs.Rows.{rowsOf, matrixScore, ranked, scoresOf}
 use Rattle.root_tree.proofs.Roots.{roots-at-most}
-use Rattle.weights.specs.Matrix.{matrixOf}
+use Rattle.matrix.specs.Columns.{matrixOf}
 
 module _ (C : Code) (F : FieldOf C) where
   module _ (D k : ℕ) (q : List ℕ) where

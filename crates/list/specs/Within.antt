@@ -1,7 +1,7 @@
 -- What the inner list leaves, of a matrix held by value.
 -- Assumes nothing.
 use mathlib.Core.Bool.{false}
-use mathlib.Core.List.{List, [], _∷_}
+use mathlib.Core.List.{List, []}
 use mathlib.Core.Path.{_≡_}
 use Prim.Native.Nat.{ℕ, _*_, _-_, _/_, _≤_, _<_}
 use lib.Dec.{ltb}
@@ -10,14 +10,14 @@ use Rattle.definitions.specs.Answers.{Answer, refused, counted, rowsOnto, score
 use Rattle.definitions.specs.Bound.{count}
 use Rattle.definitions.specs.Code.{Symbols}
 use Rattle.definitions.specs.Field.{Code}
-use Rattle.definitions.specs.Limits.{greatestCount, greatestRows}
+use Rattle.definitions.specs.Limits.{greatestLimit, greatestCount, greatestRows}
 use Rattle.definitions.specs.Listing.{fallingOnto, listOf}
 use Rattle.definitions.specs.Polynomial.{isZero}
-use Rattle.definitions.specs.Refusals.{Line, tried, costWithin}
+use Rattle.definitions.specs.Refusals.{Line, tried}
 use Rattle.definitions.specs.Roots.{rootsOf}
 use Rattle.definitions.specs.Tools.{select}
 use Rattle.definitions.specs.Weights.{score}
-use Rattle.weights.specs.Matrix.{matrixOf}
+use Rattle.matrix.specs.Columns.{matrixOf}
 
 module _ (C : Code) where
   -- the matrix was loaded from the bytes of n positions
@@ -61,7 +61,9 @@ module _ (C : Code) where
       × ((rowsAfter ≡ tried table (λ _ _. rows) (rowsOnto k (listOf C n k m) rows))
       × ((scoresAfter ≡ tried table (λ _ _. scores) (scoresOnto C n m (listOf C n k m) scores)) × (answer .count ≤ greatestRows)))
 
-  -- the last line of both tables, the cost
-  abbrev pub PricedOf : List (List ℕ) → ℕ → ℕ → ℕ → List ℕ → List ℕ → Answer → List ℕ → List ℕ → Type 0
-  PricedOf a n k G rows scores answer rowsAfter scoresAfter =
-      (m : List ℕ) → length m ≡ C .symbols * n → a ≡ matrixOf C m n → Answered (costWithin G m ∷ []) n k m rows scores answer rowsAfter scoresAfter
+  -- what a call has that passed the checks before the cost
+  pub record Fit (n k G rows scores : ℕ) : Type 0 where
+    pub sized : (2 ≤ k) × (k ≤ n) × (n ≤ C .positions)
+    pub low : G ≤ greatestLimit
+    pub room-for-rows : greatestRows * k ≤ rows
+    pub room-for-scores : greatestRows ≤ scores

@@ -1,12 +1,14 @@
 // The list of a matrix within limits: interpolation, its y-roots, and those above the bound by falling score.
+ghost use mathlib.Core.List.{[], _∷_};
 ghost use mathlib.Core.Path.{_≡_};
 ghost use Prim.Native.Nat.{_*_, _≤_, _<_};
-ghost use lib.ListN.{length};
+ghost use lib.ListN.{length, take};
 ghost use Rattle.definitions.specs.Field.{sixteen};
 ghost use Rattle.definitions.specs.Limits.{greatestLimit, greatestRows};
-ghost use Rattle.list.specs.Within.{Loaded, Rooted, RootsOf, ListsOf, PricedOf};
+ghost use Rattle.definitions.specs.Refusals.{costWithin};
+ghost use Rattle.list.specs.Within.{Loaded, Rooted, RootsOf, ListsOf, Answered, Fit};
 ghost use Rattle.refusals.specs.Counted.{toldCounted};
-ghost use Rattle.weights.specs.Matrix.{matrixCost};
+ghost use Rattle.matrix.specs.Columns.{matrixCost, FrontCosts};
 use refusals::Counted;
 use refusals::Refusal;
 use refusals::limits::COEFFICIENT_ROOM;
@@ -59,7 +61,7 @@ pub fn list_within(
     let bound = bound::bound(v, cost);
     let count = bound::count(v, bound);
     let mut polynomial = [0u8; COEFFICIENT_ROOM];
-    interpolation::inside::polynomial(matrix, v, bound, count, &mut polynomial);
+    interpolation::inside::polynomial(matrix, v, bound, count, cost, &mut polynomial);
     listed(
         matrix,
         n,
@@ -72,23 +74,23 @@ pub fn list_within(
     )
 }
 
-// The list, where the matrix costs no more than the limit.
+// What passed the checks of its table is listed, where it costs no more than the limit.
 pub fn list_priced(
-    matrix: &[[u8; SYMBOLS]; POSITIONS],
+    entries: &[u8],
     n: usize,
+    cost: usize,
     k: usize,
     limit: usize,
     rows: &mut [u8],
     scores: &mut [u16],
 ) -> Counted
-    requires { ⌜ (2 ≤ k) × (k ≤ n) × (n ≤ sixteen .positions) × (limit ≤ greatestLimit) ⌝ }
-    requires { ⌜ (greatestRows * k ≤ length (now rows)) × (greatestRows ≤ length (now scores)) ⌝ }
-    requires { ⌜ Loaded sixteen (now matrix) n ⌝ }
-    ensures { λ r. ⌜ PricedOf sixteen (now (matrix .entry)) n k limit (now (rows .entry)) (now (scores .entry)) (toldCounted r) (now (rows .exit)) (now (scores .exit)) ⌝ }
+    requires { ⌜ Fit sixteen n k limit (length (now rows)) (length (now scores)) ⌝ }
+    requires { ⌜ FrontCosts sixteen n cost (now entries) ⌝ }
+    ensures { λ r. ⌜ Answered sixteen (costWithin limit (take (sixteen .symbols * n) (now (entries .entry))) ∷ []) n k (take (sixteen .symbols * n) (now (entries .entry))) (now (rows .entry)) (now (scores .entry)) (toldCounted r) (now (rows .exit)) (now (scores .exit)) ⌝ }
 {
-    let cost = weights::inside::cost(matrix);
     if limit < cost {
         return Counted::Refused(Refusal::Cost);
     }
-    Counted::Count(list_within(matrix, n, k, cost, rows, scores))
+    let columns = matrix::opened(entries, n);
+    Counted::Count(list_within(&columns, n, k, cost, rows, scores))
 }

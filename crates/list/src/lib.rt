@@ -3,11 +3,15 @@ ghost use mathlib.Core.Path.{_≡_};
 ghost use Prim.Native.Nat.{_≤_};
 ghost use Rattle.refusals.specs.Counted.{toldCounted};
 ghost use Rattle.definitions.specs.Answers.{listAnswer, listRows, listScores, readAnswer, readRows, readScores};
+ghost use Rattle.definitions.specs.Editing.{heldListAnswer, heldListRows, heldListScores};
 ghost use Rattle.definitions.specs.Field.{sixteen};
+ghost use Rattle.definitions.specs.Held.{held};
 ghost use Rattle.definitions.specs.Limits.{greatestRows};
+ghost use Rattle.matrix.specs.Record.{heldBy};
 
 pub mod inside;
 
+use matrix::Matrix;
 use refusals::Checked;
 use refusals::Counted;
 use refusals::Refusal;
@@ -38,8 +42,9 @@ pub fn list_of_multiplicities(
     if let Checked::Refused(r) = checked {
         return Counted::Refused(r);
     }
-    let columns = weights::inside::load(matrix, n);
-    inside::list_priced(&columns, n, k, limit, rows, scores)
+    let m = matrix::of_bytes(n, matrix);
+    let entries = m.entries;
+    inside::list_priced(&entries, n, m.cost, k, limit, rows, scores)
 }
 
 pub fn list_of_reliabilities(
@@ -66,6 +71,52 @@ pub fn list_of_reliabilities(
     if let Checked::Refused(r) = checked {
         return Counted::Refused(r);
     }
-    let columns = weights::inside::weighed(level, reliabilities, n);
-    inside::list_priced(&columns, n, k, limit, rows, scores)
+    let m = weights::inside::weighed(level, reliabilities, n);
+    let entries = m.entries;
+    inside::list_priced(&entries, n, m.cost, k, limit, rows, scores)
+}
+
+// Of a matrix record whose parts are lent.
+pub fn list_of_parts(
+    n: usize,
+    cost: usize,
+    totals: &[u16],
+    entries: &[u8],
+    k: usize,
+    limit: usize,
+    rows: &mut [u8],
+    scores: &mut [u16],
+) -> Counted
+    ensures answer { λ r. ⌜ toldCounted r ≡ heldListAnswer sixteen (held n cost (now (totals .entry)) (now (entries .entry))) k limit (now (rows .entry)) (now (scores .entry)) ⌝ }
+    ensures row_memory { λ _. ⌜ now (rows .exit) ≡ heldListRows sixteen (held n cost (now (totals .entry)) (now (entries .entry))) k limit (now (rows .entry)) (now (scores .entry)) ⌝ }
+    ensures score_memory { λ _. ⌜ now (scores .exit) ≡ heldListScores sixteen (held n cost (now (totals .entry)) (now (entries .entry))) k limit (now (rows .entry)) (now (scores .entry)) ⌝ }
+    ensures few { λ r. ⌜ toldCounted r .count ≤ greatestRows ⌝ }
+{
+    let checked = Checked::sizes(n, k)
+        .or(GREATEST_LIMIT < limit, Refusal::Setting)
+        .or(!matrix::rightly(n, cost, totals, entries), Refusal::Length)
+        .room(rows.len(), GREATEST_ROWS, k)
+        .or(scores.len() < GREATEST_ROWS, Refusal::Room)
+        .symbols(GREATEST_ENTRY, entries);
+    if let Checked::Refused(r) = checked {
+        return Counted::Refused(r);
+    }
+    inside::list_priced(entries, n, cost, k, limit, rows, scores)
+}
+
+pub fn list_of_matrix(
+    m: Matrix,
+    k: usize,
+    limit: usize,
+    rows: &mut [u8],
+    scores: &mut [u16],
+) -> Counted
+    ensures answer { λ r. ⌜ toldCounted r ≡ heldListAnswer sixteen (heldBy m) k limit (now (rows .entry)) (now (scores .entry)) ⌝ }
+    ensures row_memory { λ _. ⌜ now (rows .exit) ≡ heldListRows sixteen (heldBy m) k limit (now (rows .entry)) (now (scores .entry)) ⌝ }
+    ensures score_memory { λ _. ⌜ now (scores .exit) ≡ heldListScores sixteen (heldBy m) k limit (now (rows .entry)) (now (scores .entry)) ⌝ }
+    ensures few { λ r. ⌜ toldCounted r .count ≤ greatestRows ⌝ }
+{
+    let totals = m.totals;
+    let entries = m.entries;
+    list_of_parts(m.n, m.cost, &totals, &entries, k, limit, rows, scores)
 }

@@ -1,7 +1,8 @@
-// A list of bytes, copied into lent memory.
+// Lists of bytes: copied into lent memory, and tested for zeros.
 ghost use mathlib.Core.Path.{_≡_};
 ghost use Prim.Native.Nat.{_+_, _≤_};
 ghost use lib.ListN.{length};
+ghost use Rattle.definitions.specs.Polynomial.{isZero};
 ghost use Rattle.memory.specs.Laid.{laid};
 
 // The part, in place of what lies from a place on.
@@ -14,4 +15,17 @@ pub fn put(out: &mut [u8], at: usize, part: &[u8])
         out[at + j] = part[j];
         j += 1;
     }
+}
+
+pub fn all_zero(list: &[u8]) -> bool
+    ensures { λ r. ⌜ r ≡ isZero (now (list .entry)) ⌝ }
+{
+    let mut i = 0;
+    while i < list.len() {
+        if list[i] != 0 {
+            return false;
+        }
+        i += 1;
+    }
+    true
 }

@@ -14,8 +14,8 @@ use Rattle.definitions.specs.Weights.{entry, score}
 use Rattle.algebra.specs.FieldOf.{FieldOf}
 use Rattle.algebra.specs.Grid.{entryOf}
 use Rattle.ranking.specs.Rows.{matrixScore}
-use Rattle.weights.proofs.Cost.{matrix-entry}
-use Rattle.weights.specs.Matrix.{matrixOf}
+use Rattle.matrix.proofs.Columns.{matrix-entry}
+use Rattle.matrix.specs.Columns.{matrixOf}
 
 pub matrix-score : (C : Code) (F : FieldOf C) (m : List ℕ) (n : ℕ) → n ≤ C .positions → length m ≡ C .symbols * n → (f : List ℕ) → Symbols C f → matrixScore C (matrixOf C m n) n f ≡ score C n m f
 matrix-score C F m n small size f s =

@@ -71,7 +71,7 @@ impl Refusal {
 }
 
 // The first place of a number above the greatest, or the length.
-fn first_above(greatest: u8, list: &[u8]) -> usize
+pub fn first_above(greatest: u8, list: &[u8]) -> usize
     ensures { λ r. ⌜ r ≡ firstAbove greatest (now (list .entry)) ⌝ }
 {
     let mut i = 0;

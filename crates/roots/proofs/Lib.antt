@@ -1,4 +1,3 @@
-pub mod Zero
 pub mod Loading
 pub mod Rows
 pub mod Found

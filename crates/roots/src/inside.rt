@@ -20,19 +20,6 @@ use refusals::limits::GREATEST_SYMBOL;
 use refusals::limits::POSITIONS;
 use substitution::PLACES;
 
-pub fn all_zero(list: &[u8]) -> bool
-    ensures { λ r. ⌜ r ≡ isZero (now (list .entry)) ⌝ }
-{
-    let mut i = 0;
-    while i < list.len() {
-        if list[i] != 0 {
-            return false;
-        }
-        i += 1;
-    }
-    true
-}
-
 // The coefficients of weighted degree d, from place j of the list on, each to its place.
 fn load_degree(p: &mut [u8], coefficients: &[u8], j: usize, d: usize, v: usize, h: usize)
     requires { ⌜ (0 < v) × (d / v < h) × ((d + 1) * h ≤ length (now p)) ⌝ }

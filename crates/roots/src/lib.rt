@@ -29,7 +29,7 @@ fn checked(degree: usize, k: usize, coefficients: &[u8], room: usize) -> Checked
         .or(coefficients.len() != stated, Refusal::Length)
         .room(room, k, degree / v)
         .symbols(GREATEST_SYMBOL, coefficients)
-        .or(inside::all_zero(coefficients), Refusal::Zero)
+        .or(memory::all_zero(coefficients), Refusal::Zero)
 }
 
 pub fn roots(degree: usize, k: usize, coefficients: &[u8], out: &mut [u8]) -> Counted

@@ -1,3 +1,3 @@
 pub mod Weighing
-pub mod Cost
+pub mod Costing
 pub mod Unique

@@ -1,7 +1,7 @@
 -- The steps of the loops over weights and columns, and that their numbers fit.
 -- Assumes nothing.
 use mathlib.Core.Bool.{false}
-use mathlib.Core.List.{List, _++_, map}
+use mathlib.Core.List.{List, _++_}
 use mathlib.Core.Path.{_≡_, sym, _∙_, ap}
 use Prim.Native.Nat.{ℕ, _+_, _*_, _≤_, _<_}
 use native.Mathlib.Nat.{mul-le-mul}
@@ -11,15 +11,14 @@ use borrow.Author.Count.{below-more}
 use lib.ListN.{length, take, drop, getD, set, length-map}
 use lib.Seq.{length-take-le}
 use Rattle.definitions.proofs.Columns.{column-taken, column-refused}
-use Rattle.definitions.proofs.Loops.{put-more, map-more}
-use Rattle.definitions.proofs.Tools.{below-zero, smallest-is}
+use Rattle.definitions.proofs.Loops.{put-more}
+use Rattle.definitions.proofs.Tools.{smallest-is}
 use Rattle.definitions.proofs.Weights.{map-take}
 use Rattle.definitions.specs.Field.{Code}
 use Rattle.definitions.specs.Limits.{greatestSum, greatestLevel}
 use Rattle.definitions.specs.Refusals.{badColumn}
-use Rattle.definitions.specs.Tools.{below, smallest}
+use Rattle.definitions.specs.Tools.{smallest}
 use Rattle.definitions.specs.Weights.{sumOfColumn, multiplicity, matrix}
-use Rattle.weights.specs.Matrix.{columnOf, zeroColumns, matrixOf}
 
 -- one multiplicity more is written
 pub multiplicity-more : (L : ℕ) (r out now : List ℕ) (i x : ℕ) → i < length r → i < length out → now ≡ matrix L (take i r) ++ drop i out
@@ -29,22 +28,9 @@ multiplicity-more L r out now i x hr ho e ex =
     (put-more 0 (matrix L (take i r)) out i (multiplicity L (getD r i 0)) (length-map (take i r) (multiplicity L) ∙ length-take-le i r (omega arith)) ho
     ∙ ap (λ (l : List ℕ). l ++ drop (i + 1) out) (sym (map-take (multiplicity L) r i hr) ∙ ap (λ (n : ℕ). matrix L (take n r)) (sym (add-one i))))
 
--- one column more is loaded
-pub column-more : (C : Code) (m : List ℕ) (rest now : List (List ℕ)) (i : ℕ) (col : List ℕ) → i < length rest → now ≡ map (columnOf C m) (below i) ++ drop i rest
-    → col ≡ columnOf C m i → set now i col ≡ map (columnOf C m) (below (i + 1)) ++ drop (i + 1) rest
-column-more C m rest now i col h e ec = map-more (columnOf C m) rest now i col h e ec
-
 -- a level within limits times a reliability
 pub level-fits : (L r : ℕ) → L ≤ greatestLevel → r < 65536 → L * r ≤ greatestLevel * 65535
 level-fits L r hl hr = mul-le-mul {n₁ = L} {m₁ = r} {n₂ = greatestLevel} {m₂ = 65535} hl (omega arith)
-
--- m(m+1)/2 of a byte
-pub cost-fits : (m : ℕ) → m < 256 → m * (m + 1) ≤ 65280
-cost-fits m h = mul-le-mul {n₁ = m} {m₁ = m + 1} {n₂ = 255} {m₂ = 256} (omega arith) (omega arith)
-
--- no column is loaded yet
-pub none-loaded : (C : Code) (m : List ℕ) → zeroColumns C ≡ matrixOf C m 0
-none-loaded C m = ap (λ (l : List ℕ). map (columnOf C m) l ++ zeroColumns C) (sym below-zero)
 
 -- the columns that a search has passed sum to at most 4,096
 module _ (C : Code) (r : List ℕ) (n i : ℕ) (passed : (j : ℕ) → j < i → badColumn C r j ≡ false) where

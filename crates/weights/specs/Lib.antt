@@ -1,2 +1,1 @@
-pub mod Matrix
 pub mod Costed

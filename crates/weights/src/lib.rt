@@ -2,11 +2,15 @@
 ghost use mathlib.Core.Path.{_≡_};
 ghost use Rattle.refusals.specs.Counted.{toldCounted};
 ghost use Rattle.definitions.specs.Answers.{multiplicitiesAnswer, multiplicitiesOut, costAnswer};
+ghost use Rattle.definitions.specs.Editing.{heldCostAnswer};
 ghost use Rattle.definitions.specs.Field.{sixteen};
+ghost use Rattle.definitions.specs.Held.{held};
+ghost use Rattle.matrix.specs.Record.{heldBy};
 ghost use Rattle.weights.specs.Costed.{toldCosted};
 
 pub mod inside;
 
+use matrix::Matrix;
 use refusals::Checked;
 use refusals::Counted;
 use refusals::Refusal;
@@ -43,8 +47,36 @@ pub fn cost_and_bound(n: usize, k: usize, matrix: &[u8]) -> Costed
     if let Checked::Refused(r) = checked {
         return Costed::Refused(r);
     }
-    let columns = inside::load(matrix, n);
-    let cost = inside::cost(&columns);
+    let m = matrix::of_bytes(n, matrix);
+    let cost = m.cost;
     let bound = bound::bound(k - 1, cost);
     Costed::Of { cost, bound }
+}
+
+// Of a matrix record whose parts are lent.
+pub fn cost_and_bound_of_parts(
+    n: usize,
+    cost: usize,
+    totals: &[u16],
+    entries: &[u8],
+    k: usize,
+) -> Costed
+    ensures { λ r. ⌜ toldCosted r ≡ heldCostAnswer sixteen (held n cost (now (totals .entry)) (now (entries .entry))) k ⌝ }
+{
+    let checked = Checked::sizes(n, k)
+        .or(!matrix::rightly(n, cost, totals, entries), Refusal::Length)
+        .symbols(GREATEST_ENTRY, entries);
+    if let Checked::Refused(r) = checked {
+        return Costed::Refused(r);
+    }
+    let bound = bound::bound(k - 1, cost);
+    Costed::Of { cost, bound }
+}
+
+pub fn cost_and_bound_of_matrix(m: Matrix, k: usize) -> Costed
+    ensures { λ r. ⌜ toldCosted r ≡ heldCostAnswer sixteen (heldBy m) k ⌝ }
+{
+    let totals = m.totals;
+    let entries = m.entries;
+    cost_and_bound_of_parts(m.n, m.cost, &totals, &entries, k)
 }

@@ -1,10 +1,14 @@
--- The chain tries the lines before the cost; what passes them is loaded, and the cost and the list are those of its columns.
-use mathlib.Core.List.{[], _∷_}
+-- The chain tries the lines before the cost; what passes them is turned into a record, and the rest of the table is that of its bytes.
+use mathlib.Core.List.{[]}
+use mathlib.Core.Path.{_≡_}
+use Prim.Native.Nat.{_*_}
 use native.Mathlib.Omega.{arith}
 use lib.ListN.{length}
 use Rattle.definitions.specs.Field.{sixteen}
-use Rattle.definitions.specs.Refusals.{costWithin}
-use Rattle.list.proofs.Answers.{refused-by-check, passed-on, listFront, list-fits, Fit}
+use Rattle.list.proofs.Answers.{refused-by-check, passed-on, listFront, list-fits}
+use Rattle.list.specs.Within.{Fit}
+use Rattle.matrix.proofs.Columns.{turned-front, turned-priced}
+use Rattle.matrix.specs.Record.{heldBy}
 use Rattle.refusals.proofs.Chain.{Came, start, _▸_, accepted}
 use Rattle.refusals.specs.Checked.{toldChecked}
 use borrow.Author.Needs.{needs}
@@ -28,32 +32,35 @@ returns : tie.Need-returns
 returns c =
     let w = c .before .before .before in
     let a = entry w .args in
-    refused-by-check sixteen (a .n) (a .k) (a .matrix .now) (a .rows .now) (a .scores .now) (came w) (costWithin (a .limit) (a .matrix .now) ∷ []) (c .before .checked .given .1)
+    refused-by-check sixteen (a .n) (a .k) (a .limit) (a .matrix .now) (a .rows .now) (a .scores .now) (came w) (c .before .checked .given .1)
 
 fit : (c : tie.After-enum-told)
-    → (let a = entry (c .before .before) .args in Fit sixteen (a .n) (a .k) (a .limit) (length (a .matrix .now)) (length (a .rows .now)) (length (a .scores .now)))
+    → (let a = entry (c .before .before) .args in
+    Fit sixteen (a .n) (a .k) (a .limit) (length (a .rows .now)) (length (a .scores .now)) × (length (a .matrix .now) ≡ sixteen .symbols * a .n))
 fit c =
     let a = entry (c .before .before) .args in
     list-fits sixteen (a .n) (a .k) (a .limit) (a .matrix .now) (length (a .rows .now)) (length (a .scores .now)) (accepted (came (c .before .before)) (c .enum-told .given .1))
 
-load-requires : tie.Need-load-requires
-load-requires c κs = let f = fit c in (f .sized .2, omega arith)
+of-bytes-requires : tie.Need-of-bytes-requires
+of-bytes-requires c κs = let f = fit c in let s = f .0 .sized in let e = f .1 in omega arith
 
 list-priced-requires : tie.Need-list-priced-requires
 list-priced-requires c κs =
-    let l = c .before .before .before in
-    let f = fit (l .before) in
-    ((f .sized .0, f .sized .1, f .sized .2, f .low), ((f .room-for-rows, f .room-for-scores), (_, f .full, l .load .ensures)))
+    let m = c .before .before .before .before in
+    let a = entry (m .before .before .before) .args in
+    let f = fit (m .before) in
+    (f .0, turned-priced sixteen (heldBy (m .of-bytes .result)) (a .n) (a .matrix .now) (f .0 .sized .2) (f .1) (m .of-bytes .ensures))
 
 returns-2 : tie.Need-returns-2
 returns-2 c =
     let q = c .before .before .before .before in
-    let l = q .before .before .before .before in
-    let t = l .before in
+    let m = q .before .before .before .before .before in
+    let t = m .before in
     let w = t .before .before in
     let a = entry w .args in
-    passed-on sixteen (a .n) (a .k) (a .matrix .now) (a .rows .now) (a .scores .now) (came w) (costWithin (a .limit) (a .matrix .now) ∷ []) (t .enum-told .given .1) _ _ _
-    (q .list-priced .ensures (a .matrix .now) (fit t .full) (l .load .ensures))
+    let f = fit t in
+    passed-on sixteen (a .n) (a .k) (a .limit) (a .matrix .now) (a .rows .now) (a .scores .now) (came w) (t .enum-told .given .1)
+    (turned-front sixteen (heldBy (m .of-bytes .result)) (a .n) (a .matrix .now) (f .0 .sized .2) (f .1) (m .of-bytes .ensures)) _ _ _ (q .list-priced .ensures)
 
 pub list-of-multiplicities-spec : {M : Type 1} → statement M
 list-of-multiplicities-spec =
@@ -68,7 +75,8 @@ list-of-multiplicities-spec =
     (λ c. search needs)
     returns
     (λ c. search needs)
-    load-requires
+    of-bytes-requires
+    (λ c. search needs)
     list-priced-requires
     (λ c. search needs)
     (λ c. search needs)

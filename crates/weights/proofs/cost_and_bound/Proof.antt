@@ -1,19 +1,19 @@
--- The chain tries the lines of the table; the cost and the bound of the columns of what passes are those of its bytes.
+-- The chain tries the lines of the table; what passes is turned into a record, whose cost is that of the bytes.
 use mathlib.Core.List.{List, []}
-use mathlib.Core.Path.{_≡_, _∙_, ap, ap₂}
-use Prim.Native.Nat.{ℕ, _*_, _-_, _≤_}
+use mathlib.Core.Path.{_≡_}
+use Prim.Native.Nat.{ℕ, _*_, _≤_}
 use native.Mathlib.Omega.{arith}
 use lib.ListN.{length, getD}
 use Rattle.definitions.proofs.Table.{Accepts, next, end, sizes-mean, entries-mean, above-means}
-use Rattle.definitions.specs.Answers.{refused, costed}
-use Rattle.definitions.specs.Bound.{bound}
 use Rattle.definitions.specs.Field.{sixteen}
 use Rattle.definitions.specs.Limits.{greatestLevel}
 use Rattle.definitions.specs.Refusals.{costTable}
 use Rattle.definitions.specs.Weights.{cost}
-use Rattle.refusals.proofs.Chain.{Came, start, _▸_, accepted, answers, goes-on}
+use Rattle.refusals.proofs.Chain.{Came, start, _▸_, accepted, answers}
 use Rattle.refusals.specs.Checked.{toldChecked}
-use Rattle.weights.proofs.Cost.{loaded-cost, cost-small}
+use Rattle.matrix.proofs.Columns.{turned-cost, cost-small}
+use Rattle.matrix.specs.Record.{heldBy}
+use Rattle.weights.proofs.Costing.{costed-is}
 use borrow.Author.Needs.{needs}
 use Rattle.weights.proofs.cost_and_bound.Statement.{statement}
 use Rattle.weights.proofs.cost_and_bound.Tie as tie
@@ -41,35 +41,32 @@ fit c =
     let a = entry (c .before .before) .args in
     fits (a .n) (a .k) (a .matrix .now) (accepted (came (c .before .before)) (c .enum-told .given .1))
 
-load-requires : tie.Need-load-requires
-load-requires c κs = let f = fit c in (f .sized .2, omega arith)
+of-bytes-requires : tie.Need-of-bytes-requires
+of-bytes-requires c κs = let f = fit c in let s = f .sized in let e = f .full in omega arith
 
-paid : (c : tie.After-cost) → c .cost .result ≡ cost (entry (c .before .before .before .before .before) .args .matrix .now)
+paid : (c : tie.After-of-bytes) → c .of-bytes .result .cost ≡ cost (entry (c .before .before .before) .args .matrix .now)
 paid c =
-    let l = c .before .before in
-    let a = entry (l .before .before .before) .args in
-    let f = fit (l .before) in
-    loaded-cost sixteen (a .matrix .now) (a .n) (f .sized .2) (f .full) (l .load .result) (c .cost .result) (l .load .ensures) (c .cost .ensures)
+    let a = entry (c .before .before .before) .args in
+    let f = fit (c .before) in
+    turned-cost sixteen (heldBy (c .of-bytes .result)) (a .n) (a .matrix .now) (f .sized .2) (f .full) (c .of-bytes .ensures)
 
 sub-bound : tie.Need-sub-bound
-sub-bound c = let s = fit (c .before .before .before) .sized in omega arith
+sub-bound c = let s = fit (c .before) .sized in omega arith
 
 bound-requires : tie.Need-bound-requires
 bound-requires c κs =
-    let t = c .before .before .before in
-    let a = entry (t .before .before) .args in
-    let f = fit t in
+    let f = fit (c .before) in
     let s = f .sized in
+    let full = f .full in
     let e = paid c in
-    let small = cost-small sixteen (a .matrix .now) (a .n) (s .2) (f .full) (f .low) in
+    let small = cost-small sixteen (entry (c .before .before .before) .args .matrix .now) (omega arith) (f .low) in
     (omega arith, omega arith)
 
 returns-2 : tie.Need-returns-2
 returns-2 c =
-    let t = c .before .before .before .before in
+    let t = c .before .before in
     let a = entry (t .before .before) .args in
-    let e = paid (c .before) in
-    ap₂ costed e (c .bound .ensures ∙ ap (bound (a .k - 1)) e) ∙ goes-on (came (t .before .before)) [] refused _ (t .enum-told .given .1)
+    costed-is (came (t .before .before)) (t .enum-told .given .1) (a .k) _ (c .bound .result) (a .matrix .now) (paid (c .before)) (c .bound .ensures)
 
 pub cost-and-bound-spec : {M : Type 1} → statement M
 cost-and-bound-spec =
@@ -81,8 +78,7 @@ cost-and-bound-spec =
     (λ c. search needs)
     returns
     (λ c. search needs)
-    load-requires
-    (λ c κs. search needs)
+    of-bytes-requires
     sub-bound
     bound-requires
     returns-2)

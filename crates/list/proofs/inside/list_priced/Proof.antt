@@ -1,37 +1,70 @@
--- The cost of the columns is that of the bytes: it is refused, or the list is made.
+-- The stored cost is that of the bytes: it is refused, or the entries are opened and the list of their columns is that of the bytes.
+use mathlib.Core.List.{List}
 use mathlib.Core.Path.{_≡_}
+use Prim.Native.Nat.{ℕ, _*_}
 use native.Mathlib.Omega.{arith}
+use lib.ListN.{length, take}
+use lib.Seq.{length-take-le}
 use Rattle.definitions.specs.Field.{sixteen}
-use Rattle.definitions.specs.Weights.{cost}
 use Rattle.list.proofs.Answers.{refused-by-cost, listed}
-use Rattle.weights.proofs.Cost.{loaded-cost}
+use Rattle.matrix.proofs.Columns.{opened-front, opened-cost}
+use Rattle.matrix.specs.Columns.{matrixOf}
 use borrow.Author.Needs.{needs}
 use Rattle.list.proofs.inside.list_priced.Statement.{statement}
 use Rattle.list.proofs.inside.list_priced.Tie as tie
 
+-- the bytes in front of the entries
+abbrev bytes : tie.Start → List ℕ
+bytes s = take (sixteen .symbols * s .args .n) (s .args .entries .now)
+
+full : (s : tie.Start) → length (bytes s) ≡ sixteen .symbols * s .args .n
+full s = length-take-le (sixteen .symbols * s .args .n) (s .args .entries .now) (s .pre .1 .within)
+
 returns : tie.Need-returns
-returns c m full loaded =
+returns c =
     let s = c .before .before .before .before in
     let a = s .args in
-    let paid : c .before .cost .result ≡ cost m = loaded-cost sixteen m (a .n) (s .pre .0 .2) full (a .matrix .now) (c .before .cost .result) loaded (c .before .cost .ensures) in
-    refused-by-cost sixteen (a .n) (a .k) m (a .rows .now) (a .scores .now) (a .limit) (omega arith)
+    let paid = s .pre .1 .paid in
+    refused-by-cost sixteen (a .n) (a .k) (a .limit) (bytes s) (a .rows .now) (a .scores .now) (omega arith)
+
+abbrev entry : tie.After-opened → tie.Start
+entry c = c .before .before .before .before .before
+
+-- the columns are those of the bytes
+loaded : (c : tie.After-opened) → c .opened .result ≡ matrixOf sixteen (bytes (entry c)) (entry c .args .n)
+loaded c =
+    let s = entry c in
+    let a = s .args in
+    opened-front sixteen (a .n) (a .cost) (a .entries .now) (s .pre .0 .sized .2) (s .pre .1) (c .opened .result) (c .opened .ensures)
+
+list-within-requires : tie.Need-list-within-requires
+list-within-requires c κs =
+    let o = c .before .before .before in
+    let s = entry o in
+    let a = s .args in
+    let f = s .pre .0 in
+    let low = f .low in (
+      (f .sized .0, f .sized .1, f .sized .2, opened-cost sixteen (a .n) (a .cost) (a .entries .now) (f .sized .2) (s .pre .1) (o .opened .result) (o .opened .ensures), omega arith),
+      ((f .room-for-rows, f .room-for-scores), (bytes s, full s, loaded o)),
+    )
 
 returns-2 : tie.Need-returns-2
-returns-2 c m full loaded =
+returns-2 c =
     let q = c .before .before .before .before in
-    let e = q .before .before .before in
-    let s = e .before .before .before .before in
+    let o = q .before .before .before .before in
+    let s = entry o in
     let a = s .args in
-    let paid : e .before .cost .result ≡ cost m = loaded-cost sixteen m (a .n) (s .pre .0 .2) full (a .matrix .now) (e .before .cost .result) loaded (e .before .cost .ensures) in
-    listed sixteen (a .n) (a .k) m (a .rows .now) (a .scores .now) (a .limit) (omega arith) (q .list-within .result) _ _ (q .list-within .ensures m full loaded)
+    let paid = s .pre .1 .paid in
+    listed sixteen (a .n) (a .k) (a .limit) (bytes s) (a .rows .now) (a .scores .now) (omega arith) (q .list-within .result) _ _
+    (q .list-within .ensures (bytes s) (full s) (loaded o))
 
 pub list-priced-spec : {M : Type 1} → statement M
 list-priced-spec =
     tie.close
     (tie.spec
-    (λ c κs. search needs)
     returns
     (λ c κs. search needs)
+    list-within-requires
     (λ c. search needs)
     (λ c. search needs)
     returns-2)

@@ -15,7 +15,7 @@ use Rattle.interpolation.proofs.Coefficients.{count-small}
 use Rattle.list.proofs.Found.{degree-small, bound-of-cost, prefix, length-after}
 use Rattle.list.proofs.Listing.{lists}
 use Rattle.list.specs.Within.{Rooted}
-use Rattle.weights.specs.Matrix.{matrixOf}
+use Rattle.matrix.specs.Columns.{matrixOf}
 use borrow.Author.Needs.{needs}
 use Rattle.list.proofs.inside.list_within.Statement.{statement}
 use Rattle.list.proofs.inside.list_within.Tie as tie
@@ -44,15 +44,21 @@ polynomial-requires c κs =
     let n = c .before in
     let s = entry (n .before) in
     let z = s .pre .0 in
-    let price = z .3 in
-    ((omega arith, omega arith), (n .before .bound .ensures ∙ ap (bound (s .args .k - 1)) (z .3), n .count .ensures, few n))
+    record {
+      weighted = omega arith;
+      cheap = z .4;
+      priced = z .3;
+      bounded = n .before .bound .ensures ∙ ap (bound (s .args .k - 1)) (z .3);
+      counted = n .count .ensures;
+      room = few n;
+    }
 
 abbrev degree : tie.After-polynomial2 → tie.After-bound
 degree c = c .before .before .before
 
 -- the memory after the polynomial is found
 abbrev written : tie.After-polynomial2 → List ℕ
-written c = c .polynomial2 .last .1 .1 .1 .1 .0
+written c = c .polynomial2 .last .1 .1 .1 .1 .1 .0
 
 -- is as long as before
 long : (c : tie.After-polynomial2) → length (written c) ≡ coefficientRoom

@@ -3,10 +3,10 @@ use mathlib.Core.Path.{_≡_, refl}
 use Prim.Native.Nat.{_-_, _≤_}
 use lib.ListN.{length, drop}
 use Rattle.definitions.specs.Polynomial.{isZero}
-use Rattle.roots.proofs.Zero.{zero-stops, zero-goes-on, zero-ends}
+use Rattle.memory.proofs.Zero.{zero-stops, zero-goes-on, zero-ends}
 use native.Mathlib.Omega.{arith}
-use Rattle.roots.proofs.inside.all_zero.Statement.{statement}
-use Rattle.roots.proofs.inside.all_zero.Tie as tie
+use Rattle.memory.proofs.all_zero.Statement.{statement}
+use Rattle.memory.proofs.all_zero.Tie as tie
 
 abbrev Inv-loop : tie.InvT-loop
 Inv-loop list i₀ i = (i ≤ length list) × (isZero list ≡ isZero (drop i list))

@@ -2,20 +2,20 @@
 use mathlib.Core.Path.{_≡_}
 use Prim.Native.Nat.{_-_, _≤_}
 use Rattle.definitions.specs.Field.{sixteen}
-use Rattle.weights.proofs.Weighing.{none-loaded, column-more}
-use Rattle.weights.specs.Matrix.{zeroColumns, matrixOf}
+use Rattle.matrix.proofs.Columns.{none-loaded, column-more}
+use Rattle.matrix.specs.Columns.{zeroColumns, matrixOf}
 use native.Mathlib.Omega.{arith}
-use Rattle.weights.proofs.inside.load.Statement.{statement}
-use Rattle.weights.proofs.inside.load.Tie as tie
+use Rattle.matrix.proofs.opened.Statement.{statement}
+use Rattle.matrix.proofs.opened.Tie as tie
 
 abbrev Inv-loop : tie.InvT-loop
-Inv-loop matrix n columns₀ i₀ columns i = (i ≤ n) × (columns ≡ matrixOf sixteen matrix i)
+Inv-loop entries n columns₀ i₀ columns i = (i ≤ n) × (columns ≡ matrixOf sixteen entries i)
 
 abbrev μ-loop : tie.MeasureT-loop
-μ-loop matrix n columns₀ i₀ columns i = n - i
+μ-loop entries n columns₀ i₀ columns i = n - i
 
 loop-holds : tie.Need-loop-holds Inv-loop μ-loop
-loop-holds c = (omega arith, none-loaded sixteen (c .before .args .matrix .now))
+loop-holds c = (omega arith, none-loaded sixteen (c .before .args .entries .now))
 
 column-requires : tie.Need-column-requires Inv-loop μ-loop
 column-requires c κs = omega arith
@@ -36,7 +36,7 @@ loop-again : tie.Need-loop-again Inv-loop μ-loop
 loop-again c =
     let l = c .before .before in
     let s = l .before .before in
-    (omega arith, column-more sixteen (s .args .matrix .now) (zeroColumns sixteen) (l .loop .columns) (l .loop .i) (c .column .result) (omega arith) (l .loop .inv .1) (c .column .ensures))
+    (omega arith, column-more sixteen (s .args .entries .now) (zeroColumns sixteen) (l .loop .columns) (l .loop .i) (c .column .result) (omega arith) (l .loop .inv .1) (c .column .ensures))
 
 returns : tie.Need-returns Inv-loop μ-loop
 returns c =
@@ -45,8 +45,8 @@ returns c =
     let e : l .loop .i ≡ s .args .n = omega arith in
     rw e at (l .loop .inv .1)
 
-pub load-spec : {M : Type 1} → statement M
-load-spec =
+pub opened-spec : {M : Type 1} → statement M
+opened-spec =
     tie.close
     (tie.spec
     Inv-loop

@@ -1,11 +1,12 @@
 -- A multiplicity matrix held by value: "fifteen columns of sixteen small numbers", of the bytes that it is lent as.
 -- Assumes nothing.
 use mathlib.Core.List.{List, [], _++_, map}
-use Prim.Native.Nat.{ℕ, _*_}
-use lib.ListN.{take, drop, getD, replicate}
+use mathlib.Core.Path.{_≡_}
+use Prim.Native.Nat.{ℕ, _*_, _≤_}
+use lib.ListN.{length, take, drop, getD, replicate}
 use Rattle.definitions.specs.Field.{Code}
 use Rattle.definitions.specs.Tools.{below, sum}
-use Rattle.definitions.specs.Weights.{entryCost}
+use Rattle.definitions.specs.Weights.{entryCost, cost}
 
 module _ (C : Code) where
   -- the numbers of position i, one a symbol
@@ -26,3 +27,8 @@ module _ (C : Code) where
 
   abbrev pub matrixCost : List (List ℕ) → ℕ
   matrixCost a = sum (C .positions) (λ (i : ℕ). columnCost (getD a i []))
+
+  -- the bytes of n positions stand in front of these entries, and cost so much
+  pub record FrontCosts (n price : ℕ) (e : List ℕ) : Type 0 where
+    pub within : C .symbols * n ≤ length e
+    pub paid : price ≡ cost (take (C .symbols * n) e)

@@ -6,14 +6,14 @@ use mathlib.Core.List.{_++_, append-nil}
 use lib.ListN.{take, drop, replicate}
 use native.Mathlib.Omega.{arith}
 use Rattle.definitions.specs.Field.{sixteen}
-use Rattle.weights.proofs.inside.column.Statement.{statement}
-use Rattle.weights.proofs.inside.column.Tie as tie
+use Rattle.matrix.proofs.column.Statement.{statement}
+use Rattle.matrix.proofs.column.Tie as tie
 
 abbrev Inv-loop : tie.InvT-loop
-Inv-loop matrix i col₀ b₀ col b = (b ≤ sixteen .symbols) × (col ≡ take b (drop (sixteen .symbols * i) matrix) ++ drop b (replicate (sixteen .symbols) 0))
+Inv-loop entries i col₀ b₀ col b = (b ≤ sixteen .symbols) × (col ≡ take b (drop (sixteen .symbols * i) entries) ++ drop b (replicate (sixteen .symbols) 0))
 
 abbrev μ-loop : tie.MeasureT-loop
-μ-loop matrix i col₀ b₀ col b = sixteen .symbols - b
+μ-loop entries i col₀ b₀ col b = sixteen .symbols - b
 
 loop-holds : tie.Need-loop-holds Inv-loop μ-loop
 loop-holds c = (omega arith, refl)
@@ -41,7 +41,7 @@ loop-again c =
     let l = c .before .before in
     let s = l .before in (
       omega arith,
-      copied-more (s .args .matrix .now) (replicate (sixteen .symbols) 0) (l .loop .col) (sixteen .symbols * s .args .i) (l .loop .b) (omega arith) (c .before .loop-test .taken) (l .loop .inv .1),
+      copied-more (s .args .entries .now) (replicate (sixteen .symbols) 0) (l .loop .col) (sixteen .symbols * s .args .i) (l .loop .b) (omega arith) (c .before .loop-test .taken) (l .loop .inv .1),
     )
 
 returns : tie.Need-returns Inv-loop μ-loop

@@ -1,4 +1,4 @@
--- The steps of the test for zero coefficients.
+-- The steps of the test for zeros.
 -- Assumes nothing.
 use mathlib.Core.Bool.{Bool, true, false, _&&_}
 use mathlib.Core.List.{List}

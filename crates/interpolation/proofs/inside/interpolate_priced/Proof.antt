@@ -1,0 +1,98 @@
+-- The stored cost is that of the bytes: it is refused, or the entries are opened and the polynomial of their columns is that of the bytes.
+use mathlib.Core.List.{List}
+use mathlib.Core.Path.{_≡_, _∙_, ap}
+use Prim.Native.Nat.{ℕ, _*_, _-_, _≤_}
+use native.Mathlib.Omega.{arith}
+use lib.ListN.{length, take}
+use lib.Seq.{length-take-le}
+use Rattle.definitions.proofs.Bound.{bound-le}
+use Rattle.definitions.specs.Bound.{bound}
+use Rattle.definitions.specs.Field.{sixteen}
+use Rattle.definitions.specs.Limits.{greatestLimit}
+use Rattle.interpolation.proofs.Answers.{refused-by-cost, found-is-answered}
+use Rattle.interpolation.proofs.Coefficients.{count-small}
+use Rattle.matrix.proofs.Columns.{opened-front, opened-cost}
+use Rattle.matrix.specs.Columns.{matrixCost}
+use borrow.Author.Needs.{needs}
+use Rattle.interpolation.proofs.inside.interpolate_priced.Statement.{statement}
+use Rattle.interpolation.proofs.inside.interpolate_priced.Tie as tie
+
+-- the bytes in front of the entries
+abbrev bytes : tie.Start → List ℕ
+bytes s = take (sixteen .symbols * s .args .n) (s .args .entries .now)
+
+returns : tie.Need-returns
+returns c =
+    let s = c .before .before .before in
+    let a = s .args in
+    let paid = s .pre .1 .paid in
+    refused-by-cost sixteen (a .n) (a .k) (a .limit) (bytes s) (a .out .now) (omega arith)
+
+abbrev entry : tie.Else1 → tie.Start
+entry c = c .before .before .before
+
+cheap : (c : tie.Else1) → entry c .args .cost ≤ greatestLimit
+cheap c = let low = entry c .pre .0 .low in omega arith
+
+count-requires : tie.Need-count-requires
+count-requires c κs =
+    let e = c .before .before in
+    let s = entry e .pre .0 .sized in
+    let h = cheap e in
+    let low = bound-le (entry e .args .k - 1) (omega arith) (entry e .args .cost) in
+    let d = c .bound .ensures in
+    (omega arith, omega arith)
+
+-- the stored cost is that of the columns
+paid : (c : tie.After-opened) → entry (c .before) .args .cost ≡ matrixCost sixteen (c .opened .result)
+paid c =
+    let s = entry (c .before) in
+    opened-cost sixteen (s .args .n) (s .args .cost) (s .args .entries .now) (s .pre .0 .sized .2) (s .pre .1) (c .opened .result) (c .opened .ensures)
+
+polynomial-requires : tie.Need-polynomial-requires
+polynomial-requires c κs =
+    let n = c .before .before in
+    let d = n .before in
+    let o = d .before in
+    let s = entry (o .before) in
+    let v = s .args .k - 1 in
+    let f = s .pre .0 in
+    let sized = f .sized in
+    let few = count-small v (d .bound .result) (n .count .result) (s .args .cost) (omega arith) (cheap (o .before)) (d .bound .ensures) (n .count .ensures) in
+    let space = f .spacious in
+    record {
+      weighted = omega arith;
+      cheap = cheap (o .before);
+      priced = paid o;
+      bounded = d .bound .ensures ∙ ap (bound v) (paid o);
+      counted = n .count .ensures;
+      room = omega arith;
+    }
+
+returns-2 : tie.Need-returns-2
+returns-2 c =
+    let p = c .before .before in
+    let n = p .before .before .before in
+    let d = n .before in
+    let o = d .before in
+    let s = entry (o .before) in
+    let a = s .args in
+    let f = s .pre .0 in
+    let h = s .pre .1 in
+    found-is-answered sixteen (a .n) (a .k) (a .limit) (bytes s) (a .out .now) (f .sized .2) (length-take-le (sixteen .symbols * a .n) (a .entries .now) (h .within))
+    (o .opened .result) (opened-front sixteen (a .n) (a .cost) (a .entries .now) (f .sized .2) h (o .opened .result) (o .opened .ensures)) (a .cost) (d .bound .result)
+    (n .count .result) (p .polynomial .result) (p .polynomial .last .1 .1 .1 .1 .1 .0) (h .paid) (o .before .if1 .left) (d .bound .ensures) (n .count .ensures)
+    (p .polynomial .ensures)
+
+pub interpolate-priced-spec : {M : Type 1} → statement M
+interpolate-priced-spec =
+    tie.close
+    (tie.spec
+    returns
+    (λ c κs. search needs)
+    (λ c. search needs)
+    (λ c κs. search needs)
+    count-requires
+    polynomial-requires
+    (λ c. search needs)
+    returns-2)
