@@ -1,0 +1,4 @@
+pub mod Edits
+pub mod Sums
+pub mod Moving
+pub mod Unique

@@ -1,0 +1,83 @@
+-- The lowest place above 5 is refused; where there is none the sum is made in place, and counted.
+use mathlib.Core.Bool.{false}
+use mathlib.Core.List.{List, [], _∷_}
+use mathlib.Core.Path.{_≡_, _∙_, ap}
+use Prim.Native.Nat.{ℕ}
+use native.Mathlib.Omega.{arith}
+use borrow.Author.Needs.{needs}
+use lib.ListN.{length}
+use Rattle.definitions.proofs.Editing.{length-added}
+use Rattle.definitions.proofs.Held.{Rightly, rightly-means, length-totals}
+use Rattle.definitions.specs.Editing.{inOrOut}
+use Rattle.definitions.specs.Field.{sixteen}
+use Rattle.definitions.specs.Held.{Held, held, totalsOf, heldOf, withAdded}
+use Rattle.definitions.specs.Weights.{cost}
+use Rattle.parts.proofs.Edits.{above-refused, not-given, none-above-done}
+use Rattle.parts.proofs.Sums.{low-sum}
+use Rattle.parts.proofs.inside.add_right.Statement.{statement}
+use Rattle.parts.proofs.inside.add_right.Tie as tie
+
+abbrev handed : tie.Start → Held
+handed s = held (s .args .n) (s .args .cost) (s .args .totals .now) (s .args .entries .now)
+
+abbrev sum : tie.Start → List ℕ
+sum s = withAdded (s .args .entries .now) (s .args .others .now)
+
+right : (s : tie.Start) → Rightly sixteen (handed s)
+right s = rightly-means sixteen (handed s) (s .pre .0)
+
+lowest-sum-requires : tie.Need-lowest-sum-requires
+lowest-sum-requires c κs = let s = c .before .before .before .before in (right s .full, s .pre .1)
+
+returns : tie.Need-returns
+returns c =
+    let b = c .before in
+    let s = b .before .before .before .before .before in
+    above-refused sixteen (s .args .entries .now ∷ s .args .others .now ∷ sum s ∷ []) (handed s) (heldOf sixteen (s .args .n) (sum s)) (b .lowest-sum .result) (b .lowest-sum .ensures)
+    (c .if1 .taken)
+
+-- no entry is above 5
+passed : (c : tie.Else1) → (let s = c .before .before .before .before .before .before in inOrOut sixteen (s .args .entries .now ∷ s .args .others .now ∷ sum s ∷ []) .given ≡ false)
+passed c =
+    let b = c .before in
+    let s = b .before .before .before .before .before in
+    not-given sixteen (s .args .entries .now ∷ s .args .others .now ∷ sum s ∷ []) (handed s) (heldOf sixteen (s .args .n) (sum s)) (b .lowest-sum .result) (b .lowest-sum .ensures)
+    (c .if1 .left)
+
+add-entries-requires : tie.Need-add-entries-requires
+add-entries-requires c κs =
+    let s = c .before .before .before .before .before .before .before in
+    let full = right s .full in
+    let others = s .pre .1 in
+    (omega arith, low-sum sixteen (s .args .entries .now) (s .args .others .now) full (passed (c .before)))
+
+count-requires : tie.Need-count-requires
+count-requires c κs =
+    let a = c .before .before .before .before in
+    let s = a .before .before .before .before .before .before .before .before in (
+      ap length (right s .totals-are) ∙ length-totals sixteen (s .args .entries .now),
+      ap length (a .add-entries .ensures) ∙ length-added (s .args .entries .now) (s .args .others .now) ∙ right s .full,
+    )
+
+returns-2 : tie.Need-returns-2
+returns-2 c =
+    let q = c .before .before in
+    let a = q .before .before .before .before .before in
+    let b = a .before .before .before in
+    let s = b .before .before .before .before .before in
+    let e = a .add-entries .ensures in
+    none-above-done sixteen (s .args .entries .now ∷ s .args .others .now ∷ sum s ∷ []) (handed s) (heldOf sixteen (s .args .n) (sum s)) (b .lowest-sum .result) (b .lowest-sum .ensures)
+    (a .before .before .if1 .left) _ _ _ (q .count .ensures .0 ∙ ap cost e) (q .count .ensures .1 ∙ ap (totalsOf sixteen) e) e
+
+pub add-right-spec : {M : Type 1} → statement M
+add-right-spec =
+    tie.close
+    (tie.spec
+    lowest-sum-requires
+    (λ c. search needs)
+    returns
+    add-entries-requires
+    count-requires
+    (λ c. search needs)
+    (λ c. search needs)
+    returns-2)

@@ -1,0 +1,31 @@
+-- An entry that is not above 5 changes nothing; one that is counts where it lies before the first of the old ones.
+use mathlib.Core.Path.{_≡_, _∙_}
+use native.Mathlib.Omega.{arith}
+use borrow.Author.Needs.{needs}
+use Rattle.definitions.proofs.Editing.{lowest-old, lowest-new}
+use Rattle.definitions.specs.Field.{sixteen}
+use Rattle.parts.proofs.inside.lowest_set.Statement.{statement}
+use Rattle.parts.proofs.inside.lowest_set.Tie as tie
+
+returns : tie.Need-returns
+returns c =
+    let f = c .before in
+    let s = f .before .before in
+    f .first-above .ensures ∙ lowest-old sixteen (s .args .entries .now) (s .pre .0) (s .args .at) (s .args .entry) (omega arith) (λ _. omega arith)
+
+returns-2 : tie.Need-returns-2
+returns-2 c =
+    let f = c .before .before in
+    let s = f .before .before in
+    let e = f .first-above .ensures in
+    e ∙ lowest-old sixteen (s .args .entries .now) (s .pre .0) (s .args .at) (s .args .entry) (omega arith) (λ l. let z : ⊥ = omega arith in absurd z)
+
+returns-3 : tie.Need-returns-3
+returns-3 c =
+    let f = c .before .before in
+    let s = f .before .before in
+    let e = f .first-above .ensures in
+    lowest-new sixteen (s .args .entries .now) (s .pre .0) (s .args .at) (s .args .entry) (omega arith) (omega arith) (omega arith)
+
+pub lowest-set-spec : {M : Type 1} → statement M
+lowest-set-spec = tie.close (tie.spec (λ c κs. search needs) returns returns-2 returns-3)

@@ -1,0 +1,15 @@
+-- Two checks are two lines.
+use mathlib.Core.Path.{_∙_, ap}
+use borrow.Author.Needs.{needs}
+use Rattle.definitions.specs.Editing.{position}
+use Rattle.refusals.specs.Checked.{Outcome, orLine}
+use Rattle.parts.proofs.inside.placed.Statement.{statement}
+use Rattle.parts.proofs.inside.placed.Tie as tie
+
+returns : tie.Need-returns
+returns c =
+    let a = c .before .before .args in
+    c .or .ensures ∙ ap (λ (o : Outcome). orLine o (position (a .n) (a .at))) (c .before .size .ensures)
+
+pub placed-spec : {M : Type 1} → statement M
+placed-spec = tie.close (tie.spec (λ c κs. search needs) (λ c κs. search needs) returns)

@@ -1,0 +1,2 @@
+pub mod Priced
+pub mod Edits
