@@ -1,3 +1,4 @@
 pub mod Fits
+pub mod RecordFits
 pub mod Unique
 pub mod Handed

@@ -11,6 +11,7 @@ ghost use Rattle.field.specs.Element.{toldElement};
 ghost use Rattle.interpolation.specs.Interpolated.{toldInterpolated};
 ghost use Rattle.weights.specs.Costed.{toldCosted};
 
+pub mod editing;
 pub mod judging;
 
 use field::Element;
