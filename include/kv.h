@@ -8,9 +8,10 @@
  * not changed by others during the call; lent output overlaps no input. Where a length is 0 nothing
  * is read or written.
  *
- * Inputs are never changed. A refused call changes no lent memory: it answers its number, its
- * place, and 0 in every other field. The place is 0 unless an entry below says otherwise. Refusals
- * are tried in the order in which they are listed, and the first that holds is given.
+ * Inputs are never changed, but for a record that is edited. A refused call changes no lent memory:
+ * it answers its number, its place, and 0 in every other field. The place is 0 unless an entry below
+ * says otherwise. Refusals are tried in the order in which they are listed, and the first that holds
+ * is given.
  */
 #ifndef KV_H
 #define KV_H
@@ -25,6 +26,7 @@ extern "C" {
 enum {
     KV_SYMBOLS = 16,       /* so many symbols there are */
     KV_POSITIONS = 15,     /* the most positions */
+    KV_ENTRIES = 240,      /* those of a record: KV_SYMBOLS for each of KV_POSITIONS */
     KV_WHOLE = 4096,       /* the most that a position's reliabilities sum to */
     KV_LEVEL = 5,          /* the greatest level, and the greatest entry of a matrix */
     KV_LIMIT = 225,        /* the greatest limit on a matrix's cost */
@@ -177,6 +179,121 @@ struct kv_answer kv_list_of_reliabilities(size_t n, size_t k, size_t level, size
                                           const uint16_t *reliabilities, size_t reliabilities_len,
                                           uint8_t *rows, size_t rows_len,
                                           uint16_t *scores, size_t scores_len);
+
+/*
+ * A matrix that is edited is kept as a record of four parts: n; cost, the sum of m(m+1)/2 over its
+ * entries m; totals, of which totals[i] is the sum of the sixteen entries of position i; and
+ * entries, with the multiplicity of position i, symbol b at 16i + b, and 0 from 16n on. Totals are
+ * KV_POSITIONS numbers and entries KV_ENTRIES, whatever n is.
+ *
+ * The caller keeps all four and hands them back. Any numbers may be handed in: a record is rightly
+ * held where totals_len, in numbers, is KV_POSITIONS, entries_len is KV_ENTRIES, and cost, totals
+ * and the entries from 16n on are as said above. Only such a record is taken, and only such a one
+ * comes out of a call that is not refused.
+ *
+ * The five entries from kv_matrix_fresh to kv_matrix_add write totals and entries in place, and
+ * answer as cost what the caller is to keep for the record's cost from then on. An edit looks at
+ * each entry once, to check the record, and then changes no more than it must.
+ */
+
+/*
+ * cost: 0.
+ * Memory: totals and entries are all 0; they may hold anything before.
+ * Refusals: 1 unless 2 <= n <= 15; 3 where totals_len, in numbers, is not KV_POSITIONS or
+ * entries_len is not KV_ENTRIES.
+ */
+struct kv_answer kv_matrix_fresh(size_t n,
+                                 uint16_t *totals, size_t totals_len,
+                                 uint8_t *entries, size_t entries_len);
+
+/*
+ * The matrix has the multiplicity of position i, symbol b at 16i + b.
+ * cost: of the matrix.
+ * Memory: entries are those of the matrix and 0 from 16n on, totals theirs; both may hold anything
+ * before.
+ * Refusals: 1 unless 2 <= n <= 15; 3 where matrix_len is not 16n, totals_len, in numbers, is not
+ * KV_POSITIONS or entries_len is not KV_ENTRIES; 5 where an entry of the matrix is above KV_LEVEL,
+ * place its index, the first one's.
+ */
+struct kv_answer kv_matrix_of_bytes(size_t n,
+                                    const uint8_t *matrix, size_t matrix_len,
+                                    uint16_t *totals, size_t totals_len,
+                                    uint8_t *entries, size_t entries_len);
+
+/*
+ * cost: of the record afterwards.
+ * Memory: entries[16 * position + symbol] is entry, and totals[position] follows.
+ * Refusals: 1 unless 2 <= n <= 15, position < n and symbol <= 15; 3 where the record is not rightly
+ * held; 5 where an entry of the record as it is, or as it would be, is above KV_LEVEL, place the
+ * lowest index of one; an entry that would be overwritten counts.
+ */
+struct kv_answer kv_matrix_set_entry(size_t n, size_t cost,
+                                     uint16_t *totals, size_t totals_len,
+                                     uint8_t *entries, size_t entries_len,
+                                     size_t position, size_t symbol, uint8_t entry);
+
+/*
+ * cost: of the record afterwards.
+ * Memory: the sixteen entries of the position and its total are 0.
+ * Refusals: 1 unless 2 <= n <= 15 and position < n; 3 where the record is not rightly held; 5 where
+ * an entry is above KV_LEVEL, place its index, the first one's; one that would be cleared counts.
+ */
+struct kv_answer kv_matrix_clear_column(size_t n, size_t cost,
+                                        uint16_t *totals, size_t totals_len,
+                                        uint8_t *entries, size_t entries_len,
+                                        size_t position);
+
+/*
+ * Adds the other record to the first, entry by entry. They do not overlap: to double a matrix, copy
+ * it.
+ * cost: of the first record afterwards.
+ * Memory: each of entries is what it was and the other's at the same index, and totals follow. The
+ * other record stays.
+ * Refusals: 1 unless 2 <= n <= 15 and other_n is n; 3 where either record is not rightly held; 5
+ * where an entry of either record, or of their sum, is above KV_LEVEL, place the lowest index of
+ * one.
+ */
+struct kv_answer kv_matrix_add(size_t n, size_t cost,
+                               uint16_t *totals, size_t totals_len,
+                               uint8_t *entries, size_t entries_len,
+                               size_t other_n, size_t other_cost,
+                               const uint16_t *other_totals, size_t other_totals_len,
+                               const uint8_t *other_entries, size_t other_entries_len);
+
+/*
+ * cost, bound: as kv_cost_and_bound answers them for the first 16n entries.
+ * Refusals: 1 unless 2 <= k <= n <= 15; 3 where the record is not rightly held; 5 where an entry is
+ * above KV_LEVEL, place its index, the first one's.
+ */
+struct kv_answer kv_matrix_cost_and_bound(size_t n, size_t cost,
+                                          const uint16_t *totals, size_t totals_len,
+                                          const uint8_t *entries, size_t entries_len,
+                                          size_t k);
+
+/*
+ * bound, count, memory: as kv_interpolate answers and leaves them for the first 16n entries.
+ * Refusals: 1 unless 2 <= k <= n <= 15; 2 where limit is above KV_LIMIT; 3 where the record is not
+ * rightly held; 4 where out_len is below KV_COEFFICIENTS; 5 where an entry is above KV_LEVEL, place
+ * its index, the first one's; 7 where cost is above limit.
+ */
+struct kv_answer kv_matrix_interpolate(size_t n, size_t cost,
+                                       const uint16_t *totals, size_t totals_len,
+                                       const uint8_t *entries, size_t entries_len,
+                                       size_t k, size_t limit,
+                                       uint8_t *out, size_t out_len);
+
+/*
+ * count, memory: as kv_list_of_multiplicities answers and leaves them for the first 16n entries.
+ * Refusals: 1 unless 2 <= k <= n <= 15; 2 where limit is above KV_LIMIT; 3 where the record is not
+ * rightly held; 4 where rows_len is below KV_ROWS * k or scores_len, in numbers, below KV_ROWS; 5
+ * where an entry is above KV_LEVEL, place its index, the first one's; 7 where cost is above limit.
+ */
+struct kv_answer kv_matrix_list(size_t n, size_t cost,
+                                const uint16_t *totals, size_t totals_len,
+                                const uint8_t *entries, size_t entries_len,
+                                size_t k, size_t limit,
+                                uint8_t *rows, size_t rows_len,
+                                uint16_t *scores, size_t scores_len);
 
 /*
  * The list has rows[kr + j] as symbol j of the message of row r, and scores[r] as its score. It may

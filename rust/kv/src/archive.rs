@@ -111,6 +111,45 @@ entries! {
         rows: &mut [u8], scores: &mut [u16]
     ) -> Answer;
 
+    /// `cost` 0. `totals` and `entries` are all zeros, whatever they were; they are
+    /// [`POSITIONS`](crate::POSITIONS) and [`ENTRIES`](crate::ENTRIES).
+    matrix_fresh = kv_matrix_fresh(n: usize, totals: &mut [u16], entries: &mut [u8]) -> Answer;
+
+    /// `cost` of the matrix. `entries` begins with it and is 0 from there on, and `totals` are
+    /// theirs, whatever both were; they are [`POSITIONS`](crate::POSITIONS) and
+    /// [`ENTRIES`](crate::ENTRIES).
+    matrix_of_bytes = kv_matrix_of_bytes(
+        n: usize, matrix: &[u8], totals: &mut [u16], entries: &mut [u8]
+    ) -> Answer;
+
+    matrix_set_entry = kv_matrix_set_entry(
+        n: usize, cost: usize, totals: &mut [u16], entries: &mut [u8],
+        position: usize, symbol: usize, entry: u8
+    ) -> Answer;
+
+    matrix_clear_column = kv_matrix_clear_column(
+        n: usize, cost: usize, totals: &mut [u16], entries: &mut [u8], position: usize
+    ) -> Answer;
+
+    matrix_add = kv_matrix_add(
+        n: usize, cost: usize, totals: &mut [u16], entries: &mut [u8],
+        other_n: usize, other_cost: usize, other_totals: &[u16], other_entries: &[u8]
+    ) -> Answer;
+
+    matrix_cost_and_bound = kv_matrix_cost_and_bound(
+        n: usize, cost: usize, totals: &[u16], entries: &[u8], k: usize
+    ) -> Answer;
+
+    matrix_interpolate = kv_matrix_interpolate(
+        n: usize, cost: usize, totals: &[u16], entries: &[u8], k: usize, limit: usize,
+        out: &mut [u8]
+    ) -> Answer;
+
+    matrix_list = kv_matrix_list(
+        n: usize, cost: usize, totals: &[u16], entries: &[u8], k: usize, limit: usize,
+        rows: &mut [u8], scores: &mut [u16]
+    ) -> Answer;
+
     /// `value` of the verdict on one list.
     judge = kv_judge(k: usize, rows: &[u8], scores: &[u16], lead: usize) -> Judgement;
 

@@ -17,7 +17,8 @@
 
 pub use crate::archive::{
     cost_and_bound, encode, interpolate, inverse, judge, list_of_multiplicities,
-    list_of_reliabilities, multiplicities, open, product, roots, sum, Answer, Judgement,
+    list_of_reliabilities, matrix_fresh, matrix_of_bytes, multiplicities, open, product, roots,
+    sum, Answer, Judgement,
 };
 use crate::{archive, Photograph, Refusal};
 
@@ -63,4 +64,69 @@ pub fn judge_both(first: Photograph<'_>, second: Photograph<'_>, lead: usize) ->
 /// of the first list begin with the row where it is 1, those of the second where it is 2.
 pub fn open_both(first: Photograph<'_>, second: Photograph<'_>, lead: usize) -> Judgement {
     of_both(archive::open_both, first, second, lead)
+}
+
+/// A matrix record in parts, whatever they hold. [`Matrix`](crate::Matrix) says what they should.
+#[derive(Clone, Copy, Debug)]
+pub struct Record<'a> {
+    /// The number of positions.
+    pub n: usize,
+    /// Of all entries.
+    pub cost: usize,
+    /// The sum of each position's entries.
+    pub totals: &'a [u16],
+    /// Position i, symbol b at 16i + b.
+    pub entries: &'a [u8],
+}
+
+/// A [`Record`] that a call changes in place: `totals` and `entries`. The record's cost afterwards is
+/// the answer's `cost`.
+#[derive(Debug)]
+pub struct Edited<'a> {
+    /// The number of positions.
+    pub n: usize,
+    /// Of all entries.
+    pub cost: usize,
+    /// The sum of each position's entries.
+    pub totals: &'a mut [u16],
+    /// Position i, symbol b at 16i + b.
+    pub entries: &'a mut [u8],
+}
+
+/// `cost` of the record that has the entry at this position and symbol.
+pub fn matrix_set_entry(a: Edited<'_>, position: usize, symbol: usize, entry: u8) -> Answer {
+    archive::matrix_set_entry(a.n, a.cost, a.totals, a.entries, position, symbol, entry)
+}
+
+/// `cost` of the record that has zeros at this position.
+pub fn matrix_clear_column(a: Edited<'_>, position: usize) -> Answer {
+    archive::matrix_clear_column(a.n, a.cost, a.totals, a.entries, position)
+}
+
+/// `cost` of the record that has the other one added to it, entry by entry.
+pub fn matrix_add(a: Edited<'_>, b: Record<'_>) -> Answer {
+    archive::matrix_add(
+        a.n, a.cost, a.totals, a.entries, b.n, b.cost, b.totals, b.entries,
+    )
+}
+
+/// `cost` and `bound` of the record.
+pub fn matrix_cost_and_bound(a: Record<'_>, k: usize) -> Answer {
+    archive::matrix_cost_and_bound(a.n, a.cost, a.totals, a.entries, k)
+}
+
+/// As [`interpolate`] of the record's first 16n entries.
+pub fn matrix_interpolate(a: Record<'_>, k: usize, limit: usize, out: &mut [u8]) -> Answer {
+    archive::matrix_interpolate(a.n, a.cost, a.totals, a.entries, k, limit, out)
+}
+
+/// As [`list_of_multiplicities`] of the record's first 16n entries.
+pub fn matrix_list(
+    a: Record<'_>,
+    k: usize,
+    limit: usize,
+    rows: &mut [u8],
+    scores: &mut [u16],
+) -> Answer {
+    archive::matrix_list(a.n, a.cost, a.totals, a.entries, k, limit, rows, scores)
 }

@@ -22,6 +22,8 @@
 //! What to do with such a list says [`judge`], and with those of two photographs [`judge_both`]: open
 //! the pouch, ask a person, or nothing.
 //!
+//! A [`Matrix`] is one that is corrected by hand, and listed again: it keeps its cost as it changes.
+//!
 //! Symbols are 0 to 15, polynomials over bits modulo x⁴ + x + 1; alpha is 2. A matrix or a list of
 //! reliabilities has the entry of position i, symbol b at 16i + b. Whatever numbers and slices come
 //! in, no call panics and every call returns: it answers, or says its [`Refusal`].
@@ -35,6 +37,7 @@ pub mod lent;
 mod list;
 mod matrix;
 mod polynomial;
+mod record;
 mod refusal;
 mod symbols;
 
@@ -42,6 +45,7 @@ pub use counter::{judge, judge_both, open, open_both, Photograph, Verdict};
 pub use list::{list_of_multiplicities, list_of_reliabilities, Listed, Row};
 pub use matrix::{cost_and_bound, multiplicities, CostAndBound};
 pub use polynomial::{interpolate, roots, Polynomial};
+pub use record::Matrix;
 pub use refusal::Refusal;
 pub use symbols::{encode, inverse, product, sum};
 
@@ -49,6 +53,8 @@ pub use symbols::{encode, inverse, product, sum};
 pub const SYMBOLS: usize = 16;
 /// The most positions that a codeword has.
 pub const POSITIONS: usize = 15;
+/// The entries of a [`Matrix`], whatever its n is.
+pub const ENTRIES: usize = SYMBOLS * POSITIONS;
 /// The most that the reliabilities of a position may sum to: those of a clear mark do, those of an
 /// erased one are all 0.
 pub const WHOLE: u16 = 4096;

@@ -48,7 +48,10 @@ impl Listed {
 }
 
 /// The list of a call that is lent room for it.
-fn listed(k: usize, list: impl FnOnce(&mut [u8], &mut [u16]) -> Answer) -> Result<Listed, Refusal> {
+pub(crate) fn listed(
+    k: usize,
+    list: impl FnOnce(&mut [u8], &mut [u16]) -> Answer,
+) -> Result<Listed, Refusal> {
     let (mut messages, mut scores) = ([0; ROWS * POSITIONS], [0; ROWS]);
     let answer = list(&mut messages, &mut scores).accepted()?;
     let written = messages.chunks(k).zip(scores).take(answer.count.into());

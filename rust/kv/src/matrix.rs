@@ -1,6 +1,7 @@
 //! Multiplicity matrices.
 
-use crate::{lent, Refusal, Sizes, POSITIONS, SYMBOLS};
+use crate::lent::{self, Answer};
+use crate::{Refusal, Sizes, ENTRIES};
 
 /// The matrix of the reliabilities: each entry is the whole part of level times reliability / 4096,
 /// whatever those of its position sum to. An erased mark, all zeros, has a column of zeros.
@@ -24,7 +25,7 @@ use crate::{lent, Refusal, Sizes, POSITIONS, SYMBOLS};
 /// # Ok::<(), kv::Refusal>(())
 /// ```
 pub fn multiplicities(n: usize, level: usize, reliabilities: &[u16]) -> Result<Vec<u8>, Refusal> {
-    let mut matrix = [0; SYMBOLS * POSITIONS];
+    let mut matrix = [0; ENTRIES];
     let answer = lent::multiplicities(n, level, reliabilities, &mut matrix).accepted()?;
     Ok(matrix.into_iter().take(answer.count.into()).collect())
 }
@@ -37,6 +38,16 @@ pub struct CostAndBound {
     /// The smallest D such that more than `cost` pairs (a, b) of numbers from 0 on have
     /// a + (k-1)b <= D.
     pub bound: usize,
+}
+
+impl CostAndBound {
+    pub(crate) fn of(answer: Answer) -> Result<CostAndBound, Refusal> {
+        let answer = answer.accepted()?;
+        Ok(CostAndBound {
+            cost: answer.cost.into(),
+            bound: answer.bound.into(),
+        })
+    }
 }
 
 /// The cost of a matrix, and the bound.
@@ -54,9 +65,5 @@ pub struct CostAndBound {
 /// # Ok::<(), kv::Refusal>(())
 /// ```
 pub fn cost_and_bound(Sizes { n, k }: Sizes, matrix: &[u8]) -> Result<CostAndBound, Refusal> {
-    let answer = lent::cost_and_bound(n, k, matrix).accepted()?;
-    Ok(CostAndBound {
-        cost: answer.cost.into(),
-        bound: answer.bound.into(),
-    })
+    CostAndBound::of(lent::cost_and_bound(n, k, matrix))
 }

@@ -1,6 +1,7 @@
 //! Polynomials in x and y: interpolation and roots.
 
-use crate::{lent, Refusal, Sizes, COEFFICIENTS, GREATEST_COUNT};
+use crate::lent::{self, Answer};
+use crate::{Refusal, Sizes, COEFFICIENTS, GREATEST_COUNT};
 
 /// A polynomial in x and y. Monomials x^a y^b are ordered by a + (k-1)b, the weighted degree, then
 /// by b, lower first.
@@ -10,6 +11,19 @@ pub struct Polynomial {
     pub bound: usize,
     /// Of the monomials of weighted degree at most `bound`, in their order.
     pub coefficients: Vec<u8>,
+}
+
+/// The polynomial of a call that is lent room for it.
+pub(crate) fn interpolated(
+    interpolate: impl FnOnce(&mut [u8]) -> Answer,
+) -> Result<Polynomial, Refusal> {
+    let mut coefficients = [0; COEFFICIENTS];
+    let answer = interpolate(&mut coefficients).accepted()?;
+    let written = coefficients.into_iter().take(answer.count.into());
+    Ok(Polynomial {
+        bound: answer.bound.into(),
+        coefficients: written.collect(),
+    })
 }
 
 /// The one polynomial that is not 0, passes through each (alpha^i, b) as often as the matrix says,
@@ -35,13 +49,7 @@ pub fn interpolate(
     limit: usize,
     matrix: &[u8],
 ) -> Result<Polynomial, Refusal> {
-    let mut coefficients = [0; COEFFICIENTS];
-    let answer = lent::interpolate(n, k, limit, matrix, &mut coefficients).accepted()?;
-    let written = coefficients.into_iter().take(answer.count.into());
-    Ok(Polynomial {
-        bound: answer.bound.into(),
-        coefficients: written.collect(),
-    })
+    interpolated(|out| lent::interpolate(n, k, limit, matrix, out))
 }
 
 /// The messages of k symbols, f being a message's polynomial, for which Q(x, f(x)) is 0

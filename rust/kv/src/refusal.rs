@@ -12,19 +12,20 @@ use std::fmt::{Display, Formatter, Result};
 /// ```
 #[derive(Clone, Copy, Debug, PartialEq, Eq, Hash)]
 pub enum Refusal {
-    /// 1: n or k is not among the sizes that the entry takes.
+    /// 1: n or k is not among the sizes that the entry takes, a position or a symbol lies outside the
+    /// matrix, or matrices of unequal n are added.
     Sizes,
     /// 2: the level, the limit, the degree or the lead is not among those that the entry takes, or
     /// two lists have unequal settings.
     Setting,
-    /// 3: the input has not the length that the sizes ask for, or rows are not in list order or
-    /// repeat a message.
+    /// 3: the input has not the length that the sizes ask for, rows are not in list order or repeat a
+    /// message, or a [`Matrix`](crate::Matrix) is not rightly held.
     Length,
     /// 4: lent memory is too short. Only the calls of [`lent`](crate::lent) are refused so: the
     /// others bring enough.
     Room,
     /// 5: the entry at this index is above the greatest one allowed, and none before it is. The
-    /// indexes of a second list run on after the first's last.
+    /// indexes of a second list run on after the first's last, those of a second matrix do not.
     Symbol(usize),
     /// 6: the reliabilities of this position sum to more than 4096, and those of none before it do.
     Column(usize),

@@ -1,7 +1,10 @@
 //! Whatever comes in, each call answers what the same call with lent memory does.
 
-use kv::lent::{self, Answer, Judgement};
-use kv::{CostAndBound, Listed, Photograph, Polynomial, Refusal, Row, Settings, Sizes, Verdict};
+use kv::lent::{self, Answer, Edited, Judgement, Record};
+use kv::{
+    CostAndBound, Listed, Matrix, Photograph, Polynomial, Refusal, Row, Settings, Sizes, Verdict,
+    POSITIONS, SYMBOLS,
+};
 
 const NUMBERS: [usize; 10] = [0, 1, 2, 3, 5, 15, 16, 225, 1 << 32, usize::MAX];
 const LENGTHS: [usize; 9] = [0, 1, 2, 3, 6, 31, 32, 240, 257];
@@ -52,6 +55,20 @@ fn first(answer: Answer, bytes: &[u8], _: &[u16]) -> Vec<u8> {
     bytes[..answer.count.into()].to_vec()
 }
 
+fn cost_and_bound(answer: Answer, _: &[u8], _: &[u16]) -> CostAndBound {
+    CostAndBound {
+        cost: answer.cost.into(),
+        bound: answer.bound.into(),
+    }
+}
+
+fn polynomial(answer: Answer, bytes: &[u8], scores: &[u16]) -> Polynomial {
+    Polynomial {
+        bound: answer.bound.into(),
+        coefficients: first(answer, bytes, scores),
+    }
+}
+
 fn listed(k: usize, answer: Answer, bytes: &[u8], scores: &[u16]) -> Listed {
     let row = |index: usize| Row {
         score: scores[index].into(),
@@ -81,10 +98,6 @@ fn inputs_of_bytes() {
         for input in inputs(&ENTRIES) {
             let encoded = lent(|out, _| lent::encode(n, k, &input, out), first);
             assert_eq!(kv::encode(sizes, &input), encoded);
-            let cost_and_bound = |answer: Answer, _: &[u8], _: &[u16]| CostAndBound {
-                cost: answer.cost.into(),
-                bound: answer.bound.into(),
-            };
             let found = lent(|_, _| lent::cost_and_bound(n, k, &input), cost_and_bound);
             assert_eq!(kv::cost_and_bound(sizes, &input), found);
             let roots = |answer: Answer, bytes: &[u8], _: &[u16]| {
@@ -102,10 +115,6 @@ fn matrices_with_limits() {
     for ((n, k), limit) in pairs().flat_map(|pair| NUMBERS.map(|limit| (pair, limit))) {
         let sizes = Sizes { n, k };
         for matrix in inputs(&ENTRIES) {
-            let polynomial = |answer: Answer, bytes: &[u8], scores: &[u16]| Polynomial {
-                bound: answer.bound.into(),
-                coefficients: first(answer, bytes, scores),
-            };
             let found = lent(
                 |out, _| lent::interpolate(n, k, limit, &matrix, out),
                 polynomial,
@@ -137,6 +146,151 @@ fn reliabilities() {
                 kv::list_of_reliabilities(Sizes { n, k }, settings, &input),
                 found
             );
+        }
+    }
+}
+
+/// What a call comes to that makes a matrix in lent memory.
+fn lent_matrix(
+    n: usize,
+    make: impl FnOnce(&mut [u16], &mut [u8]) -> Answer,
+) -> Result<Matrix, Refusal> {
+    let (mut totals, mut entries) = ([99; POSITIONS], [99; kv::ENTRIES]);
+    let answer = make(&mut totals, &mut entries);
+    match answer.refusal() {
+        None => Ok(Matrix {
+            n,
+            cost: answer.cost.into(),
+            totals,
+            entries,
+        }),
+        Some(refusal) => {
+            assert_eq!((totals, entries), ([99; POSITIONS], [99; kv::ENTRIES]));
+            Err(refusal)
+        }
+    }
+}
+
+#[test]
+fn matrices_made() {
+    for n in NUMBERS {
+        let fresh = lent_matrix(n, |totals, entries| lent::matrix_fresh(n, totals, entries));
+        assert_eq!(Matrix::fresh(n), fresh);
+        for input in inputs(&[0, 1, 5, 6]) {
+            let found = lent_matrix(n, |totals, entries| {
+                lent::matrix_of_bytes(n, &input, totals, entries)
+            });
+            assert_eq!(Matrix::of_bytes(n, &input), found);
+        }
+    }
+}
+
+/// Rightly held and not, with entries that are too great and others.
+fn matrices() -> Vec<Matrix> {
+    let of = |(n, m): (usize, u8)| Matrix::of_bytes(n, &vec![m; SYMBOLS * n]).unwrap();
+    let right = [(2, 0), (2, 1), (2, 5), (3, 2), (15, 0), (15, 1), (15, 5)].map(of);
+    let forged = |matrix: &Matrix| {
+        let [mut cost, mut total, mut entry, mut n] = [(); 4].map(|_| matrix.clone());
+        cost.cost = usize::MAX;
+        total.totals[1] += 1;
+        (entry.entries[kv::ENTRIES - 1], entry.totals[POSITIONS - 1]) = (255, 255);
+        n.n = 1 << 32;
+        [matrix.clone(), cost, total, entry, n]
+    };
+    let mut all = right.iter().flat_map(forged).collect::<Vec<_>>();
+    let six = Matrix {
+        n: 15,
+        cost: 21,
+        totals: std::array::from_fn(|i| if i == 7 { 6 } else { 0 }),
+        entries: std::array::from_fn(|place| if place == 115 { 6 } else { 0 }),
+    };
+    all.push(six);
+    all
+}
+
+/// What an edit answers, and the matrix afterwards.
+type Afterwards = (Result<(), Refusal>, Matrix);
+
+fn edited(matrix: &Matrix, edit: impl FnOnce(&mut Matrix) -> Result<(), Refusal>) -> Afterwards {
+    let mut after = matrix.clone();
+    (edit(&mut after), after)
+}
+
+fn lent_edited(matrix: &Matrix, edit: impl FnOnce(Edited) -> Answer) -> Afterwards {
+    let mut after = matrix.clone();
+    let answer = edit(Edited {
+        n: after.n,
+        cost: after.cost,
+        totals: &mut after.totals,
+        entries: &mut after.entries,
+    });
+    match answer.refusal() {
+        None => {
+            after.cost = answer.cost.into();
+            (Ok(()), after)
+        }
+        Some(refusal) => {
+            assert_eq!(&after, matrix);
+            (Err(refusal), after)
+        }
+    }
+}
+
+fn lent_whole(matrix: &Matrix) -> Record<'_> {
+    Record {
+        n: matrix.n,
+        cost: matrix.cost,
+        totals: &matrix.totals,
+        entries: &matrix.entries,
+    }
+}
+
+#[test]
+fn matrices_edited() {
+    for matrix in matrices() {
+        for (position, symbol) in pairs() {
+            for entry in [0, 5, 6, 255] {
+                assert_eq!(
+                    edited(&matrix, |m| m.set_entry(position, symbol, entry)),
+                    lent_edited(&matrix, |m| {
+                        lent::matrix_set_entry(m, position, symbol, entry)
+                    })
+                );
+            }
+            assert_eq!(
+                edited(&matrix, |m| m.clear_column(position)),
+                lent_edited(&matrix, |m| lent::matrix_clear_column(m, position))
+            );
+        }
+        for other in matrices() {
+            assert_eq!(
+                edited(&matrix, |m| m.add(&other)),
+                lent_edited(&matrix, |m| lent::matrix_add(m, lent_whole(&other)))
+            );
+        }
+    }
+}
+
+#[test]
+fn matrices_read() {
+    for matrix in matrices() {
+        let record = lent_whole(&matrix);
+        for (k, limit) in pairs() {
+            let found = lent(
+                |_, _| lent::matrix_cost_and_bound(record, k),
+                cost_and_bound,
+            );
+            assert_eq!(matrix.cost_and_bound(k), found);
+            let found = lent(
+                |out, _| lent::matrix_interpolate(record, k, limit, out),
+                polynomial,
+            );
+            assert_eq!(matrix.interpolate(k, limit), found);
+            let found = lent(
+                |rows, scores| lent::matrix_list(record, k, limit, rows, scores),
+                |answer, bytes, scores| listed(k, answer, bytes, scores),
+            );
+            assert_eq!(matrix.list(k, limit), found);
         }
     }
 }
