@@ -2,7 +2,7 @@
 
 use crate::code::{sizes_allowed, MOST_POSITIONS};
 use crate::field::GREATEST_SYMBOL;
-use crate::refusal::{symbol_above, Refusal};
+use crate::refusal::{refuse, symbol_above, Refusal};
 use crate::weights::{GREATEST_LEVEL, LEAST_LEVEL};
 use std::cmp::Reverse;
 use std::collections::BTreeSet;
@@ -65,14 +65,6 @@ impl List<'_> {
             true => Err(Refusal::Length),
             false => Ok(rows),
         }
-    }
-}
-
-/// Ends with a refusal where the table gives it.
-fn refuse(when: bool, refusal: Refusal) -> Result<(), Refusal> {
-    match when {
-        true => Err(refusal),
-        false => Ok(()),
     }
 }
 

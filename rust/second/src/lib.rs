@@ -11,6 +11,7 @@ pub mod interpolation;
 pub mod list;
 mod polynomial;
 pub mod program;
+pub mod record;
 mod refusal;
 pub mod roots;
 mod search;

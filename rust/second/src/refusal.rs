@@ -54,6 +54,14 @@ pub fn unless_refused(tests: &[Option<Refusal>], work: impl FnOnce() -> Answer) 
     }
 }
 
+/// Ends with a refusal where the table gives it.
+pub fn refuse(when: bool, refusal: Refusal) -> Result<(), Refusal> {
+    match when {
+        true => Err(refusal),
+        false => Ok(()),
+    }
+}
+
 /// The refusal of the first number above the greatest one allowed.
 pub fn symbol_above(greatest: u8, numbers: &[u8]) -> Option<Refusal> {
     numbers
