@@ -1,6 +1,7 @@
 //! A call of any entry: what comes in, what is lent, and what comes out.
 
 use crate::lent::Lent;
+use crate::record::{LentRecord, Record};
 use kv::lent::Answer;
 
 /// An entry looks at no more of it than it takes.
@@ -17,6 +18,19 @@ pub struct Call {
     /// Lent for what is written.
     pub room: usize,
     pub room_for_scores: usize,
+    /// A record, and one that is added to it.
+    pub records: Vec<Record>,
+    pub edit: Edit,
+}
+
+/// What an edit takes beside the record.
+#[derive(Clone, Copy, Debug, Default)]
+pub struct Edit {
+    pub position: usize,
+    pub symbol: usize,
+    pub entry: u8,
+    /// n of the record that is added.
+    pub other_n: usize,
 }
 
 impl Call {
@@ -32,6 +46,8 @@ impl Call {
             reliabilities: Vec::new(),
             room: 0,
             room_for_scores: 0,
+            records: Vec::new(),
+            edit: Edit::default(),
         }
     }
 }
@@ -42,6 +58,7 @@ pub struct Memory {
     pub reliabilities: Lent<u16>,
     pub out: Lent<u8>,
     pub scores: Lent<u16>,
+    pub records: Vec<LentRecord>,
 }
 
 impl Memory {
@@ -51,6 +68,7 @@ impl Memory {
             reliabilities: Lent::numbers(&call.reliabilities),
             out: Lent::room(call.room),
             scores: Lent::room_for_scores(call.room_for_scores),
+            records: call.records.iter().map(LentRecord::new).collect(),
         }
     }
 }

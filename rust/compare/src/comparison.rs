@@ -42,7 +42,7 @@ impl Comparison {
 
     /// Ends the run unless both programs answer the same and leave the same in lent memory, and
     /// unless a refused call answers no more than number and place and changes no lent memory.
-    fn compare(&mut self, call: &Call) -> Answer {
+    pub fn compare(&mut self, call: &Call) -> Outcome {
         let lent = Memory::lent_to(call);
         let proved = self.entry.outcome_in(Program::Proved, call, lent.clone());
         let second = self.entry.outcome_in(Program::Second, call, lent.clone());
@@ -66,12 +66,12 @@ impl Comparison {
         }
         self.tally.call(answer.number, answer.count);
         self.seen.list(call, *answer, memory.scores.part());
-        *answer
+        proved
     }
 
     /// Ends the run, moreover, unless the refusal is that of the faults which were put in.
     pub fn compare_made(&mut self, made: &Made) {
-        let answer = self.compare(&made.call);
+        let answer = self.compare(&made.call).answer;
         if answer.refusal() != made.refusal() {
             eprintln!("{} answers {answer:?} to {:?}", self.entry.name, made.call);
             eprintln!("the faults in it: {:?}", made.faults);

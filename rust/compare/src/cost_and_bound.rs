@@ -67,7 +67,7 @@ impl Comparison {
     }
 
     /// Limits on both sides of the cost, and costs on both sides of the greatest limit.
-    pub fn limits_beside_cost(&mut self, call: &Call) {
+    pub fn limits_beside_cost(&mut self, call: &Call, put: fn(&mut Call, Vec<u8>)) {
         for cost in [1, GREATEST_LIMIT - 1, GREATEST_LIMIT, GREATEST_LIMIT + 1] {
             let matrix =
                 matrix_of_cost(call.n, cost).expect("two positions have room for this cost");
@@ -75,12 +75,11 @@ impl Comparison {
             for limit in [cost - 1, cost, cost + 1, GREATEST_LIMIT] {
                 let too_great = (limit > GREATEST_LIMIT).then_some(Refusal::Setting);
                 let too_dear = (cost > limit).then_some(Refusal::Cost);
-                let made = Made::new(Call {
-                    limit,
-                    symbols: matrix.clone(),
-                    ..call.clone()
-                });
-                self.compare_made(&made.with(too_great.into_iter().chain(too_dear), |_| ()));
+                let faults = too_great.into_iter().chain(too_dear);
+                self.compare_made(&Made::new(call.clone()).with(faults, |made| {
+                    made.call.limit = limit;
+                    put(&mut made.call, matrix.clone());
+                }));
             }
         }
     }

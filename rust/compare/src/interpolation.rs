@@ -122,10 +122,11 @@ pub fn compare() {
         comparison.single_points(n, k);
         comparison.random_entries(n, k);
         comparison.words_and_weights(n, k);
-        comparison.limits_beside_cost(&Call {
+        let call = Call {
             room: ROOM_FOR_COEFFICIENTS,
             ..Call::of_sizes(n, k)
-        });
+        };
+        comparison.limits_beside_cost(&call, |call, matrix| call.symbols = matrix);
     }
     comparison.finish(LEAST_CALLS);
     hold("interpolation", lines);

@@ -3,8 +3,9 @@
 
 use crate::call::Call;
 use crate::edges::{hold, Line};
+use crate::edited::{COST_AND_BOUND, INTERPOLATE, LIST};
 use crate::entry::{Entry, Program};
-use crate::sizes::with_entry;
+use crate::record::Record;
 use crate::{
     cost_and_bound, interpolation, list_of_multiplicities, list_of_reliabilities, multiplicities,
 };
@@ -27,11 +28,18 @@ fn at_limits() -> Call {
         level: LEVEL,
         limit: LIMIT,
         reliabilities: matrix.iter().map(whole).collect(),
+        records: vec![Record::of(N, &matrix)],
         symbols: matrix,
         room: COEFFICIENTS.max(ROWS * K),
         room_for_scores: ROWS,
         ..Call::of_sizes(N, K)
     }
+}
+
+/// The matrix with another entry, as bytes and as a record.
+fn put(call: &mut Call, place: usize, entry: u8) {
+    call.symbols[place] = entry;
+    call.records = vec![Record::of(N, &call.symbols)];
 }
 
 /// What is changed, and the number and place of the refusal that follows.
@@ -47,12 +55,12 @@ const LIMITS: &[Change] = &[
     ("G 226", |call| call.limit = LIMIT + 1, [2, 0]),
 ];
 const ENTRIES: &[Change] = &[
-    ("an entry of 4", |call| call.symbols[1] = 4, [0, 0]),
-    ("an entry of 6", |call| call.symbols[1] = 6, [5, 1]),
+    ("an entry of 4", |call| put(call, 1, 4), [0, 0]),
+    ("an entry of 6", |call| put(call, 1, 6), [5, 1]),
 ];
 const COSTS: &[Change] = &[(
     "a cost of 226",
-    |call| call.symbols = with_entry(&call.symbols, SYMBOLS * N - 1, 1),
+    |call| put(call, SYMBOLS * N - 1, 1),
     [7, 0],
 )];
 const ROOM_FOR_COEFFICIENTS: &[Change] = &[(
@@ -74,7 +82,7 @@ const ROOM_FOR_ROWS: &[Change] = &[
     ),
 ];
 
-const CHANGES: [(&Entry, &[&[Change]]); 5] = [
+const CHANGES: [(&Entry, &[&[Change]]); 8] = [
     (&multiplicities::ENTRY, &[NOTHING, LEVELS]),
     (&cost_and_bound::ENTRY, &[NOTHING, ENTRIES]),
     (
@@ -89,6 +97,12 @@ const CHANGES: [(&Entry, &[&[Change]]); 5] = [
         &list_of_reliabilities::ENTRY,
         &[NOTHING, LEVELS, LIMITS, ROOM_FOR_ROWS],
     ),
+    (&COST_AND_BOUND, &[NOTHING, ENTRIES]),
+    (
+        &INTERPOLATE,
+        &[NOTHING, LIMITS, ENTRIES, COSTS, ROOM_FOR_COEFFICIENTS],
+    ),
+    (&LIST, &[NOTHING, LIMITS, ENTRIES, COSTS, ROOM_FOR_ROWS]),
 ];
 
 fn lines(program: Program) -> Vec<Line> {

@@ -172,7 +172,7 @@ pub fn compare() {
         comparison.worn_words(n, k);
         comparison.words_together(n, k);
         comparison.scores_at_bound(n, k);
-        comparison.limits_beside_cost(&with_room(n, k));
+        comparison.limits_beside_cost(&with_room(n, k), |call, matrix| call.symbols = matrix);
     }
     comparison.longest_lists();
     comparison.finish(LEAST_CALLS);

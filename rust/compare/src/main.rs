@@ -8,6 +8,7 @@ mod contents;
 mod cost_and_bound;
 mod counter;
 mod edges;
+mod edited;
 mod encode;
 mod entry;
 mod faults;
@@ -20,6 +21,7 @@ mod list_of_reliabilities;
 mod lists;
 mod multiplicities;
 mod planted;
+mod record;
 mod roots;
 mod sizes;
 mod tally;
@@ -36,4 +38,5 @@ fn main() {
     edges::compare();
     limits::compare();
     counter::compare();
+    edited::compare();
 }

@@ -20,6 +20,11 @@ impl Random {
         least + (self.next() % (greatest - least + 1) as u64) as usize
     }
 
+    /// True once in so many.
+    pub fn happens(&mut self, one_in: usize) -> bool {
+        self.between(1, one_in) == 1
+    }
+
     /// Numbers from 0 to `greatest`.
     pub fn bytes(&mut self, length: usize, greatest: u8) -> Vec<u8> {
         let mut byte = || self.between(0, greatest.into()) as u8;

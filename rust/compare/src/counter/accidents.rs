@@ -8,11 +8,6 @@ const MOST_ROWS: usize = 4;
 const GREATEST_SCORE: usize = 3;
 const FEW_SYMBOLS: u8 = 2;
 
-/// One in so many.
-fn happens(random: &mut Random, one_in: usize) -> bool {
-    random.between(1, one_in) == 1
-}
-
 fn random_rows(random: &mut Random, k: usize) -> Vec<(Vec<u8>, u16)> {
     let count = random.between(0, MOST_ROWS);
     let mut row = || {
@@ -23,13 +18,13 @@ fn random_rows(random: &mut Random, k: usize) -> Vec<(Vec<u8>, u16)> {
 }
 
 fn spoil(random: &mut Random, rows: &mut Rows) {
-    if happens(random, 12) {
+    if random.happens(12) {
         rows.symbols.push(0);
     }
-    if happens(random, 12) {
+    if random.happens(12) {
         rows.scores.pop();
     }
-    if happens(random, 6) && !rows.symbols.is_empty() {
+    if random.happens(6) && !rows.symbols.is_empty() {
         let place = random.between(0, rows.symbols.len() - 1);
         rows.symbols[place] = GREATEST_SYMBOL + 1;
     }
@@ -38,12 +33,12 @@ fn spoil(random: &mut Random, rows: &mut Rows) {
 /// Mostly in order and without a message twice.
 pub fn accident(random: &mut Random, k: usize) -> Rows {
     let mut rows = random_rows(random, k);
-    if !happens(random, 4) {
+    if !random.happens(4) {
         rows.sort();
         rows.dedup_by(|a, b| a.0 == b.0);
     }
     let (messages, scores): (Vec<_>, Vec<_>) = rows.iter().cloned().unzip();
-    let mut rows = match happens(random, 4) {
+    let mut rows = match random.happens(4) {
         true => Rows::new(&messages, &scores),
         false => in_order(rows),
     };

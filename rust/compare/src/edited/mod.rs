@@ -1,0 +1,19 @@
+//! The matrix that is edited: its record made, edited and read.
+
+mod alike;
+mod entries;
+mod inputs;
+mod lines;
+mod pairs;
+mod sequences;
+mod single;
+mod wrongly_held;
+
+pub use entries::{COST_AND_BOUND, INTERPOLATE, LIST};
+
+pub fn compare() {
+    single::compare();
+    sequences::compare();
+    alike::compare();
+    lines::compare();
+}
