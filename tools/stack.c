@@ -15,6 +15,9 @@ static uint16_t reliabilities[KV_SYMBOLS * N];
 static uint8_t coefficients[KV_COEFFICIENTS];
 static uint8_t rows[KV_ROWS * N];
 static uint16_t scores[KV_ROWS];
+static uint16_t totals[KV_POSITIONS], other_totals[KV_POSITIONS];
+static uint8_t entries[KV_ENTRIES], other_entries[KV_ENTRIES];
+static size_t cost;
 static uint8_t messages[2 * N];
 static const uint16_t falling[] = {2, 1};
 static struct kv_answer polynomial, answer;
@@ -41,6 +44,24 @@ static void *list_of_multiplicities(void *unused) {
 static void *list_of_reliabilities(void *unused) {
     answer = kv_list_of_reliabilities(N, k, KV_LEVEL, KV_LIMIT, reliabilities, KV_SYMBOLS * N, rows,
                                       sizeof rows, scores, KV_ROWS);
+    return unused;
+}
+
+static void *matrix_add(void *unused) {
+    answer = kv_matrix_add(N, cost, totals, KV_POSITIONS, entries, KV_ENTRIES,
+                           N, 0, other_totals, KV_POSITIONS, other_entries, KV_ENTRIES);
+    return unused;
+}
+
+static void *matrix_interpolate(void *unused) {
+    answer = kv_matrix_interpolate(N, cost, totals, KV_POSITIONS, entries, KV_ENTRIES, k, KV_LIMIT,
+                                   coefficients, sizeof coefficients);
+    return unused;
+}
+
+static void *matrix_list(void *unused) {
+    answer = kv_matrix_list(N, cost, totals, KV_POSITIONS, entries, KV_ENTRIES, k, KV_LIMIT, rows,
+                            sizeof rows, scores, KV_ROWS);
     return unused;
 }
 
@@ -99,10 +120,14 @@ int main(void) {
         reliabilities[KV_SYMBOLS * i + 1] = KV_WHOLE;
     }
     for (size_t i = 0; i < 2 * N; i++) messages[i] = i % KV_SYMBOLS;
+    cost = kv_matrix_of_bytes(N, matrix, sizeof matrix, totals, KV_POSITIONS, entries, KV_ENTRIES).cost;
     measure("interpolation", interpolate);
     measure("roots", roots);
     measure("list of multiplicities", list_of_multiplicities);
     measure("list of reliabilities", list_of_reliabilities);
+    measure("matrix add", matrix_add);
+    measure("matrix interpolate", matrix_interpolate);
+    measure("matrix list", matrix_list);
     measure("judge both", judge_both);
     measure("open both", open_both);
     return 0;
