@@ -120,7 +120,8 @@ int main(void) {
         reliabilities[KV_SYMBOLS * i + 1] = KV_WHOLE;
     }
     for (size_t i = 0; i < 2 * N; i++) messages[i] = i % KV_SYMBOLS;
-    cost = kv_matrix_of_bytes(N, matrix, sizeof matrix, totals, KV_POSITIONS, entries, KV_ENTRIES).cost;
+    cost = kv_matrix_of_bytes(N, matrix, sizeof matrix, totals, KV_POSITIONS,
+                              entries, KV_ENTRIES).cost;
     measure("interpolation", interpolate);
     measure("roots", roots);
     measure("list of multiplicities", list_of_multiplicities);
