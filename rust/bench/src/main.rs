@@ -6,6 +6,7 @@
 mod against;
 mod baseline;
 mod check;
+mod edits;
 mod insertion;
 mod matrices;
 mod packed;

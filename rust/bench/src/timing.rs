@@ -1,5 +1,6 @@
 //! The proved library against the Rust programs.
 
+use crate::edits;
 use crate::parts::{plain_parts, proved_parts};
 use crate::programs::{Program, PACKED, PLAIN, PROVED, ROW_AT_A_TIME};
 use crate::turns::{in_turns, timed, ROUNDS};
@@ -64,4 +65,5 @@ pub fn time() {
             "| {name} | {conditions:.1} µs | {elimination:.1} µs | {roots:.1} µs | {ranking:.2} µs |"
         );
     }
+    edits::print_times(&workloads);
 }
