@@ -66,8 +66,10 @@ const ADDED: [(usize, Entries, Answers); 9] = [
     (3, &[(3, 6)], SIZES),
 ];
 
-/// What is done to the record, whichever entry takes it.
-const CHANGED: [(&str, fn(&mut Record), Answers); 12] = [
+/// What is done to the record, and what each entry that takes it answers.
+type Change = (&'static str, fn(&mut Record), Answers);
+
+const CHANGED: [Change; 12] = [
     ("a cost that is one more", |r| r.cost += 1, LENGTH),
     ("a cost that is one less", |r| r.cost -= 1, LENGTH),
     ("a total that is one more", |r| r.totals[0] += 1, LENGTH),
