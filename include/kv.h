@@ -192,8 +192,8 @@ struct kv_answer kv_list_of_reliabilities(size_t n, size_t k, size_t level, size
  * comes out of a call that is not refused.
  *
  * The five entries from kv_matrix_fresh to kv_matrix_add write totals and entries in place, and
- * answer as cost what the caller is to keep for the record's cost from then on. An edit looks at
- * each entry once, to check the record, and then changes no more than it must.
+ * answer as cost what the caller is to keep for the record's cost from then on. An edit goes over
+ * the entries to check the record, and then changes no more than it must.
  */
 
 /*
