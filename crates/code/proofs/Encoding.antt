@@ -1,6 +1,6 @@
 -- The steps of the loops, over plain numbers and lists and any code.
 -- Assumes nothing.
-use mathlib.Core.List.{List, _++_, map}
+use mathlib.Core.List.{List, _++_}
 use mathlib.Core.Path.{_≡_, sym, _∙_, ap}
 use Prim.Native.Nat.{ℕ, _+_, _-_, _≤_, _<_}
 use native.Mathlib.Numerals.{add-one}
@@ -9,9 +9,8 @@ use lib.Seq.{drop-length}
 use Rattle.algebra.proofs.Numbers.{point-symbol, value-symbol}
 use Rattle.algebra.specs.FieldOf.{FieldOf}
 use Rattle.definitions.proofs.Codeword.{power-zero, power-suc, value-nil, value-step}
-use Rattle.definitions.proofs.Loops.{map-more}
+use Rattle.definitions.proofs.Loops.{map-none, map-more}
 use Rattle.definitions.proofs.Symbols.{drop-symbols}
-use Rattle.definitions.proofs.Tools.{below-zero}
 use Rattle.definitions.specs.Code.{Symbols, point, codeword}
 use Rattle.definitions.specs.Field.{Code, numbers, value}
 
@@ -34,7 +33,7 @@ module _ (C : Code) where
 
   -- no symbol of a codeword is written yet
   pub none-written : (f out : List ℕ) → out ≡ codeword C 0 f ++ out
-  none-written f out = ap (λ (l : List ℕ). map (λ (i : ℕ). value (numbers C) (point C i) f) l ++ out) (sym below-zero)
+  none-written f out = map-none (λ (i : ℕ). value (numbers C) (point C i) f) out
 
   -- one symbol more of a codeword is written
   pub symbol-more : (f out now : List ℕ) (i x y : ℕ) → i < length out → now ≡ codeword C i f ++ drop i out → x ≡ point C i

@@ -15,7 +15,7 @@ use Rattle.definitions.proofs.Table.{sizes-mean}
 use Rattle.definitions.specs.Answers.{refused, valued}
 use Rattle.definitions.specs.Field.{Code}
 use Rattle.definitions.specs.Listing.{rowAt}
-use Rattle.definitions.specs.Refusals.{tried, size, sizes, level, symbols, firstAbove}
+use Rattle.definitions.specs.Refusals.{size, sizes, level, symbols, firstAbove}
 use Rattle.rows.proofs.Messages.{same-self}
 use Rattle.definitions.specs.Tools.{every}
 use Rattle.rows.specs.Rows.{listed}

@@ -1,29 +1,28 @@
 -- The edits of a matrix record: the lowest place of an entry above 5, what their lines say, and that after any sequence of them the stored
 -- numbers are those that the entries define.
 -- Assumes nothing.
-use mathlib.Core.Bool.{Bool, true, false, not, _||_, false≢true}
-use mathlib.Core.List.{List, [], _∷_, map}
+use mathlib.Core.Bool.{Bool, true, false, _||_, false≢true}
+use mathlib.Core.List.{List, [], _∷_}
 use mathlib.Core.Path.{_≡_, refl, sym, _∙_, ap, ap₂}
 use Prim.Native.Nat.{ℕ, _+_, _*_, _≤_, _<_}
 use native.Mathlib.Decide.{decLt, ℕ-discrete}
 use native.Mathlib.Nat.{mul-suc, mul-add, mul-le-mul-left}
 use native.Mathlib.Omega.{arith}
 use borrow.Author.Tests.{ltb-false, leb-false, eqb-true, not-false, lt-ltb, le-ltb}
-use lib.Dec.{eqb, leb, ltb}
-use lib.ListN.{length, getD, drop, set, replicate, length-replicate, length-set, List·getD-append, List·getD-eq-default}
+use lib.Dec.{eqb, ltb}
+use lib.ListN.{length, getD, drop, set, length-replicate, length-set, List·getD-append, List·getD-eq-default}
 use lib.Seq.{getD-set-same, getD-set-other}
-use Rattle.definitions.proofs.Held.{Rightly, rightly-means, length-cleared, cleared-below, length-filled, filled-behind, place-within}
+use Rattle.definitions.proofs.Held.{Rightly, rightly-means, length-cleared, cleared-below, length-filled, filled-behind}
 use Rattle.definitions.proofs.Refusals.{first-within, first-above, before-above}
 use Rattle.definitions.proofs.Table.{Accepts, next, end, whatever, last, or, size-means, entries-mean, above-means}
-use Rattle.definitions.proofs.Tools.{split, length-map-below, map-below-at, smallest-is, smallest-le, smallest-fails}
+use Rattle.definitions.proofs.Tools.{split, length-map-below, map-below-at, smallest-is, smallest-fails}
 use Rattle.definitions.proofs.Zeros.{zero-at}
 use Rattle.definitions.specs.Editing.{anyAbove, edited, position, sameSize, symbol, stored, lowestAbove, inOrOut, noMatrix, freshTable, freshHeld, bytesTable, bytesHeld, setTable, setHeld, clearTable, clearHeld, addTable, addHeld}
 use Rattle.definitions.specs.Field.{Code}
-use Rattle.definitions.specs.Held.{Held, held, places, noEntries, totalsOf, heldOf, filled, withEntry, withoutColumn, withAdded, rightly}
+use Rattle.definitions.specs.Held.{Held, held, places, noEntries, heldOf, filled, withEntry, withoutColumn, withAdded, rightly}
 use Rattle.definitions.specs.Limits.{greatestLevel}
 use Rattle.definitions.specs.Refusals.{Line, firstAbove}
 use Rattle.definitions.specs.Tools.{below}
-use Rattle.definitions.specs.Weights.{cost}
 
 -- ---- the lowest place
 

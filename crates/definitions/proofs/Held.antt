@@ -1,24 +1,24 @@
 -- The stored numbers of a matrix record: what a record that is rightly held says, and how its numbers move with an entry and with a column.
 -- Assumes nothing.
-use mathlib.Core.Bool.{Bool, true, _&&_}
-use mathlib.Core.List.{List, [], _∷_, _++_, map, append-assoc}
+use mathlib.Core.Bool.{true, _&&_}
+use mathlib.Core.List.{List, _++_}
 use mathlib.Core.Path.{_≡_, refl, sym, _∙_, ap, ap₂}
-use Prim.Native.Nat.{ℕ, zero, suc, _+_, _*_, _-_, _≤_, _<_}
+use Prim.Native.Nat.{ℕ, _+_, _*_, _-_, _≤_, _<_}
 use native.Mathlib.Decide.{decLt, ℕ-discrete}
 use native.Mathlib.Nat.{mul-suc, mul-le-mul-left}
 use native.Mathlib.Omega.{arith}
 use borrow.Author.Tests.{eqb-true, eq-eqb}
 use lib.Dec.{eqb}
-use lib.ListN.{length, getD, take, drop, set, replicate, length-append, length-drop, length-replicate, length-set, getD-replicate, List·getD-append, List·getD-eq-default}
+use lib.ListN.{length, getD, take, drop, set, replicate, length-append, length-drop, length-replicate, length-set, List·getD-append}
 use lib.Seq.{ext-getD, getD-take, getD-drop, getD-append-add, getD-set-same, getD-set-other, take-at, length-take-le}
 use Rattle.definitions.proofs.Every.{every-at, every-of}
 use Rattle.definitions.proofs.Sums.{sum-of-zeros, sum-blocks, sum-tail, sum-but}
 use Rattle.definitions.proofs.Tools.{both, length-map-below, map-below-at, sum-ext, sum-bound}
 use Rattle.definitions.proofs.Zeros.{zeros-of-isZero, isZero-of-zeros, zero-at}
 use Rattle.definitions.specs.Field.{Code}
-use Rattle.definitions.specs.Held.{Held, places, noEntries, totalsOf, heldOf, filled, bytesOf, withEntry, withoutColumn, totalsRight, rightly}
+use Rattle.definitions.specs.Held.{Held, places, noEntries, totalsOf, filled, bytesOf, withEntry, withoutColumn, totalsRight, rightly}
 use Rattle.definitions.specs.Polynomial.{isZero}
-use Rattle.definitions.specs.Tools.{below, sum, every}
+use Rattle.definitions.specs.Tools.{sum}
 use Rattle.definitions.specs.Weights.{entry, sumOfColumn, entryCost, cost}
 
 -- the cost after setting an entry, and that of the old entry, are the cost before and that of the new one
@@ -285,9 +285,13 @@ module _ (C : Code) where
             ∙ zeros-of-isZero (drop (C .symbols * h .n) (h .entries)) (d .1) (j - C .symbols * h .n);
       }
 
+  -- a total is stored for each column
+  pub length-stored : (h : Held) → Rightly h → length (h .totals) ≡ C .positions
+  length-stored h r = ap length (r .totals-are) ∙ length-totals (h .entries)
+
   pub rightly-held : (h : Held) → Rightly h → rightly C h ≡ true
   rightly-held h r =
-      let size : length (h .totals) ≡ C .positions = ap length (r .totals-are) ∙ length-totals (h .entries) in
+      let size = length-stored h r in
       let totals : totalsRight C (h .totals) (h .entries) ≡ true =
       every-of (λ (i : ℕ). eqb (getD (h .totals) i 0) (sumOfColumn C (h .entries) i)) (C .positions)
       (λ i l. eq-eqb (getD (h .totals) i 0) (sumOfColumn C (h .entries) i) (ap (λ (t : List ℕ). getD t i 0) (r .totals-are) ∙ total-at (h .entries) i l)) in

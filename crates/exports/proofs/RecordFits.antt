@@ -1,10 +1,9 @@
 -- Every number that an entry on a matrix record answers fits sixteen bits.
 -- Assumes nothing.
-use mathlib.Core.Bool.{true, false}
+use mathlib.Core.Bool.{true}
 use mathlib.Core.List.{List, [], _∷_}
-use mathlib.Core.Path.{_≡_, sym, _∙_, subst}
-use Prim.Native.Nat.{ℕ, _+_, _*_, _-_, _≤_, _<_}
-use native.Mathlib.Nat.{mul-le-mul-left}
+use mathlib.Core.Path.{_≡_, sym, _∙_}
+use Prim.Native.Nat.{ℕ, _+_, _*_, _-_, _≤_}
 use native.Mathlib.Omega.{arith}
 use borrow.Author.Tests.{ltb-true}
 use lib.ListN.{length, getD, length-set}
@@ -12,7 +11,7 @@ use Rattle.definitions.proofs.Bound.{bound-le}
 use Rattle.definitions.proofs.Editing.{position-means, stored-means, length-added, out-of-two, out-of-three}
 use Rattle.definitions.proofs.Held.{cost-none, cost-filled, length-cleared, cost-bytes}
 use Rattle.definitions.proofs.Table.{last, or, whatever, sizes-mean, size-means, limit-means, entries-mean, above-means, cost-means}
-use Rattle.definitions.specs.Answers.{Answer, refused, counted, costed, Interpolated}
+use Rattle.definitions.specs.Answers.{Answer, refused, costed, Interpolated}
 use Rattle.definitions.specs.Bound.{bound}
 use Rattle.definitions.specs.Editing.{lowestAbove, inOrOut, lentTable, lentFreshAnswer, lentBytesTable, lentBytesAnswer, setTable, setAnswer, clearTable, clearAnswer, addTable, addAnswer, heldCostTable, heldCostAnswer, heldInterpolationTable, HeldInterpolationAnswers, heldListTable, heldListAnswer}
 use Rattle.definitions.specs.Field.{sixteen}

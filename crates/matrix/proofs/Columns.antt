@@ -6,12 +6,11 @@ use Prim.Native.Nat.{ℕ, _+_, _*_, _-_, _≤_, _<_}
 use native.Mathlib.Decide.{decLt}
 use native.Mathlib.Nat.{mul-suc, mul-le-mul-left}
 use native.Mathlib.Omega.{arith}
-use lib.ListN.{length, take, drop, getD, set, replicate, length-drop, take-append-drop, List·getD-append, List·getD-eq-default, getD-replicate}
+use lib.ListN.{length, take, drop, getD, replicate, length-drop, take-append-drop, List·getD-append, List·getD-eq-default, getD-replicate}
 use lib.Seq.{ext-getD, getD-take, getD-drop, getD-append-add, take-append-le, drop-append-le, length-take-le}
 use Rattle.definitions.proofs.Held.{Rightly, cost-bytes, length-filled, filled-front, cost-filled}
-use Rattle.definitions.proofs.Loops.{map-more}
 use Rattle.definitions.proofs.Sums.{sum-blocks, sum-tail}
-use Rattle.definitions.proofs.Tools.{below-zero, length-map-below, map-below-at, sum-ext}
+use Rattle.definitions.proofs.Tools.{length-map-below, map-below-at, sum-ext}
 use Rattle.definitions.proofs.Weights.{cost-le}
 use Rattle.definitions.specs.Field.{Code}
 use Rattle.definitions.specs.Held.{Held, places, heldOf, filled}
@@ -20,15 +19,6 @@ use Rattle.definitions.specs.Tools.{below, sum}
 use Rattle.definitions.specs.Weights.{entry, entryCost, cost}
 use Rattle.algebra.specs.Grid.{entryOf}
 use Rattle.matrix.specs.Columns.{columnOf, zeroColumns, matrixOf, matrixCost, FrontCosts}
-
--- no column is loaded yet
-pub none-loaded : (C : Code) (m : List ℕ) → zeroColumns C ≡ matrixOf C m 0
-none-loaded C m = ap (λ (l : List ℕ). map (columnOf C m) l ++ zeroColumns C) (sym below-zero)
-
--- one column more is loaded
-pub column-more : (C : Code) (m : List ℕ) (rest now : List (List ℕ)) (i : ℕ) (col : List ℕ) → i < length rest → now ≡ map (columnOf C m) (below i) ++ drop i rest
-    → col ≡ columnOf C m i → set now i col ≡ map (columnOf C m) (below (i + 1)) ++ drop (i + 1) rest
-column-more C m rest now i col h e ec = map-more (columnOf C m) rest now i col h e ec
 
 module _ (C : Code) (m : List ℕ) (n : ℕ) (small : n ≤ C .positions) (size : length m ≡ C .symbols * n) where
   used : (i b : ℕ) → i < n → b < C .symbols → entryOf (matrixOf C m n) i b ≡ entry C m i b

@@ -1,36 +1,25 @@
 -- The steps of the loops that count a record's numbers from nothing, and of the test of a record that is handed in.
 -- Assumes nothing.
 use mathlib.Core.Bool.{Bool, true, false, not}
-use mathlib.Core.List.{List, _++_, map, append-nil}
+use mathlib.Core.List.{List}
 use mathlib.Core.Path.{_≡_, sym, _∙_, ap}
 use Prim.Native.Nat.{ℕ, _+_, _*_, _≤_, _<_}
 use native.Mathlib.Nat.{mul-le-mul}
 use native.Mathlib.Omega.{arith}
 use borrow.Author.Tests.{eq-eqb, ne-eqb}
 use lib.Dec.{eqb}
-use lib.ListN.{length, drop, getD, drop-of-length-le}
-use Rattle.definitions.proofs.Tools.{below-zero}
+use lib.ListN.{length, drop, getD}
 use Rattle.definitions.specs.Editing.{stored}
 use Rattle.definitions.specs.Field.{Code}
 use Rattle.definitions.specs.Held.{Held, places, totalsRight, rightly}
 use Rattle.definitions.specs.Polynomial.{isZero}
 use Rattle.definitions.specs.Refusals.{line}
-use Rattle.definitions.specs.Tools.{below}
 use Rattle.definitions.specs.Weights.{sumOfColumn, cost}
 use Rattle.refusals.specs.Checked.{Outcome, orLine}
 
 -- m(m+1)/2 of a byte
 pub cost-fits : (m : ℕ) → m < 256 → m * (m + 1) ≤ 65280
 cost-fits m h = mul-le-mul {n₁ = m} {m₁ = m + 1} {n₂ = 255} {m₂ = 256} (omega arith) (omega arith)
-
--- numbers laid one after the other: none yet, and all
-module _ (f : ℕ → ℕ) (out : List ℕ) where
-  pub none-laid : out ≡ map f (below 0) ++ out
-  none-laid = ap (λ (l : List ℕ). map f l ++ out) (sym below-zero)
-
-  pub all-laid : (now : List ℕ) (i n : ℕ) → i ≡ n → length out ≡ n → now ≡ map f (below i) ++ drop i out → now ≡ map f (below n)
-  all-laid now i n ei size e =
-      e ∙ ap (λ (j : ℕ). map f (below j) ++ drop j out) ei ∙ ap (λ (l : List ℕ). map f (below n) ++ l) (drop-of-length-le out {i = n} (omega arith)) ∙ append-nil (map f (below n))
 
 -- a total that is stored is the column's, or is not
 module _ (C : Code) (totals entries : List ℕ) where

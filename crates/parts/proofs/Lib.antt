@@ -1,4 +1,4 @@
 pub mod Edits
-pub mod Sums
+pub mod Entries
 pub mod Moving
 pub mod Unique

@@ -9,18 +9,21 @@ use native.Mathlib.Omega.{arith}
 use lib.ListN.{length, getD, set, take, drop, replicate, length-replicate}
 use Rattle.definitions.proofs.Editing.{in-low}
 use Rattle.definitions.proofs.Held.{Rightly, place-within, total-at, column-small, column-set, totals-set, cost-set, cost-cleared, cost-of-column, totals-cleared}
-use Rattle.definitions.proofs.Weights.{cost-le}
 use Rattle.definitions.specs.Editing.{lowestAbove, inOrOut}
 use Rattle.definitions.specs.Field.{Code}
-use Rattle.definitions.specs.Held.{Held, places, totalsOf, heldOf, withEntry, withoutColumn}
+use Rattle.definitions.specs.Held.{Held, places, heldOf, withEntry, withoutColumn}
 use Rattle.definitions.specs.Limits.{greatestLevel}
 use Rattle.definitions.specs.Weights.{entry, sumOfColumn, entryCost, cost}
 use Rattle.definitions.specs.Answers.{costed}
-use Rattle.parts.proofs.Edits.{not-given, none-above-done}
+use Rattle.matrix.proofs.Columns.{cost-small}
+use Rattle.parts.proofs.Edits.{none-above-done}
 use Rattle.parts.specs.Edits.{Edits}
 use Rattle.memory.specs.Laid.{laid}
 
 module _ (C : Code) (h : Held) (r : Rightly C h) where
+  total-stored : (i : ℕ) → i < C .positions → getD (h .totals) i 0 ≡ sumOfColumn C (h .entries) i
+  total-stored i hi = ap (λ (t : List ℕ). getD t i 0) (r .totals-are) ∙ total-at C (h .entries) i hi
+
   -- what is stored of a matrix without an entry above 5
   module _ (es : List (List ℕ)) (given : inOrOut C (h .entries ∷ es) .given ≡ false) where
     low : (j : ℕ) → getD (h .entries) j 0 ≤ greatestLevel
@@ -28,19 +31,12 @@ module _ (C : Code) (h : Held) (r : Rightly C h) where
 
     pub cost-limited : h .cost ≤ places C * entryCost greatestLevel
     cost-limited =
-        let most = cost-le (h .entries) greatestLevel low (length (h .entries)) in
-        subst (λ (c : ℕ). c ≤ places C * entryCost greatestLevel) (sym (r .cost-is))
-        (subst (λ (s : ℕ). cost (h .entries) ≤ s * entryCost greatestLevel) (r .full) most)
+        subst (λ (c : ℕ). c ≤ places C * entryCost greatestLevel) (sym (r .cost-is)) (cost-small C (h .entries) (let s = r .full in omega arith) low)
 
     pub total-limited : (i : ℕ) → i < C .positions → getD (h .totals) i 0 ≤ C .symbols * greatestLevel
-    total-limited i hi =
-        subst (λ (t : ℕ). t ≤ C .symbols * greatestLevel)
-        (sym (ap (λ (t : List ℕ). getD t i 0) (r .totals-are) ∙ total-at C (h .entries) i hi)) (column-small C (h .entries) greatestLevel low i)
+    total-limited i hi = subst (λ (t : ℕ). t ≤ C .symbols * greatestLevel) (sym (total-stored i hi)) (column-small C (h .entries) greatestLevel low i)
 
   module _ (i : ℕ) (hi : i < C .positions) where
-    total-stored : getD (h .totals) i 0 ≡ sumOfColumn C (h .entries) i
-    total-stored = ap (λ (t : List ℕ). getD t i 0) (r .totals-are) ∙ total-at C (h .entries) i hi
-
     -- an entry is set
     module _ (b x : ℕ) (hb : b < C .symbols) where
       pub at-within : C .symbols * i + b < length (h .entries)
@@ -48,7 +44,7 @@ module _ (C : Code) (h : Held) (r : Rightly C h) where
 
       -- the new total with the old entry, and the new cost with the old entry's: so neither subtraction falls below zero
       pub total-moves : sumOfColumn C (withEntry C (h .entries) i b x) i + entry C (h .entries) i b ≡ getD (h .totals) i 0 + x
-      total-moves = column-set C (h .entries) i b x hb at-within ∙ ap (λ (t : ℕ). t + x) (sym total-stored)
+      total-moves = column-set C (h .entries) i b x hb at-within ∙ ap (λ (t : ℕ). t + x) (sym (total-stored i hi))
 
       pub cost-moves : cost (withEntry C (h .entries) i b x) + entryCost (entry C (h .entries) i b) ≡ h .cost + entryCost x
       cost-moves = cost-set (h .entries) (C .symbols * i + b) x at-within ∙ ap (λ (c : ℕ). c + entryCost x) (sym (r .cost-is))
@@ -61,7 +57,7 @@ module _ (C : Code) (h : Held) (r : Rightly C h) where
           none-above-done C (h .entries ∷ withEntry C (h .entries) i b x ∷ []) h (heldOf C (h .n) (withEntry C (h .entries) i b x)) bad e past c
           (set (h .totals) i t) (withEntry C (h .entries) i b x) (let moved = cost-moves in omega arith)
           (ap (λ (l : List ℕ). set l i t) (r .totals-are)
-          ∙ totals-set C (h .entries) i b x hb at-within t hi (let s = total-at C (h .entries) i hi in let k = total-stored in omega arith))
+          ∙ totals-set C (h .entries) i b x hb at-within t hi (let s = total-at C (h .entries) i hi in let k = total-stored i hi in omega arith))
           refl
 
     -- the column is cleared

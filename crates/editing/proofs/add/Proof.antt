@@ -1,5 +1,5 @@
 -- Both records are taken apart and added in their parts, and the first is put together of them.
-use mathlib.Core.Path.{_≡_, refl, _∙_, ap}
+use mathlib.Core.Path.{refl, _∙_, ap}
 use borrow.Author.Needs.{needs}
 use Rattle.definitions.specs.Editing.{addTable}
 use Rattle.definitions.specs.Field.{sixteen}

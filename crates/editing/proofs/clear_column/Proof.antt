@@ -1,5 +1,5 @@
 -- The record is taken apart and edited in its parts, and put together of them.
-use mathlib.Core.Path.{_≡_, refl, _∙_, ap}
+use mathlib.Core.Path.{refl, _∙_, ap}
 use borrow.Author.Needs.{needs}
 use Rattle.definitions.specs.Editing.{clearTable}
 use Rattle.definitions.specs.Field.{sixteen}

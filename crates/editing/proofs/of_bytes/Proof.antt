@@ -1,5 +1,5 @@
 -- The parts are made of zeros, and a refusal leaves them so.
-use mathlib.Core.Path.{_≡_, refl, _∙_, ap}
+use mathlib.Core.Path.{refl, _∙_, ap}
 use borrow.Author.Needs.{needs}
 use Rattle.definitions.specs.Editing.{bytesTable}
 use Rattle.definitions.specs.Field.{sixteen}

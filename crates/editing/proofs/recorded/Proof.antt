@@ -1,5 +1,5 @@
 -- By cases of the outcome.
-use mathlib.Core.Path.{_≡_, sym, ap}
+use mathlib.Core.Path.{sym, ap}
 use borrow.Author.Needs.{needs}
 use Rattle.editing.specs.After.{recordAfter}
 use Rattle.parts.specs.declared.Priced.{Priced}

@@ -1,6 +1,6 @@
 -- Cost and totals are counted from the entries.
 use mathlib.Core.List.{List}
-use mathlib.Core.Path.{_≡_, ap₂}
+use mathlib.Core.Path.{ap₂}
 use Prim.Native.Nat.{ℕ}
 use borrow.Author.Needs.{needs}
 use Rattle.definitions.specs.Held.{held}

@@ -1,15 +1,13 @@
 -- The loop has laid the totals of the first i columns.
-use mathlib.Core.List.{_++_, map, append-nil}
-use mathlib.Core.Path.{_≡_, refl, sym, _∙_, ap}
-use Prim.Native.Nat.{ℕ, _-_, _≤_}
+use mathlib.Core.List.{_++_, map}
+use mathlib.Core.Path.{_≡_, refl, _∙_}
+use Prim.Native.Nat.{_-_, _≤_}
 use native.Mathlib.Omega.{arith}
-use lib.ListN.{length, drop, length-set, drop-of-length-le}
-use Rattle.definitions.proofs.Loops.{map-more}
-use Rattle.definitions.proofs.Tools.{below-zero}
+use lib.ListN.{length, drop, length-set}
+use Rattle.definitions.proofs.Loops.{map-none, map-more, map-whole}
 use Rattle.definitions.specs.Field.{sixteen}
 use Rattle.definitions.specs.Tools.{below}
 use Rattle.definitions.specs.Weights.{sumOfColumn}
-use Rattle.matrix.proofs.Record.{none-laid, all-laid}
 use Rattle.matrix.proofs.lay_totals.Statement.{statement}
 use Rattle.matrix.proofs.lay_totals.Tie as tie
 
@@ -23,7 +21,7 @@ abbrev μ-loop : tie.MeasureT-loop
 loop-holds : tie.Need-loop-holds Inv-loop μ-loop
 loop-holds c =
     let a = c .before .before .args in
-    (omega arith, refl, none-laid (sumOfColumn sixteen (a .entries .now)) (a .totals .now))
+    (omega arith, refl, map-none (sumOfColumn sixteen (a .entries .now)) (a .totals .now))
 
 loop-again : tie.Need-loop-again Inv-loop μ-loop
 loop-again c =
@@ -38,7 +36,7 @@ returns : tie.Need-returns Inv-loop μ-loop
 returns c =
     let l = c .before in
     let a = l .before .before .before .args in
-    all-laid (sumOfColumn sixteen (a .entries .now)) (a .totals .now) (l .loop .totals) (l .loop .i) (sixteen .positions) (omega arith) (omega arith) (l .loop .inv .2)
+    map-whole (sumOfColumn sixteen (a .entries .now)) (a .totals .now) (l .loop .totals) (l .loop .i) (sixteen .positions) (omega arith) (omega arith) (l .loop .inv .2)
 
 pub lay-totals-spec : {M : Type 1} → statement M
 lay-totals-spec =

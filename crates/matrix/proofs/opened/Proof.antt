@@ -2,8 +2,8 @@
 use mathlib.Core.Path.{_≡_}
 use Prim.Native.Nat.{_-_, _≤_}
 use Rattle.definitions.specs.Field.{sixteen}
-use Rattle.matrix.proofs.Columns.{none-loaded, column-more}
-use Rattle.matrix.specs.Columns.{zeroColumns, matrixOf}
+use Rattle.definitions.proofs.Loops.{map-none, map-more}
+use Rattle.matrix.specs.Columns.{columnOf, zeroColumns, matrixOf}
 use native.Mathlib.Omega.{arith}
 use Rattle.matrix.proofs.opened.Statement.{statement}
 use Rattle.matrix.proofs.opened.Tie as tie
@@ -15,7 +15,7 @@ abbrev μ-loop : tie.MeasureT-loop
 μ-loop entries n columns₀ i₀ columns i = n - i
 
 loop-holds : tie.Need-loop-holds Inv-loop μ-loop
-loop-holds c = (omega arith, none-loaded sixteen (c .before .args .entries .now))
+loop-holds c = (omega arith, map-none (columnOf sixteen (c .before .args .entries .now)) (zeroColumns sixteen))
 
 column-requires : tie.Need-column-requires Inv-loop μ-loop
 column-requires c κs = omega arith
@@ -36,7 +36,7 @@ loop-again : tie.Need-loop-again Inv-loop μ-loop
 loop-again c =
     let l = c .before .before in
     let s = l .before .before in
-    (omega arith, column-more sixteen (s .args .entries .now) (zeroColumns sixteen) (l .loop .columns) (l .loop .i) (c .column .result) (omega arith) (l .loop .inv .1) (c .column .ensures))
+    (omega arith, map-more (columnOf sixteen (s .args .entries .now)) (zeroColumns sixteen) (l .loop .columns) (l .loop .i) (c .column .result) (omega arith) (l .loop .inv .1) (c .column .ensures))
 
 returns : tie.Need-returns Inv-loop μ-loop
 returns c =

@@ -1,7 +1,6 @@
 -- The chain tries the lines of the table; what passes is laid full of zeros.
 use mathlib.Core.List.{[]}
 use mathlib.Core.Path.{_≡_, _∙_, ap}
-use Prim.Native.Nat.{_≤_}
 use native.Mathlib.Omega.{arith}
 use borrow.Author.Needs.{needs}
 use lib.ListN.{length}
@@ -11,7 +10,7 @@ use Rattle.definitions.specs.Field.{sixteen}
 use Rattle.definitions.specs.Held.{Held, held, places, noEntries, heldOf, totalsOf}
 use Rattle.definitions.specs.Weights.{cost}
 use Rattle.parts.proofs.Edits.{edit-refused, edit-goes-on, edit-counted}
-use Rattle.parts.proofs.Sums.{filled-none}
+use Rattle.parts.proofs.Entries.{filled-none}
 use Rattle.refusals.proofs.Chain.{Came, start, _▸_, accepted}
 use Rattle.refusals.specs.Checked.{toldChecked}
 use Rattle.parts.proofs.fresh.Statement.{statement}

@@ -1,7 +1,6 @@
 -- The chain tries the lines of the table, the stored numbers among them; the stored cost of what passes is that of its bytes.
 use mathlib.Core.List.{[]}
-use mathlib.Core.Path.{_≡_}
-use Prim.Native.Nat.{ℕ, _*_, _≤_}
+use Prim.Native.Nat.{ℕ, _≤_}
 use native.Mathlib.Omega.{arith}
 use lib.ListN.{getD}
 use Rattle.definitions.proofs.Editing.{stored-means}

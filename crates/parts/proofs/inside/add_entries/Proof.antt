@@ -1,13 +1,12 @@
 -- The loop has added the first j entries.
 use mathlib.Core.List.{_++_, map}
-use mathlib.Core.Path.{_≡_, refl, sym, _∙_, ap, ap₂}
+use mathlib.Core.Path.{_≡_, refl, _∙_, ap}
 use Prim.Native.Nat.{ℕ, _+_, _-_, _≤_}
 use native.Mathlib.Omega.{arith}
 use lib.ListN.{length, drop, getD, length-set}
-use Rattle.definitions.proofs.Loops.{map-more}
+use Rattle.definitions.proofs.Loops.{map-none, map-more, map-whole}
 use Rattle.definitions.specs.Tools.{below}
-use Rattle.parts.proofs.Sums.{place-untouched}
-use Rattle.matrix.proofs.Record.{none-laid, all-laid}
+use Rattle.parts.proofs.Entries.{place-untouched}
 use Rattle.parts.proofs.inside.add_entries.Statement.{statement}
 use Rattle.parts.proofs.inside.add_entries.Tie as tie
 
@@ -21,7 +20,7 @@ abbrev μ-loop : tie.MeasureT-loop
 loop-holds : tie.Need-loop-holds Inv-loop μ-loop
 loop-holds c =
     let a = c .args in
-    (omega arith, refl, none-laid (λ (t : ℕ). getD (a .entries .now) t 0 + getD (a .others .now) t 0) (a .entries .now))
+    (omega arith, refl, map-none (λ (t : ℕ). getD (a .entries .now) t 0 + getD (a .others .now) t 0) (a .entries .now))
 
 add-entries : tie.Need-add-entries Inv-loop μ-loop
 add-entries c =
@@ -46,7 +45,7 @@ returns : tie.Need-returns Inv-loop μ-loop
 returns c =
     let l = c .before in
     let a = l .before .args in
-    all-laid (λ (t : ℕ). getD (a .entries .now) t 0 + getD (a .others .now) t 0) (a .entries .now) (l .loop .entries) (l .loop .j) (length (a .entries .now)) (omega arith) refl (l .loop .inv .2)
+    map-whole (λ (t : ℕ). getD (a .entries .now) t 0 + getD (a .others .now) t 0) (a .entries .now) (l .loop .entries) (l .loop .j) (length (a .entries .now)) (omega arith) refl (l .loop .inv .2)
 
 pub add-entries-spec : {M : Type 1} → statement M
 add-entries-spec =

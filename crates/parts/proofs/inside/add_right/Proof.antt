@@ -7,13 +7,13 @@ use native.Mathlib.Omega.{arith}
 use borrow.Author.Needs.{needs}
 use lib.ListN.{length}
 use Rattle.definitions.proofs.Editing.{length-added}
-use Rattle.definitions.proofs.Held.{Rightly, rightly-means, length-totals}
+use Rattle.definitions.proofs.Held.{Rightly, rightly-means, length-stored}
 use Rattle.definitions.specs.Editing.{inOrOut}
 use Rattle.definitions.specs.Field.{sixteen}
 use Rattle.definitions.specs.Held.{Held, held, totalsOf, heldOf, withAdded}
 use Rattle.definitions.specs.Weights.{cost}
 use Rattle.parts.proofs.Edits.{above-refused, not-given, none-above-done}
-use Rattle.parts.proofs.Sums.{low-sum}
+use Rattle.parts.proofs.Entries.{low-sum}
 use Rattle.parts.proofs.inside.add_right.Statement.{statement}
 use Rattle.parts.proofs.inside.add_right.Tie as tie
 
@@ -55,7 +55,7 @@ count-requires : tie.Need-count-requires
 count-requires c κs =
     let a = c .before .before .before .before in
     let s = a .before .before .before .before .before .before .before .before in (
-      ap length (right s .totals-are) ∙ length-totals sixteen (s .args .entries .now),
+      length-stored sixteen (handed s) (right s),
       ap length (a .add-entries .ensures) ∙ length-added (s .args .entries .now) (s .args .others .now) ∙ right s .full,
     )
 

@@ -1,12 +1,12 @@
 -- The lowest place above 5 is that of the old entries; where there is none, zeros are laid over the column, and its cost is taken away.
 use mathlib.Core.List.{[], _∷_}
-use mathlib.Core.Path.{_≡_, sym, _∙_, ap}
+use mathlib.Core.Path.{_≡_, _∙_, ap}
 use Prim.Native.Nat.{ℕ, _*_, _+_, _-_, _≤_, _<_}
 use native.Mathlib.Omega.{arith}
 use borrow.Author.Needs.{needs}
 use lib.ListN.{length, take, drop}
 use Rattle.definitions.proofs.Editing.{lowest-cleared}
-use Rattle.definitions.proofs.Held.{Rightly, rightly-means, length-totals}
+use Rattle.definitions.proofs.Held.{Rightly, rightly-means, length-stored}
 use Rattle.definitions.specs.Editing.{lowestAbove}
 use Rattle.definitions.specs.Field.{sixteen}
 use Rattle.definitions.specs.Held.{Held, held, heldOf, withoutColumn}
@@ -29,7 +29,7 @@ within : (s : tie.Start) → sixteen .symbols * s .args .position + sixteen .sym
 within s = column-within sixteen (handed s) (right s) (s .args .position) (here s)
 
 totalled : (s : tie.Start) → s .args .position < length (s .args .totals .now)
-totalled s = let t = ap length (right s .totals-are) ∙ length-totals sixteen (s .args .entries .now) in let p = here s in omega arith
+totalled s = let t = length-stored sixteen (handed s) (right s) in let p = here s in omega arith
 
 -- the lowest of what goes in and comes out
 lowest : (b : tie.After-first-above)

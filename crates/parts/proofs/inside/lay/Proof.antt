@@ -1,11 +1,10 @@
 -- The bytes are laid over zeros, and what lies there then is counted.
-use mathlib.Core.List.{List}
 use mathlib.Core.Path.{_≡_, _∙_, ap}
 use borrow.Author.Needs.{needs}
 use Rattle.definitions.specs.Field.{sixteen}
 use Rattle.definitions.specs.Held.{totalsOf, filled}
 use Rattle.definitions.specs.Weights.{cost}
-use Rattle.parts.proofs.Sums.{laid-filled}
+use Rattle.parts.proofs.Entries.{laid-filled}
 use Rattle.parts.proofs.inside.lay.Statement.{statement}
 use Rattle.parts.proofs.inside.lay.Tie as tie
 

@@ -1,5 +1,5 @@
 -- An entry that is not above 5 changes nothing; one that is counts where it lies before the first of the old ones.
-use mathlib.Core.Path.{_≡_, _∙_}
+use mathlib.Core.Path.{_∙_}
 use native.Mathlib.Omega.{arith}
 use borrow.Author.Needs.{needs}
 use Rattle.definitions.proofs.Editing.{lowest-old, lowest-new}

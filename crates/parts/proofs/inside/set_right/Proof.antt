@@ -1,12 +1,12 @@
 -- The lowest place above 5 is refused; where there is none, the new total and the new cost are told by the old ones.
 use mathlib.Core.Bool.{false}
 use mathlib.Core.List.{[], _∷_}
-use mathlib.Core.Path.{_≡_, sym, _∙_, ap}
+use mathlib.Core.Path.{_≡_}
 use Prim.Native.Nat.{_*_, _+_, _≤_, _<_}
 use native.Mathlib.Omega.{arith}
 use borrow.Author.Needs.{needs}
 use lib.ListN.{length, getD}
-use Rattle.definitions.proofs.Held.{Rightly, rightly-means, length-totals}
+use Rattle.definitions.proofs.Held.{Rightly, rightly-means, length-stored}
 use Rattle.definitions.specs.Editing.{inOrOut}
 use Rattle.definitions.specs.Field.{sixteen}
 use Rattle.definitions.specs.Held.{Held, held, heldOf, withEntry}
@@ -29,7 +29,7 @@ within : (s : tie.Start) → sixteen .symbols * s .args .position + s .args .sym
 within s = at-within sixteen (handed s) (right s) (s .args .position) (here s) (s .args .symbol) (s .args .entry) (s .pre .0 .2)
 
 totalled : (s : tie.Start) → s .args .position < length (s .args .totals .now)
-totalled s = let t = ap length (right s .totals-are) ∙ length-totals sixteen (s .args .entries .now) in let p = here s in omega arith
+totalled s = let t = length-stored sixteen (handed s) (right s) in let p = here s in omega arith
 
 lowest-set-requires : tie.Need-lowest-set-requires
 lowest-set-requires c κs = let s = c .before .before .before in let f = right s .full in let w = within s in (f, omega arith)

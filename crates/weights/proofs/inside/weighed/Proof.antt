@@ -1,6 +1,6 @@
 -- The multiplicities are laid over zeros, and counted.
 use mathlib.Core.List.{_++_}
-use mathlib.Core.Path.{_≡_, sym, _∙_, ap}
+use mathlib.Core.Path.{sym, _∙_, ap}
 use Prim.Native.Nat.{ℕ}
 use lib.ListN.{drop}
 use Rattle.definitions.proofs.Weights.{length-matrix}

@@ -1,9 +1,9 @@
--- What the loops over entries have come to: sums of two matrices, and bytes laid over zeros.
+-- Entries that are written in place: the sum of two matrices, and bytes laid over zeros.
 -- Assumes nothing.
 use mathlib.Core.Bool.{false}
 use mathlib.Core.List.{List, [], _∷_, _++_, map, append-nil}
 use mathlib.Core.Path.{_≡_, refl, _∙_, ap}
-use Prim.Native.Nat.{ℕ, _+_, _-_, _≤_, _<_}
+use Prim.Native.Nat.{ℕ, _+_}
 use native.Mathlib.Omega.{arith}
 use lib.ListN.{length, drop, getD, length-replicate, drop-of-length-le}
 use lib.Seq.{getD-append-add, getD-drop}
