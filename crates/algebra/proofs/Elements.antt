@@ -9,7 +9,7 @@ use lib.Dec.{T, eqb, eqb→eq}
 use Rattle.definitions.proofs.Tools.{smallest-found}
 use Rattle.definitions.specs.Field.{Ops, Code, inverseOf}
 use Rattle.algebra.specs.FieldOf.{FieldOf}
-use Rattle.algebra.proofs.RingLaws.{plus-zero, times-assoc, times-comm, one-times, plus-times, times-zero}
+use Rattle.algebra.proofs.RingLaws.{plus-zero, plus-self, equal-of-sum, times-assoc, times-comm, one-times, plus-times, times-zero}
 
 module _ (C : Code) (F : FieldOf C) where
   -- the operations on elements
@@ -39,6 +39,9 @@ module _ (C : Code) (F : FieldOf C) where
   -- the element of 1
   pub element-one : F .element 1 ≡ F .ring .ops .i
   element-one = ap (F .element) (sym (F .number .φ-one)) ∙ F .element-number (G .i)
+
+  pub one-not-zero : F .ring .ops .i ≢ F .ring .ops .o
+  one-not-zero e = let n : _≡_ {A = ℕ} 1 0 = sym (F .number .φ-one) ∙ ap φ e ∙ F .number .φ-zero in let z : ⊥ = omega arith in z
 
   -- symbols with the same element are equal
   pub symbol-injective : (a b : ℕ) → a < C .symbols → b < C .symbols → F .element a ≡ F .element b → a ≡ b
@@ -104,6 +107,17 @@ module _ (C : Code) (F : FieldOf C) where
   plus-none a h =
       sym (number-plus a 0 h zero-symbol) ∙ ap (λ (x : G .K). φ (G .add (F .element a) x)) element-zero ∙ ap φ (plus-zero (F .ring) (F .element a))
       ∙ F .number-element a h
+
+  -- equal symbols sum to zero
+  pub plus-same : (a : ℕ) → a < C .symbols → C .plus a a ≡ 0
+  plus-same a h =
+      zero-element (C .plus a a) (plus-symbol a a h h) (element-plus a a h h ∙ plus-self (F .ring) (F .element a))
+
+  -- and only they
+  pub same-of-plus : (a b : ℕ) → a < C .symbols → b < C .symbols → C .plus a b ≡ 0 → a ≡ b
+  same-of-plus a b ha hb e =
+      symbol-injective a b ha hb
+      (equal-of-sum (F .ring) (F .element a) (F .element b) (sym (element-plus a b ha hb) ∙ ap (F .element) e ∙ element-zero))
 
   -- a product with 0 is 0
   pub times-none : (a : ℕ) → a < C .symbols → C .times a 0 ≡ 0

@@ -66,11 +66,15 @@ module _ (C : Code) (F : FieldOf C) where
   pub number-value : (x : F .ring .ops .K) (f : List ℕ) → Symbols C f → F .number .φ (value (F .ring .ops) x (elements f)) ≡ value (numbers C) (F .number .φ x) f
   number-value x f s = carry-value G N (F .number) x (elements f) ∙ ap (value N (φ x)) (numbers-elements f s)
 
+  -- at a symbol
+  pub number-value-at : (a : ℕ) (f : List ℕ) → a < C .symbols → Symbols C f
+      → F .number .φ (value (F .ring .ops) (F .element a) (elements f)) ≡ value (numbers C) a f
+  number-value-at a f ha s = number-value (F .element a) f s ∙ ap (λ (b : ℕ). value N b f) (F .number-element a ha)
+
   -- the value of symbols at a symbol is a symbol
   pub value-symbol : (a : ℕ) (f : List ℕ) → a < C .symbols → Symbols C f → value (numbers C) a f < C .symbols
   value-symbol a f ha s =
-      subst (λ (b : ℕ). b < C .symbols) (number-value (F .element a) f s ∙ ap (λ (b : ℕ). value N b f) (F .number-element a ha))
-      (F .number-symbol (value G (F .element a) (elements f)))
+      subst (λ (b : ℕ). b < C .symbols) (number-value-at a f ha s) (F .number-symbol (value G (F .element a) (elements f)))
 
   -- the number of a Hasse derivative
   pub number-hasse : (q : List (F .ring .ops .K)) (l : List (ℕ × ℕ)) (s t : ℕ) (x y : F .ring .ops .K)

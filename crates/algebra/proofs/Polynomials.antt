@@ -3,7 +3,7 @@
 -- Assumes nothing.
 use mathlib.Core.List.{List, [], _∷_}
 use mathlib.Core.Path.{_≡_, refl, sym, ap}
-use Prim.Native.Nat.{ℕ, zero, suc, _+_, _*_, _≤_}
+use Prim.Native.Nat.{ℕ, zero, suc, _+_, _*_, _≤_, _<_}
 use native.Mathlib.Nat.{le-of-suc-le-suc, not-suc-le-zero}
 use native.Mathlib.Omega.{arith}
 use lib.ListN.{length, getD}
@@ -26,11 +26,33 @@ module _ (A : Ops) where
   length-plus (c ∷ p) (d ∷ q) zero hp hq = absurd (not-suc-le-zero hp)
   length-plus (c ∷ p) (d ∷ q) (suc n) hp hq = let h = length-plus p q n (le-of-suc-le-suc hp) (le-of-suc-le-suc hq) in omega arith
 
+  -- and as long as the second, where that is no shorter
+  pub length-sum : (p q : List K) → length p ≤ length q → length (plus A p q) ≡ length q
+  unfolding plus
+  length-sum [] q h = refl
+  length-sum (c ∷ p) [] h = absurd (not-suc-le-zero h)
+  length-sum (c ∷ p) (d ∷ q) h = ap suc (length-sum p q (le-of-suc-le-suc h))
+
+  -- of lists of one length its entries are the sums
+  pub plus-at : (p q : List K) (k : ℕ) → length p ≡ length q → k < length q → getD (plus A p q) k o ≡ getD p k o ⊕ getD q k o
+  unfolding plus
+  plus-at p [] k e h = absurd (not-suc-le-zero h)
+  plus-at [] (d ∷ q) k e h = let z : ⊥ = omega arith in absurd z
+  plus-at (c ∷ p) (d ∷ q) zero e h = refl
+  plus-at (c ∷ p) (d ∷ q) (suc k) e h = plus-at p q k (omega arith) (le-of-suc-le-suc h)
+
   -- a multiple is as long
   pub length-scaled : (c : K) (q : List K) → length (scaled A c q) ≡ length q
   unfolding scaled
   length-scaled c [] = refl
   length-scaled c (d ∷ q) = ap suc (length-scaled c q)
+
+  -- and its entries are the multiples
+  pub scaled-at : (c : K) (q : List K) (k : ℕ) → k < length q → getD (scaled A c q) k o ≡ c ⊗ getD q k o
+  unfolding scaled
+  scaled-at c [] k h = absurd (not-suc-le-zero h)
+  scaled-at c (d ∷ q) zero h = refl
+  scaled-at c (d ∷ q) (suc k) h = scaled-at c q k (le-of-suc-le-suc h)
 
   -- degrees of a product add up
   pub length-times : (p q : List K) (a b : ℕ) → length p ≤ suc a → length q ≤ suc b → length (times A p q) ≤ suc (a + b)

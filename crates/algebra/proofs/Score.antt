@@ -8,14 +8,14 @@ use native.Mathlib.Omega.{arith}
 use lib.ListN.{length, length-map, getD}
 use Rattle.definitions.proofs.Codeword.{codeword-at}
 use Rattle.definitions.proofs.Tools.{sum-ext}
-use Rattle.definitions.specs.Code.{Symbols, codeword}
-use Rattle.definitions.specs.Field.{Ops, Code, numbers, value}
+use Rattle.definitions.specs.Code.{Symbols, point, codeword}
+use Rattle.definitions.specs.Field.{Ops, Code, value}
 use Rattle.definitions.specs.Polynomial.{monomials, Through}
 use Rattle.definitions.specs.Roots.{isRoot}
 use Rattle.definitions.specs.Tools.{sum}
 use Rattle.definitions.specs.Weights.{entry, score}
 use Rattle.algebra.specs.FieldOf.{FieldOf}
-use Rattle.algebra.proofs.Numbers.{elements, number-value, compose-zero}
+use Rattle.algebra.proofs.Numbers.{elements, point-symbol, number-value-at, compose-zero}
 use Rattle.algebra.proofs.Passing.{pointElement, multiplicityOf, number-point, elements-pass}
 use Rattle.algebra.proofs.RootCounting.{Distinct}
 use Rattle.algebra.proofs.Theorem.{score-above-degree-of-list}
@@ -30,14 +30,13 @@ module _ (C : Code) (F : FieldOf C) where
   φ = F .number .φ
 
   -- the points of a code are distinct
-  points-distinct : (n : ℕ) → n ≤ C .positions → Distinct G n (pointElement C F)
+  pub points-distinct : (n : ℕ) → n ≤ C .positions → Distinct (F .ring .ops) n (pointElement C F)
   points-distinct n h i j k l e = F .points-differ i j k (omega arith) (sym (number-point C F i) ∙ ap φ e ∙ number-point C F j)
 
   -- the symbol at position i of a codeword is the value at the point
-  codeword-of-elements : (n : ℕ) (f : List ℕ) → Symbols C f → (i : ℕ) → i < n → getD (codeword C n f) i 0 ≡ φ (value G (pointElement C F i) (elements C F f))
-  codeword-of-elements n f s i h =
-      codeword-at C f n i h
-      ∙ sym (number-value C F (pointElement C F i) f s ∙ ap (λ (a : ℕ). value (numbers C) a f) (number-point C F i))
+  pub codeword-of-elements : (n : ℕ) (f : List ℕ) → Symbols C f → (i : ℕ) → i < n
+      → getD (codeword C n f) i 0 ≡ F .number .φ (value (F .ring .ops) (pointElement C F i) (elements C F f))
+  codeword-of-elements n f s i h = codeword-at C f n i h ∙ sym (number-value-at C F (point C i) f (point-symbol C F i) s)
 
   -- the score, by values of elements
   score-of-elements : (n : ℕ) (m f : List ℕ) → Symbols C f → score C n m f ≡ sum n (λ i. entry C m i (φ (value G (pointElement C F i) (elements C F f))))

@@ -32,7 +32,8 @@ module _ (C : Code) (F : FieldOf C) where
   φ = F .number .φ
 
   -- a sum of symbols stands for the sum of their elements
-  numbers-plus : (p q : List ℕ) → Symbols C p → Symbols C q → map φ (plus G (elements C F p) (elements C F q)) ≡ plus N p q
+  pub numbers-plus : (p q : List ℕ) → Symbols C p → Symbols C q
+      → map (F .number .φ) (plus (F .ring .ops) (elements C F p) (elements C F q)) ≡ plus (numbers C) p q
   numbers-plus p q sp sq =
       carry-plus G N (F .number) (elements C F p) (elements C F q) ∙ ap₂ (plus N) (numbers-elements C F p sp) (numbers-elements C F q sq)
 

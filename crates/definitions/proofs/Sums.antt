@@ -1,4 +1,4 @@
--- Sums taken apart: in two, in blocks of equal size, without a tail of zeros, and but for one term; and the sum of numbers that fall by the same step.
+-- Sums taken apart: in two, term by term, in blocks of equal size, without a tail of zeros, and but for one term; and the sum of numbers that fall by the same step.
 -- Assumes nothing.
 use mathlib.Core.Path.{_≡_, sym, _∙_, ap}
 use Prim.Native.Nat.{ℕ, zero, suc, _+_, _*_, _-_, _≤_, _<_}
@@ -22,6 +22,16 @@ sum-blocks q (suc n) f =
     rw (mul-suc q n)
     (sum-append (q * n) q f ∙ ap (λ (s : ℕ). s + sum q (λ b. f (q * n + b))) (sum-blocks q n f)
     ∙ sym (sum-suc n (λ i. sum q (λ b. f (q * i + b)))))
+
+-- sums of sums
+pub sum-both : (n : ℕ) (f g : ℕ → ℕ) → sum n (λ j. f j + g j) ≡ sum n f + sum n g
+sum-both zero f g = let a = sum-zero f in let b = sum-zero g in let c = sum-zero (λ j. f j + g j) in omega arith
+sum-both (suc n) f g =
+    let e = sum-both n f g in
+    let a = sum-suc n f in
+    let b = sum-suc n g in
+    let c = sum-suc n (λ j. f j + g j) in
+    omega arith
 
 pub sum-of-zeros : (n : ℕ) (f : ℕ → ℕ) → ((j : ℕ) → f j ≡ 0) → sum n f ≡ 0
 sum-of-zeros zero f z = sum-zero f

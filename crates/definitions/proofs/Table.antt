@@ -1,16 +1,17 @@
 -- How a call comes through its table: line after line is passed, and one is given or none is. Whatever the call makes of that, its answer
 -- or its memory, is then known.
 -- Assumes nothing.
-use mathlib.Core.Bool.{true, false, _&&_}
+use mathlib.Core.Bool.{Bool, true, false, not, _&&_}
 use mathlib.Core.List.{List, [], _∷_}
 use mathlib.Core.Path.{_≡_, refl}
 use Prim.Native.Nat.{ℕ, _-_, _≤_, _<_}
-use borrow.Author.Tests.{leb-true, ltb-true, ltb-false, eqb-true, not-false}
+use borrow.Author.Tests.{leb-true, ltb-true, ltb-false, eqb-true, eqb-false, not-true, not-false}
 use native.Mathlib.Omega.{arith}
 use lib.Dec.{eqb, leb, ltb}
 use lib.ListN.{length, getD}
 use Rattle.definitions.proofs.Refusals.{first-above, none-above}
 use Rattle.definitions.proofs.Tools.{split, both}
+use Rattle.definitions.specs.Answers.{Answer, refused}
 use Rattle.definitions.specs.Bound.{count}
 use Rattle.definitions.specs.Code.{Symbols}
 use Rattle.definitions.specs.Field.{Code}
@@ -36,6 +37,19 @@ module _ {ℓ} {A : Type ℓ} (refused : ℕ → ℕ → A) (accepted : A) where
   pub accepts : {table : List Line} → Accepts table → accepted ≡ tried table refused accepted
   accepts end = refl
   accepts (next e later) = rw e (accepts later)
+
+-- each line of a table has a number
+abbrev pub numbered : List Line → Bool
+numbered [] = true
+numbered (l ∷ table) = not (eqb (l .number) 0) && numbered table
+
+-- so a call that answers the number 0 is accepted
+pub not-refused : (table : List Line) (accepted : Answer) → numbered table ≡ true → tried table refused accepted .number ≡ 0 → Accepts table
+not-refused [] accepted some e = end
+not-refused (l ∷ table) accepted some e =
+    let b = both (not (eqb (l .number) 0)) (numbered table) some in
+    split (l .given) (λ g. absurd (eqb-false (l .number) 0 (not-true (eqb (l .number) 0) (b .0)) (rw g at e)))
+    (λ g. next g (not-refused table accepted (b .1) (rw g at e)))
 
 -- what a line says of a call that passes it
 pub sizes-mean : (C : Code) (n k : ℕ) → sizes C n k .given ≡ false → (2 ≤ k) × (k ≤ n) × (n ≤ C .positions)

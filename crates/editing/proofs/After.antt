@@ -1,6 +1,6 @@
 -- The record that comes of an outcome and of the parts after it is the one that the table makes.
 -- Assumes nothing.
-use mathlib.Core.Bool.{Bool, true, not, _&&_}
+use mathlib.Core.Bool.{true, not}
 use mathlib.Core.List.{List, [], _∷_}
 use mathlib.Core.Path.{_≡_, refl, sym, _∙_, ap, ap₂}
 use Prim.Native.Nat.{ℕ}
@@ -8,6 +8,7 @@ use borrow.Author.Tests.{eqb-false, not-true}
 use lib.Dec.{eqb}
 use lib.ListN.{replicate}
 use Rattle.definitions.proofs.Held.{cost-none, totals-none}
+use Rattle.definitions.proofs.Table.{numbered}
 use Rattle.definitions.proofs.Tools.{split, both}
 use Rattle.definitions.specs.Answers.{Answer, refused, costed}
 use Rattle.definitions.specs.Editing.{edited, editAnswer, noMatrix}
@@ -19,11 +20,6 @@ use Rattle.parts.specs.Priced.{toldPriced}
 use Rattle.parts.specs.declared.Priced.{Priced}
 use Rattle.parts.specs.declared.Priced.the-variants.{Cost, Refused}
 use Rattle.refusals.proofs.Unique.{refusal-number}
-
--- each line of a table has a number
-abbrev pub numbered : List Line → Bool
-numbered [] = true
-numbered (l ∷ table) = not (eqb (l .number) 0) && numbered table
 
 module _ (before after : Held) (outcome : Priced) (totals entries : List ℕ) where
   -- nothing is refused

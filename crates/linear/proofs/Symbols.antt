@@ -8,9 +8,9 @@ use Prim.Native.Nat.{ℕ, zero, suc, _+_, _≤_, _<_}
 use native.Mathlib.Decide.{ℕ-discrete, decLt}
 use native.Mathlib.Omega.{arith}
 use lib.ListN.{getD}
-use Rattle.algebra.proofs.Elements.{number-injective, symbol-injective, zero-element, zero-symbol, one-symbol, plus-symbol, times-symbol, element-zero, element-one, element-plus, element-times, plus-none, none-times}
+use Rattle.algebra.proofs.Elements.{number-injective, one-not-zero, symbol-injective, zero-element, zero-symbol, one-symbol, plus-symbol, times-symbol, element-zero, element-one, element-plus, element-times, plus-none, none-times}
 use Rattle.algebra.proofs.Solutions.{number-dot}
-use Rattle.algebra.proofs.RingLaws.{plus-self, zero-times, equal-of-sum}
+use Rattle.algebra.proofs.RingLaws.{zero-times}
 use Rattle.algebra.specs.FieldOf.{FieldOf}
 use Rattle.algebra.specs.Grid.{entryOf}
 use Rattle.definitions.specs.Code.{Symbols}
@@ -26,17 +26,6 @@ module _ (C : Code) (F : FieldOf C) where
   -- the operations on numbers
   abbrev N : Ops
   N = numbers C
-
-  -- equal symbols sum to zero, and only they
-  pub plus-same : (a : ℕ) → a < C .symbols → C .plus a a ≡ 0
-  plus-same a h =
-      zero-element C F (C .plus a a) (plus-symbol C F a a h h) (element-plus C F a a h h ∙ plus-self (F .ring) (F .element a))
-
-  -- symbols that sum to zero are equal
-  pub same-of-plus : (a b : ℕ) → a < C .symbols → b < C .symbols → C .plus a b ≡ 0 → a ≡ b
-  same-of-plus a b ha hb e =
-      symbol-injective C F a b ha hb
-      (equal-of-sum (F .ring) (F .element a) (F .element b) (sym (element-plus C F a b ha hb) ∙ ap (F .element) e ∙ element-zero C F))
 
   -- a multiple by 0 adds nothing
   pub plus-nothing : (a b : ℕ) → a < C .symbols → b < C .symbols → a ≡ C .plus a (C .times 0 b)
@@ -138,10 +127,7 @@ module _ (C : Code) (F : FieldOf C) where
 
         -- a number that has an inverse is not zero
         nonzero : F .element u ≢ G .o
-        nonzero e = one-not-zero (sym inverts ∙ ap (λ (x : G .K). G .mul x (F .element (entryOf m r j))) e ∙ zero-times (F .ring) (F .element (entryOf m r j)))
-          where
-            one-not-zero : G .i ≢ G .o
-            one-not-zero f = let g : _≡_ {A = ℕ} 1 0 = sym (F .number .φ-one) ∙ ap (F .number .φ) f ∙ F .number .φ-zero in let z : ⊥ = omega arith in z
+        nonzero e = one-not-zero C F (sym inverts ∙ ap (λ (x : G .K). G .mul x (F .element (entryOf m r j))) e ∙ zero-times (F .ring) (F .element (entryOf m r j)))
 
         -- a step keeps the solutions
         pub step-solutions : SameSolutions C rows w m b

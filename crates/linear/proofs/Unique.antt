@@ -1,15 +1,15 @@
 -- The theorem that one list of coefficients interpolates, in any code that carries a field.
 -- Assumes nothing.
 use mathlib.Core.Bool.{true}
-use mathlib.Core.List.{List, [], _∷_}
+use mathlib.Core.List.{List}
 use mathlib.Core.Path.{_≡_, refl, sym, _∙_, ap, ap₂}
-use Prim.Native.Nat.{ℕ, zero, suc, _≤_, _<_}
+use Prim.Native.Nat.{ℕ, _≤_, _<_}
 use native.Mathlib.Decide.{decLt, ℕ-discrete}
-use native.Mathlib.Nat.{le-of-suc-le-suc, not-suc-le-zero}
 use native.Mathlib.Omega.{arith}
 use lib.ListN.{length, getD, List·getD-eq-default}
 use lib.Seq.{ext-getD}
-use Rattle.algebra.proofs.Elements.{zero-symbol}
+use Rattle.algebra.proofs.Elements.{zero-symbol, plus-same, same-of-plus}
+use Rattle.algebra.proofs.Polynomials.{length-sum, plus-at}
 use Rattle.algebra.proofs.Solutions.{symbols-plus, through-plus}
 use Rattle.algebra.specs.FieldOf.{FieldOf}
 use Rattle.definitions.proofs.Tools.{split}
@@ -18,27 +18,14 @@ use Rattle.definitions.specs.Field.{Code, numbers}
 use Rattle.definitions.specs.Polynomial.{Interpolates, isZero, leading}
 use Rattle.definitions.specs.Roots.{plus}
 use Rattle.linear.proofs.Leading.{zero-after, leading-nonzero}
-use Rattle.linear.proofs.Symbols.{plus-same, same-of-plus}
-
--- the sum of lists of one length has that length
-length-plus : (C : Code) (p q : List ℕ) → length p ≡ length q → length (plus (numbers C) p q) ≡ length q
-unfolding plus
-length-plus C [] q e = refl
-length-plus C (c ∷ p) [] e = e
-length-plus C (c ∷ p) (d ∷ q) e = let f : length p ≡ length q = omega arith in ap suc (length-plus C p q f)
-
--- its entries are the sums
-plus-at : (C : Code) (p q : List ℕ) (k : ℕ) → length p ≡ length q → k < length q → getD (plus (numbers C) p q) k 0 ≡ C .plus (getD p k 0) (getD q k 0)
-unfolding plus
-plus-at C p [] k e h = absurd (not-suc-le-zero h)
-plus-at C [] (d ∷ q) k e h = let z : ⊥ = omega arith in absurd z
-plus-at C (c ∷ p) (d ∷ q) zero e h = refl
-plus-at C (c ∷ p) (d ∷ q) (suc k) e h = plus-at C p q k (omega arith) (le-of-suc-le-suc h)
 
 module _ (C : Code) (F : FieldOf C) (n v D : ℕ) (m p q : List ℕ) (hp : Interpolates C n v D m p) (hq : Interpolates C n v D m q) where
   -- they have the same length
   sizes : length p ≡ length q
   sizes = hp .size ∙ sym (hq .size)
+
+  no-longer : length p ≤ length q
+  no-longer = let e = sizes in omega arith
 
   -- and the same leading place
   leads : leading p ≡ leading q
@@ -57,7 +44,7 @@ module _ (C : Code) (F : FieldOf C) (n v D : ℕ) (m p q : List ℕ) (hp : Inter
   both-ends k h =
       elim (decLt k (length q)) [
         | yes l ↦
-            plus-at C p q k sizes l
+            plus-at (numbers C) p q k sizes l
             ∙ elim (ℕ-discrete k (leading q)) [
               | yes e ↦
                   ap₂ (C .plus) (ap (λ (x : ℕ). getD p x 0) (e ∙ sym leads) ∙ hp .leads ∙ sym (hq .leads) ∙ ap (λ (x : ℕ). getD q x 0) (sym e)) refl
@@ -66,7 +53,7 @@ module _ (C : Code) (F : FieldOf C) (n v D : ℕ) (m p q : List ℕ) (hp : Inter
                   let later : leading p < k = let e = leads in omega arith in
                   ap₂ (C .plus) (zero-after p k later) (zero-after q k (omega arith)) ∙ plus-same C F 0 (zero-symbol C F)
             ]
-        | no l ↦ List·getD-eq-default (plus (numbers C) p q) 0 {n = k} (rw (length-plus C p q sizes) (omega arith))
+        | no l ↦ List·getD-eq-default (plus (numbers C) p q) 0 {n = k} (rw (length-sum (numbers C) p q no-longer) (omega arith))
       ]
 
   -- so it is zero: it would lead earlier
@@ -78,7 +65,7 @@ module _ (C : Code) (F : FieldOf C) (n v D : ℕ) (m p q : List ℕ) (hp : Inter
       absurd
       (leading-nonzero both e
       (both-ends (leading both)
-      (hq .least both (length-plus C p q sizes ∙ hq .size) (symbols-plus C F p q (hp .symbols) (hq .symbols))
+      (hq .least both (length-sum (numbers C) p q no-longer ∙ hq .size) (symbols-plus C F p q (hp .symbols) (hq .symbols))
       (through-plus C F n v D m p q (hp .symbols) (hq .symbols) (hp .through) (hq .through)) e))))
 
   -- two lists of coefficients that interpolate are equal
@@ -87,4 +74,4 @@ module _ (C : Code) (F : FieldOf C) (n v D : ℕ) (m p q : List ℕ) (hp : Inter
   interpolates-unique =
       ext-getD 0 p q sizes
       (λ k h. same-of-plus C F (getD p k 0) (getD q k 0) (hp .symbols k) (hq .symbols k)
-      (sym (plus-at C p q k sizes (let e = sizes in omega arith)) ∙ zeros-of-isZero both both-zero k))
+      (sym (plus-at (numbers C) p q k sizes (let e = sizes in omega arith)) ∙ zeros-of-isZero both both-zero k))
