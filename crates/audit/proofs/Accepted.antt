@@ -1,0 +1,57 @@
+-- When a sum is accepted: every line of its table is passed.
+-- Assumes nothing.
+use mathlib.Core.Bool.{true, false}
+use mathlib.Core.List.{List, [], _∷_}
+use mathlib.Core.Path.{_≡_, sym, _∙_, ap}
+use Prim.Native.Nat.{ℕ, _+_, _≤_}
+use native.Mathlib.Omega.{arith}
+use borrow.Author.Tests.{le-leb, le-ltb, eq-eqb}
+use lib.ListN.{getD}
+use Rattle.audit.proofs.Added.{sum-at}
+use Rattle.audit.specs.Words.{Accepted}
+use Rattle.definitions.proofs.Editing.{none-yet, low-too}
+use Rattle.definitions.proofs.Held.{rightly-means}
+use Rattle.definitions.proofs.Table.{Accepts, next, end, accepts}
+use Rattle.definitions.proofs.Tools.{smallest-is}
+use Rattle.definitions.specs.Answers.{Answer, refused, costed}
+use Rattle.definitions.specs.Editing.{anyAbove, sameSize, stored, lowestAbove, inOrOut, addTable}
+use Rattle.definitions.specs.Field.{Code}
+use Rattle.definitions.specs.Held.{Held, places, heldOf, withAdded, rightly}
+use Rattle.definitions.specs.Limits.{greatestLevel}
+use Rattle.definitions.specs.Refusals.{size}
+
+module _ (C : Code) (h o : Held) (some : 2 ≤ h .n) (few : h .n ≤ C .positions) (same : h .n ≡ o .n) (rh : rightly C h ≡ true) (ro : rightly C o ≡ true)
+    (low : (j : ℕ) → getD (h .entries) j 0 + getD (o .entries) j 0 ≤ greatestLevel) where
+  size-passed : size C (h .n) .given ≡ false
+  size-passed = rw (le-leb 2 (h .n) some, le-leb (h .n) (C .positions) few)
+
+  same-passed : sameSize (h .n) (o .n) .given ≡ false
+  same-passed = rw (eq-eqb (h .n) (o .n) same)
+
+  stored-passed : (x : Held) → rightly C x ≡ true → stored C x .given ≡ false
+  stored-passed x r = rw r
+
+  -- what goes in and what comes out
+  three : List (List ℕ)
+  three = h .entries ∷ o .entries ∷ withAdded (h .entries) (o .entries) ∷ []
+
+  none-above : (j : ℕ) → anyAbove three j ≡ false
+  unfolding three
+  none-above j =
+      let l = low j in
+      let s = sum-at (h .entries) (o .entries) (rightly-means C h rh .full ∙ sym (rightly-means C o ro .full)) j in
+      low-too j (h .entries) (o .entries ∷ withAdded (h .entries) (o .entries) ∷ []) (omega arith)
+      (low-too j (o .entries) (withAdded (h .entries) (o .entries) ∷ []) (omega arith)
+      (low-too j (withAdded (h .entries) (o .entries)) [] (omega arith) (none-yet j)))
+
+  entries-passed : inOrOut C three .given ≡ false
+  entries-passed =
+      let past : lowestAbove C three ≡ places C = smallest-is (anyAbove three) (places C) (places C) (omega arith) (λ j _. none-above j) (λ l. let z : ⊥ = omega arith in absurd z) in
+      le-ltb (lowestAbove C three) (places C) (omega arith)
+
+  lines : Accepts (addTable C h o)
+  unfolding three
+  lines = next size-passed (next same-passed (next (stored-passed h rh) (next (stored-passed o ro) (next entries-passed end))))
+
+  pub accepted : Accepted C h o
+  accepted = ap (λ (a : Answer). a .number) (sym (accepts refused (costed (heldOf C (h .n) (withAdded (h .entries) (o .entries)) .cost) 0) lines))

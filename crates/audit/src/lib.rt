@@ -1,0 +1,1 @@
+// The laws of document 02, order 6, shown of the definitions.
