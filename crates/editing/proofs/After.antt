@@ -16,9 +16,9 @@ use Rattle.definitions.specs.Field.{Code}
 use Rattle.definitions.specs.Held.{Held, held, noEntries}
 use Rattle.definitions.specs.Refusals.{Line}
 use Rattle.editing.specs.After.{recordAfter}
-use Rattle.parts.specs.Priced.{toldPriced}
-use Rattle.parts.specs.declared.Priced.{Priced}
-use Rattle.parts.specs.declared.Priced.the-variants.{Cost, Refused}
+use Rattle.edits.specs.Priced.{toldPriced}
+use Rattle.edits.specs.declared.Priced.{Priced}
+use Rattle.edits.specs.declared.Priced.the-variants.{Cost, Refused}
 use Rattle.refusals.proofs.Unique.{refusal-number}
 
 module _ (before after : Held) (outcome : Priced) (totals entries : List ℕ) where

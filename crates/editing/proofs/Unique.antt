@@ -11,8 +11,8 @@ use Rattle.editing.specs.declared.Edited.{Edited}
 use Rattle.matrix.specs.Record.{heldBy}
 use Rattle.matrix.specs.declared.Matrix.{Matrix}
 use Rattle.parts.proofs.Unique.{one-priced}
-use Rattle.parts.specs.Priced.{toldPriced}
-use Rattle.parts.specs.declared.Priced.{Priced}
+use Rattle.edits.specs.Priced.{toldPriced}
+use Rattle.edits.specs.declared.Priced.{Priced}
 
 -- a record is what it holds
 pub one-record : {x y : Matrix} {h : Held} → heldBy x ≡ h → heldBy y ≡ h → x ≡ y

@@ -3,8 +3,8 @@
 use mathlib.Core.List.{List}
 use Prim.Native.Nat.{ℕ}
 use Rattle.definitions.specs.Held.{Held, held}
-use Rattle.parts.specs.declared.Priced.{Priced}
-use Rattle.parts.specs.declared.Priced.the-variants.{Cost, Refused}
+use Rattle.edits.specs.declared.Priced.{Priced}
+use Rattle.edits.specs.declared.Priced.the-variants.{Cost, Refused}
 
 -- the record of n with the new cost, or the one of the old n and cost
 abbrev pub recordAfter : Priced → ℕ → ℕ → ℕ → List ℕ → List ℕ → Held

@@ -3,10 +3,10 @@ ghost use mathlib.Core.Path.{_≡_};
 ghost use Rattle.definitions.specs.Editing.{freshHeld, freshAnswer, bytesHeld, bytesAnswer, setHeld, setAnswer, clearHeld, clearAnswer, addHeld, addAnswer};
 ghost use Rattle.definitions.specs.Field.{sixteen};
 ghost use Rattle.editing.specs.After.{recordAfter};
-ghost use Rattle.parts.specs.Priced.{toldPriced};
+ghost use Rattle.edits.specs.Priced.{toldPriced};
 ghost use Rattle.matrix.specs.Record.{heldBy};
+use edits::Priced;
 use matrix::Matrix;
-use parts::Priced;
 use refusals::limits::ENTRIES;
 use refusals::limits::POSITIONS;
 

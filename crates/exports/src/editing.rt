@@ -6,9 +6,9 @@ ghost use Rattle.definitions.specs.Field.{sixteen};
 ghost use Rattle.definitions.specs.Held.{held};
 ghost use Rattle.definitions.specs.Limits.{greatestRows};
 ghost use Rattle.exports.specs.Crossing.{answerOf, Narrow};
-ghost use Rattle.parts.specs.Priced.{toldPriced};
+ghost use Rattle.edits.specs.Priced.{toldPriced};
 use crate::Answer;
-use parts::Priced;
+use edits::Priced;
 
 fn priced(p: Priced) -> Answer
     requires { ⌜ Narrow (toldPriced p) ⌝ }

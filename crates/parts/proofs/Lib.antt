@@ -1,4 +1,1 @@
-pub mod Edits
-pub mod Entries
-pub mod Moving
 pub mod Unique

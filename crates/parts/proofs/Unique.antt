@@ -7,9 +7,9 @@ use Rattle.definitions.specs.Answers.{Answer}
 use Rattle.definitions.specs.Editing.{lentFreshAnswer, lentFreshHeld, lentBytesAnswer, lentBytesHeld, setAnswer, setHeld, clearAnswer, clearHeld, addAnswer, addHeld}
 use Rattle.definitions.specs.Field.{Code}
 use Rattle.definitions.specs.Held.{Held}
-use Rattle.parts.specs.Priced.{toldPriced}
-use Rattle.parts.specs.declared.Priced.{Priced}
-use Rattle.parts.specs.declared.Priced.the-variants.{Cost, Refused}
+use Rattle.edits.specs.Priced.{toldPriced}
+use Rattle.edits.specs.declared.Priced.{Priced}
+use Rattle.edits.specs.declared.Priced.the-variants.{Cost, Refused}
 use Rattle.refusals.proofs.Unique.{same-told, answerOf, refused-back}
 
 pricedOf : Answer → Priced

@@ -3,22 +3,14 @@ ghost use mathlib.Core.Path.{_≡_};
 ghost use Rattle.definitions.specs.Editing.{lentFreshHeld, lentFreshAnswer, lentBytesHeld, lentBytesAnswer, setHeld, setAnswer, clearHeld, clearAnswer, addHeld, addAnswer};
 ghost use Rattle.definitions.specs.Field.{sixteen};
 ghost use Rattle.definitions.specs.Held.{held};
-ghost use Rattle.parts.specs.Priced.{toldPriced};
-
-pub mod inside;
-
+ghost use Rattle.edits.specs.Priced.{toldPriced};
+use edits::Priced;
 use refusals::Checked;
 use refusals::Refusal;
 use refusals::limits::ENTRIES;
 use refusals::limits::GREATEST_ENTRY;
 use refusals::limits::POSITIONS;
 use refusals::limits::SYMBOLS;
-
-// The cost that the record then holds.
-pub enum Priced {
-    Cost(usize),
-    Refused(Refusal),
-}
 
 pub fn fresh(n: usize, totals: &mut [u16], entries: &mut [u8]) -> Priced
     ensures answer { λ r. ⌜ toldPriced r ≡ lentFreshAnswer sixteen n (now (totals .entry)) (now (entries .entry)) ⌝ }
@@ -32,7 +24,7 @@ pub fn fresh(n: usize, totals: &mut [u16], entries: &mut [u8]) -> Priced
         return Priced::Refused(r);
     }
     let zeros = [0u8; ENTRIES];
-    Priced::Cost(inside::lay(&zeros, totals, entries))
+    Priced::Cost(edits::lay(&zeros, totals, entries))
 }
 
 pub fn of_bytes(n: usize, bytes: &[u8], totals: &mut [u16], entries: &mut [u8]) -> Priced
@@ -48,7 +40,7 @@ pub fn of_bytes(n: usize, bytes: &[u8], totals: &mut [u16], entries: &mut [u8]) 
     if let Checked::Refused(r) = checked {
         return Priced::Refused(r);
     }
-    Priced::Cost(inside::lay(bytes, totals, entries))
+    Priced::Cost(edits::lay(bytes, totals, entries))
 }
 
 pub fn set_entry(
@@ -64,13 +56,13 @@ pub fn set_entry(
     ensures total_memory { λ _. ⌜ now (totals .exit) ≡ setHeld sixteen (held n cost (now (totals .entry)) (now (entries .entry))) position symbol entry .totals ⌝ }
     ensures entry_memory { λ _. ⌜ now (entries .exit) ≡ setHeld sixteen (held n cost (now (totals .entry)) (now (entries .entry))) position symbol entry .entries ⌝ }
 {
-    let checked = inside::placed(n, position)
+    let checked = edits::placed(n, position)
         .or(SYMBOLS <= symbol, Refusal::Sizes)
         .or(!matrix::rightly(n, cost, totals, entries), Refusal::Length);
     if let Checked::Refused(r) = checked {
         return Priced::Refused(r);
     }
-    inside::set_right(n, cost, totals, entries, position, symbol, entry)
+    edits::set_right(n, cost, totals, entries, position, symbol, entry)
 }
 
 pub fn clear_column(
@@ -84,14 +76,14 @@ pub fn clear_column(
     ensures total_memory { λ _. ⌜ now (totals .exit) ≡ clearHeld sixteen (held n cost (now (totals .entry)) (now (entries .entry))) position .totals ⌝ }
     ensures entry_memory { λ _. ⌜ now (entries .exit) ≡ clearHeld sixteen (held n cost (now (totals .entry)) (now (entries .entry))) position .entries ⌝ }
 {
-    let checked = inside::placed(n, position).or(
+    let checked = edits::placed(n, position).or(
         !matrix::rightly(n, cost, totals, entries),
         Refusal::Length,
     );
     if let Checked::Refused(r) = checked {
         return Priced::Refused(r);
     }
-    inside::clear_right(n, cost, totals, entries, position)
+    edits::clear_right(n, cost, totals, entries, position)
 }
 
 pub fn add(
@@ -118,5 +110,5 @@ pub fn add(
     if let Checked::Refused(r) = checked {
         return Priced::Refused(r);
     }
-    inside::add_right(n, cost, totals, entries, other_entries)
+    edits::add_right(n, cost, totals, entries, other_entries)
 }

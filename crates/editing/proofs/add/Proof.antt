@@ -6,7 +6,7 @@ use Rattle.definitions.specs.Field.{sixteen}
 use Rattle.definitions.specs.Held.{heldOf, withAdded}
 use Rattle.editing.proofs.After.{record-is}
 use Rattle.matrix.specs.Record.{heldBy}
-use Rattle.parts.specs.Priced.{toldPriced}
+use Rattle.edits.specs.Priced.{toldPriced}
 use Rattle.editing.proofs.add.Statement.{statement}
 use Rattle.editing.proofs.add.Tie as tie
 

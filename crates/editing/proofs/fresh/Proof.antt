@@ -5,7 +5,7 @@ use Rattle.definitions.specs.Editing.{freshTable}
 use Rattle.definitions.specs.Field.{sixteen}
 use Rattle.definitions.specs.Held.{heldOf, noEntries}
 use Rattle.editing.proofs.After.{made-is}
-use Rattle.parts.specs.Priced.{toldPriced}
+use Rattle.edits.specs.Priced.{toldPriced}
 use Rattle.editing.proofs.fresh.Statement.{statement}
 use Rattle.editing.proofs.fresh.Tie as tie
 

@@ -5,7 +5,7 @@ use Rattle.definitions.specs.Editing.{bytesTable}
 use Rattle.definitions.specs.Field.{sixteen}
 use Rattle.definitions.specs.Held.{heldOf, filled}
 use Rattle.editing.proofs.After.{made-is}
-use Rattle.parts.specs.Priced.{toldPriced}
+use Rattle.edits.specs.Priced.{toldPriced}
 use Rattle.editing.proofs.of_bytes.Statement.{statement}
 use Rattle.editing.proofs.of_bytes.Tie as tie
 

@@ -2,7 +2,7 @@
 use mathlib.Core.Path.{sym, ap}
 use borrow.Author.Needs.{needs}
 use Rattle.editing.specs.After.{recordAfter}
-use Rattle.parts.specs.declared.Priced.{Priced}
+use Rattle.edits.specs.declared.Priced.{Priced}
 use Rattle.editing.proofs.recorded.Statement.{statement}
 use Rattle.editing.proofs.recorded.Tie as tie
 

@@ -9,8 +9,8 @@ use Rattle.definitions.specs.Editing.{lentTable}
 use Rattle.definitions.specs.Field.{sixteen}
 use Rattle.definitions.specs.Held.{Held, held, places, noEntries, heldOf, totalsOf}
 use Rattle.definitions.specs.Weights.{cost}
-use Rattle.parts.proofs.Edits.{edit-refused, edit-goes-on, edit-counted}
-use Rattle.parts.proofs.Entries.{filled-none}
+use Rattle.edits.proofs.Edits.{edit-refused, edit-goes-on, edit-counted}
+use Rattle.edits.proofs.Entries.{filled-none}
 use Rattle.refusals.proofs.Chain.{Came, start, _▸_, accepted}
 use Rattle.refusals.specs.Checked.{toldChecked}
 use Rattle.parts.proofs.fresh.Statement.{statement}

@@ -9,7 +9,7 @@ use Rattle.definitions.proofs.Table.{Accepts, next, end, size-means, entries-me
 use Rattle.definitions.specs.Editing.{lentBytesTable}
 use Rattle.definitions.specs.Field.{sixteen}
 use Rattle.definitions.specs.Held.{Held, held, places, filled, heldOf}
-use Rattle.parts.proofs.Edits.{edit-refused, edit-goes-on, edit-counted}
+use Rattle.edits.proofs.Edits.{edit-refused, edit-goes-on, edit-counted}
 use Rattle.refusals.proofs.Chain.{Came, start, _▸_, accepted}
 use Rattle.refusals.specs.Checked.{toldChecked}
 use Rattle.parts.proofs.of_bytes.Statement.{statement}

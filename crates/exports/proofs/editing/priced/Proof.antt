@@ -2,7 +2,7 @@
 use mathlib.Core.Path.{sym, _∙_, ap}
 use Prim.Native.Nat.{ℕ}
 use Rattle.definitions.specs.Answers.{costed}
-use Rattle.parts.specs.Priced.{toldPriced}
+use Rattle.edits.specs.Priced.{toldPriced}
 use borrow.Author.Needs.{needs}
 use Rattle.exports.proofs.editing.priced.Statement.{statement}
 use Rattle.exports.proofs.editing.priced.Tie as tie

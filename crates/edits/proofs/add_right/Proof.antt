@@ -12,10 +12,10 @@ use Rattle.definitions.specs.Editing.{inOrOut}
 use Rattle.definitions.specs.Field.{sixteen}
 use Rattle.definitions.specs.Held.{Held, held, totalsOf, heldOf, withAdded}
 use Rattle.definitions.specs.Weights.{cost}
-use Rattle.parts.proofs.Edits.{above-refused, not-given, none-above-done}
-use Rattle.parts.proofs.Entries.{low-sum}
-use Rattle.parts.proofs.inside.add_right.Statement.{statement}
-use Rattle.parts.proofs.inside.add_right.Tie as tie
+use Rattle.edits.proofs.Edits.{above-refused, not-given, none-above-done}
+use Rattle.edits.proofs.Entries.{low-sum}
+use Rattle.edits.proofs.add_right.Statement.{statement}
+use Rattle.edits.proofs.add_right.Tie as tie
 
 abbrev handed : tie.Start → Held
 handed s = held (s .args .n) (s .args .cost) (s .args .totals .now) (s .args .entries .now)

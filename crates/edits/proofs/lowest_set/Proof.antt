@@ -4,8 +4,8 @@ use native.Mathlib.Omega.{arith}
 use borrow.Author.Needs.{needs}
 use Rattle.definitions.proofs.Editing.{lowest-old, lowest-new}
 use Rattle.definitions.specs.Field.{sixteen}
-use Rattle.parts.proofs.inside.lowest_set.Statement.{statement}
-use Rattle.parts.proofs.inside.lowest_set.Tie as tie
+use Rattle.edits.proofs.lowest_set.Statement.{statement}
+use Rattle.edits.proofs.lowest_set.Tie as tie
 
 returns : tie.Need-returns
 returns c =

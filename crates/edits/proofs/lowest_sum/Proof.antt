@@ -12,8 +12,8 @@ use Rattle.definitions.proofs.Editing.{sum-found, sum-passed, sum-none}
 use Rattle.definitions.specs.Editing.{anyAbove}
 use Rattle.definitions.specs.Field.{sixteen}
 use Rattle.definitions.specs.Held.{withAdded}
-use Rattle.parts.proofs.inside.lowest_sum.Statement.{statement}
-use Rattle.parts.proofs.inside.lowest_sum.Tie as tie
+use Rattle.edits.proofs.lowest_sum.Statement.{statement}
+use Rattle.edits.proofs.lowest_sum.Tie as tie
 
 abbrev Inv-loop : tie.InvT-loop
 Inv-loop entries others j₀ j = (t : ℕ) → t < j → anyAbove (entries ∷ others ∷ withAdded entries others ∷ []) t ≡ false

@@ -13,7 +13,7 @@ use Rattle.definitions.specs.Editing.{inOrOut}
 use Rattle.definitions.specs.Field.{Code}
 use Rattle.definitions.specs.Held.{places, noEntries, filled, withAdded}
 use Rattle.definitions.specs.Tools.{below}
-use Rattle.parts.specs.Edits.{LowSum}
+use Rattle.edits.specs.Edits.{LowSum}
 use Rattle.memory.proofs.Laid.{laid-front}
 use Rattle.memory.specs.Laid.{laid}
 

@@ -11,10 +11,10 @@ use Rattle.definitions.specs.Editing.{inOrOut}
 use Rattle.definitions.specs.Field.{sixteen}
 use Rattle.definitions.specs.Held.{Held, held, heldOf, withEntry}
 use Rattle.definitions.specs.Weights.{sumOfColumn, entryCost, cost}
-use Rattle.parts.proofs.Edits.{above-refused, not-given}
-use Rattle.parts.proofs.Moving.{cost-limited, total-limited, at-within, total-moves, cost-moves, set-done}
-use Rattle.parts.proofs.inside.set_right.Statement.{statement}
-use Rattle.parts.proofs.inside.set_right.Tie as tie
+use Rattle.edits.proofs.Edits.{above-refused, not-given}
+use Rattle.edits.proofs.Moving.{cost-limited, total-limited, at-within, total-moves, cost-moves, set-done}
+use Rattle.edits.proofs.set_right.Statement.{statement}
+use Rattle.edits.proofs.set_right.Tie as tie
 
 abbrev handed : tie.Start → Held
 handed s = held (s .args .n) (s .args .cost) (s .args .totals .now) (s .args .entries .now)

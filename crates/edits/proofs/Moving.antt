@@ -16,8 +16,8 @@ use Rattle.definitions.specs.Limits.{greatestLevel}
 use Rattle.definitions.specs.Weights.{entry, sumOfColumn, entryCost, cost}
 use Rattle.definitions.specs.Answers.{costed}
 use Rattle.matrix.proofs.Columns.{cost-small}
-use Rattle.parts.proofs.Edits.{none-above-done}
-use Rattle.parts.specs.Edits.{Edits}
+use Rattle.edits.proofs.Edits.{none-above-done}
+use Rattle.edits.specs.Edits.{Edits}
 use Rattle.memory.specs.Laid.{laid}
 
 module _ (C : Code) (h : Held) (r : Rightly C h) where

@@ -2,8 +2,8 @@
 -- Assumes nothing.
 use Rattle.definitions.specs.Answers.{Answer, costed}
 use Rattle.refusals.specs.Refusal.{toldRefusal}
-use Rattle.parts.specs.declared.Priced.{Priced}
-use Rattle.parts.specs.declared.Priced.the-variants.{Cost, Refused}
+use Rattle.edits.specs.declared.Priced.{Priced}
+use Rattle.edits.specs.declared.Priced.the-variants.{Cost, Refused}
 
 -- the cost that the record then holds
 abbrev pub toldPriced : Priced → Answer

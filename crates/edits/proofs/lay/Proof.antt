@@ -4,9 +4,9 @@ use borrow.Author.Needs.{needs}
 use Rattle.definitions.specs.Field.{sixteen}
 use Rattle.definitions.specs.Held.{totalsOf, filled}
 use Rattle.definitions.specs.Weights.{cost}
-use Rattle.parts.proofs.Entries.{laid-filled}
-use Rattle.parts.proofs.inside.lay.Statement.{statement}
-use Rattle.parts.proofs.inside.lay.Tie as tie
+use Rattle.edits.proofs.Entries.{laid-filled}
+use Rattle.edits.proofs.lay.Statement.{statement}
+use Rattle.edits.proofs.lay.Tie as tie
 
 abbrev entry : tie.After-put2 → tie.Start
 entry p = p .before .before .before .before .before .before .before .before .before .before

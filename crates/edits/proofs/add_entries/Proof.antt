@@ -6,9 +6,9 @@ use native.Mathlib.Omega.{arith}
 use lib.ListN.{length, drop, getD, length-set}
 use Rattle.definitions.proofs.Loops.{map-none, map-more, map-whole}
 use Rattle.definitions.specs.Tools.{below}
-use Rattle.parts.proofs.Entries.{place-untouched}
-use Rattle.parts.proofs.inside.add_entries.Statement.{statement}
-use Rattle.parts.proofs.inside.add_entries.Tie as tie
+use Rattle.edits.proofs.Entries.{place-untouched}
+use Rattle.edits.proofs.add_entries.Statement.{statement}
+use Rattle.edits.proofs.add_entries.Tie as tie
 
 abbrev Inv-loop : tie.InvT-loop
 Inv-loop entries₀ others j₀ entries j =

@@ -9,16 +9,21 @@ ghost use Rattle.definitions.specs.Field.{sixteen};
 ghost use Rattle.definitions.specs.Held.{held, places, totalsOf, heldOf, filled, withEntry, withoutColumn, withAdded, rightly};
 ghost use Rattle.definitions.specs.Refusals.{size};
 ghost use Rattle.definitions.specs.Weights.{cost};
-ghost use Rattle.parts.specs.Edits.{Edits, LowSum};
-ghost use Rattle.parts.specs.Priced.{toldPriced};
+ghost use Rattle.edits.specs.Edits.{Edits, LowSum};
+ghost use Rattle.edits.specs.Priced.{toldPriced};
 ghost use Rattle.refusals.specs.Checked.{passed, orLine, toldChecked};
-use crate::Priced;
 use refusals::Checked;
 use refusals::Refusal;
 use refusals::limits::ENTRIES;
 use refusals::limits::GREATEST_ENTRY;
 use refusals::limits::GREATEST_LEVEL;
 use refusals::limits::SYMBOLS;
+
+// The cost that the record then holds.
+pub enum Priced {
+    Cost(usize),
+    Refused(Refusal),
+}
 
 // The totals of the entries; answers their cost.
 fn count(entries: &[u8], totals: &mut [u16]) -> usize

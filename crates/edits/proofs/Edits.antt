@@ -11,7 +11,7 @@ use Rattle.definitions.specs.Field.{Code}
 use Rattle.definitions.specs.Held.{Held, places, totalsOf, heldOf}
 use Rattle.definitions.specs.Weights.{cost}
 use Rattle.definitions.specs.Refusals.{Line}
-use Rattle.parts.specs.Edits.{Edits}
+use Rattle.edits.specs.Edits.{Edits}
 use Rattle.refusals.proofs.Chain.{Came, answers, stops, goes-on}
 use Rattle.refusals.specs.Checked.{toldChecked}
 use Rattle.refusals.specs.Refusal.{toldRefusal}

@@ -11,10 +11,10 @@ use Rattle.definitions.specs.Editing.{lowestAbove}
 use Rattle.definitions.specs.Field.{sixteen}
 use Rattle.definitions.specs.Held.{Held, held, heldOf, withoutColumn}
 use Rattle.definitions.specs.Weights.{cost}
-use Rattle.parts.proofs.Edits.{above-refused}
-use Rattle.parts.proofs.Moving.{column-within, without-column, clear-done, laid-cleared}
-use Rattle.parts.proofs.inside.clear_right.Statement.{statement}
-use Rattle.parts.proofs.inside.clear_right.Tie as tie
+use Rattle.edits.proofs.Edits.{above-refused}
+use Rattle.edits.proofs.Moving.{column-within, without-column, clear-done, laid-cleared}
+use Rattle.edits.proofs.clear_right.Statement.{statement}
+use Rattle.edits.proofs.clear_right.Tie as tie
 
 abbrev handed : tie.Start → Held
 handed s = held (s .args .n) (s .args .cost) (s .args .totals .now) (s .args .entries .now)

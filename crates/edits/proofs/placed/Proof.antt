@@ -3,8 +3,8 @@ use mathlib.Core.Path.{_∙_, ap}
 use borrow.Author.Needs.{needs}
 use Rattle.definitions.specs.Editing.{position}
 use Rattle.refusals.specs.Checked.{Outcome, orLine}
-use Rattle.parts.proofs.inside.placed.Statement.{statement}
-use Rattle.parts.proofs.inside.placed.Tie as tie
+use Rattle.edits.proofs.placed.Statement.{statement}
+use Rattle.edits.proofs.placed.Tie as tie
 
 returns : tie.Need-returns
 returns c =
