@@ -29,9 +29,10 @@ use Rattle.list.specs.Within.{Lists, Rooted, rootsAbove}
 use Rattle.ranking.proofs.Levels.{all-ranked}
 use Rattle.ranking.proofs.Memory.{rows-read}
 use Rattle.ranking.proofs.Same.{ranked-same, map-same}
-use Rattle.ranking.proofs.Scores.{matrix-score}
 use Rattle.ranking.proofs.Written.{Sized}
-use Rattle.ranking.specs.Rows.{rowsOf, matrixScore, ranked, scoresOf}
+use Rattle.ranking.specs.Rows.{rowsOf, ranked, scoresOf}
+use Rattle.scores.proofs.Scores.{matrix-score}
+use Rattle.scores.specs.Scores.{matrixScore}
 use Rattle.root_tree.proofs.Roots.{roots-at-most}
 use Rattle.matrix.specs.Columns.{matrixOf}
 

@@ -5,4 +5,3 @@ pub mod OneLevel
 pub mod AllLevels
 pub mod Memory
 pub mod Same
-pub mod Scores

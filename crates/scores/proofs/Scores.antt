@@ -13,7 +13,7 @@ use Rattle.definitions.specs.Field.{Code, numbers, value}
 use Rattle.definitions.specs.Weights.{entry, score}
 use Rattle.algebra.specs.FieldOf.{FieldOf}
 use Rattle.algebra.specs.Grid.{entryOf}
-use Rattle.ranking.specs.Rows.{matrixScore}
+use Rattle.scores.specs.Scores.{matrixScore}
 use Rattle.matrix.proofs.Columns.{matrix-entry}
 use Rattle.matrix.specs.Columns.{matrixOf}
 
