@@ -1,23 +1,20 @@
--- What a list answers and leaves: where a check refuses, where the cost does, and where the rows are listed.
+-- What a list answers and leaves: where a check refuses, and where all pass and the cost is left to try.
 -- Assumes nothing.
 use mathlib.Core.List.{List, [], _∷_, _++_}
 use mathlib.Core.Path.{_≡_, _∙_, ap, subst}
-use Prim.Native.Nat.{ℕ, _*_, _≤_, _<_}
-use borrow.Author.Tests.{lt-ltb, le-ltb}
+use Prim.Native.Nat.{ℕ, _*_, _≤_}
 use native.Mathlib.Omega.{arith}
 use lib.ListN.{length}
 use Rattle.definitions.proofs.Editing.{stored-means}
 use Rattle.definitions.proofs.Held.{Rightly}
-use Rattle.definitions.proofs.Table.{Accepts, stop, next, end, gives, accepts, sizes-mean, level-means, limit-means, entries-mean, room-means}
-use Rattle.definitions.specs.Answers.{Answer, refused, counted}
+use Rattle.definitions.proofs.Table.{Accepts, next, end, sizes-mean, level-means, limit-means, entries-mean, room-means}
+use Rattle.definitions.specs.Answers.{Answer, refused}
 use Rattle.definitions.specs.Editing.{stored}
 use Rattle.definitions.specs.Field.{Code}
 use Rattle.definitions.specs.Held.{Held}
 use Rattle.definitions.specs.Limits.{greatestLevel, greatestRows}
-use Rattle.definitions.specs.Listing.{listOf}
 use Rattle.definitions.specs.Refusals.{Line, sizes, level, limit, entries, room, entriesOf, costWithin}
-use Rattle.definitions.specs.Weights.{cost}
-use Rattle.list.specs.Within.{Lists, Answered, Fit}
+use Rattle.listing.specs.Within.{Answered, Fit}
 use Rattle.refusals.proofs.Chain.{Came, told-is, answers, stops, goes-on}
 use Rattle.refusals.specs.Checked.{toldChecked}
 use Rattle.refusals.specs.Refusal.{toldRefusal}
@@ -44,17 +41,6 @@ module _ (C : Code) (n k G : ℕ) (m rows scores : List ℕ) where
           of .0 ∙ goes-on came rest refused _ e,
           (of .1 .0 ∙ goes-on came rest (λ _ _. rows) _ e, (of .1 .1 .0 ∙ goes-on came rest (λ _ _. scores) _ e, of .1 .1 .1)),
         )
-
-  pub refused-by-cost : G < cost m → Answered C (costWithin G m ∷ []) n k m rows scores (refused 7 0) rows scores
-  refused-by-cost h =
-      let g = stop {l = costWithin G m} {table = []} (lt-ltb G (cost m) h) in
-      (gives refused _ g, (gives (λ _ _. rows) _ g, (gives (λ _ _. scores) _ g, omega arith)))
-
-  pub listed : cost m ≤ G → (count : ℕ) (rowsAfter scoresAfter : List ℕ) → Lists C n k m (listOf C n k m) rows scores count rowsAfter scoresAfter
-      → Answered C (costWithin G m ∷ []) n k m rows scores (counted count) rowsAfter scoresAfter
-  listed h count rowsAfter scoresAfter w =
-      let a = next {l = costWithin G m} {table = []} (le-ltb G (cost m) h) end in
-      (ap counted (w .counted) ∙ accepts refused _ a, (w .rows-are ∙ accepts (λ _ _. rows) _ a, (w .scores-are ∙ accepts (λ _ _. scores) _ a, w .few)))
 
 -- the lines that are tried before the cost, and what they say: of bytes
 module _ (C : Code) (n k G : ℕ) (m : List ℕ) (rows scores : ℕ) where

@@ -8,9 +8,6 @@ ghost use Rattle.definitions.specs.Field.{sixteen};
 ghost use Rattle.definitions.specs.Held.{held};
 ghost use Rattle.definitions.specs.Limits.{greatestRows};
 ghost use Rattle.matrix.specs.Record.{heldBy};
-
-pub mod inside;
-
 use matrix::Matrix;
 use refusals::Checked;
 use refusals::Counted;
@@ -44,7 +41,7 @@ pub fn list_of_multiplicities(
     }
     let m = matrix::of_bytes(n, matrix);
     let entries = m.entries;
-    inside::list_priced(&entries, n, m.cost, k, limit, rows, scores)
+    listing::list_priced(&entries, n, m.cost, k, limit, rows, scores)
 }
 
 pub fn list_of_reliabilities(
@@ -73,7 +70,7 @@ pub fn list_of_reliabilities(
     }
     let m = weights::inside::weighed(level, reliabilities, n);
     let entries = m.entries;
-    inside::list_priced(&entries, n, m.cost, k, limit, rows, scores)
+    listing::list_priced(&entries, n, m.cost, k, limit, rows, scores)
 }
 
 // Of a matrix record whose parts are lent.
@@ -101,7 +98,7 @@ pub fn list_of_parts(
     if let Checked::Refused(r) = checked {
         return Counted::Refused(r);
     }
-    inside::list_priced(entries, n, cost, k, limit, rows, scores)
+    listing::list_priced(entries, n, cost, k, limit, rows, scores)
 }
 
 pub fn list_of_matrix(

@@ -6,7 +6,7 @@ use native.Mathlib.Omega.{arith}
 use lib.ListN.{length}
 use Rattle.definitions.specs.Field.{sixteen}
 use Rattle.list.proofs.Answers.{refused-by-check, passed-on, listFront, list-fits}
-use Rattle.list.specs.Within.{Fit}
+use Rattle.listing.specs.Within.{Fit}
 use Rattle.matrix.proofs.Columns.{turned-front, turned-priced}
 use Rattle.matrix.specs.Record.{heldBy}
 use Rattle.refusals.proofs.Chain.{Came, start, _▸_, accepted}

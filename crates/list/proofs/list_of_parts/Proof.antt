@@ -6,7 +6,7 @@ use Rattle.definitions.proofs.Held.{Rightly}
 use Rattle.definitions.specs.Field.{sixteen}
 use Rattle.definitions.specs.Held.{Held, held, bytesOf}
 use Rattle.list.proofs.Answers.{refused-by-check, passed-on, heldFront, held-fits}
-use Rattle.list.specs.Within.{Fit}
+use Rattle.listing.specs.Within.{Fit}
 use Rattle.matrix.proofs.Columns.{rightly-priced}
 use Rattle.matrix.proofs.Record.{stored-tried}
 use Rattle.refusals.proofs.Chain.{Came, start, _▸_, accepted}

@@ -11,7 +11,7 @@ use Rattle.definitions.specs.Limits.{greatestLevel}
 use Rattle.definitions.specs.Refusals.{columns}
 use Rattle.definitions.specs.Weights.{matrix}
 use Rattle.list.proofs.Answers.{refused-by-check, passed-on, readStart, read-fits}
-use Rattle.list.specs.Within.{Fit}
+use Rattle.listing.specs.Within.{Fit}
 use Rattle.matrix.proofs.Columns.{turned-front, turned-priced}
 use Rattle.matrix.specs.Record.{heldBy}
 use Rattle.refusals.proofs.Chain.{Came, start, _▸_, further, accepts-front, accepted}

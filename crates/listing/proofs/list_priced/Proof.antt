@@ -6,12 +6,12 @@ use native.Mathlib.Omega.{arith}
 use lib.ListN.{length, take}
 use lib.Seq.{length-take-le}
 use Rattle.definitions.specs.Field.{sixteen}
-use Rattle.list.proofs.Answers.{refused-by-cost, listed}
+use Rattle.listing.proofs.Answers.{refused-by-cost, listed}
 use Rattle.matrix.proofs.Columns.{opened-front, opened-cost}
 use Rattle.matrix.specs.Columns.{matrixOf}
 use borrow.Author.Needs.{needs}
-use Rattle.list.proofs.inside.list_priced.Statement.{statement}
-use Rattle.list.proofs.inside.list_priced.Tie as tie
+use Rattle.listing.proofs.list_priced.Statement.{statement}
+use Rattle.listing.proofs.list_priced.Tie as tie
 
 -- the bytes in front of the entries
 abbrev bytes : tie.Start → List ℕ

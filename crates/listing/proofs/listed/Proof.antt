@@ -9,10 +9,10 @@ use Rattle.definitions.specs.Field.{sixteen}
 use Rattle.definitions.specs.Limits.{greatestRows}
 use Rattle.definitions.specs.Roots.{rootsOf}
 use Rattle.instances.proofs.Codes.{sixteen-field}
-use Rattle.list.proofs.Listing.{few-roots, found-symbols, roots-listed, length-found, rows-fit}
+use Rattle.listing.proofs.Listing.{few-roots, found-symbols, roots-listed, length-found, rows-fit}
 use borrow.Author.Needs.{needs}
-use Rattle.list.proofs.inside.listed.Statement.{statement}
-use Rattle.list.proofs.inside.listed.Tie as tie
+use Rattle.listing.proofs.listed.Statement.{statement}
+use Rattle.listing.proofs.listed.Tie as tie
 
 -- the memory for the rows, before they are found
 memory : List ℕ

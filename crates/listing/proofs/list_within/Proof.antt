@@ -12,13 +12,13 @@ use Rattle.definitions.specs.Limits.{coefficientRoom, greatestRows}
 use Rattle.definitions.specs.Polynomial.{Interpolates}
 use Rattle.instances.proofs.Codes.{sixteen-field}
 use Rattle.interpolation.proofs.Coefficients.{count-small}
-use Rattle.list.proofs.Found.{degree-small, bound-of-cost, prefix, length-after}
-use Rattle.list.proofs.Listing.{lists}
-use Rattle.list.specs.Within.{Rooted}
+use Rattle.listing.proofs.Found.{degree-small, bound-of-cost, prefix, length-after}
+use Rattle.listing.proofs.Listing.{lists}
+use Rattle.listing.specs.Within.{Rooted}
 use Rattle.matrix.specs.Columns.{matrixOf}
 use borrow.Author.Needs.{needs}
-use Rattle.list.proofs.inside.list_within.Statement.{statement}
-use Rattle.list.proofs.inside.list_within.Tie as tie
+use Rattle.listing.proofs.list_within.Statement.{statement}
+use Rattle.listing.proofs.list_within.Tie as tie
 
 abbrev entry : tie.After-bound → tie.Start
 entry c = c .before .before .before

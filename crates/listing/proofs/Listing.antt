@@ -25,7 +25,7 @@ use Rattle.definitions.specs.Polynomial.{Through}
 use Rattle.definitions.specs.Roots.{isRoot, rootsOf}
 use Rattle.definitions.specs.Tools.{select}
 use Rattle.definitions.specs.Weights.{score}
-use Rattle.list.specs.Within.{Lists, Rooted, rootsAbove}
+use Rattle.listing.specs.Within.{Lists, Rooted, rootsAbove}
 use Rattle.ranking.proofs.Levels.{all-ranked}
 use Rattle.ranking.proofs.Memory.{rows-read}
 use Rattle.ranking.proofs.Same.{ranked-same, map-same}

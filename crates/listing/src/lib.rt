@@ -6,7 +6,7 @@ ghost use lib.ListN.{length, take};
 ghost use Rattle.definitions.specs.Field.{sixteen};
 ghost use Rattle.definitions.specs.Limits.{greatestLimit, greatestRows};
 ghost use Rattle.definitions.specs.Refusals.{costWithin};
-ghost use Rattle.list.specs.Within.{Loaded, Rooted, RootsOf, ListsOf, Answered, Fit};
+ghost use Rattle.listing.specs.Within.{Loaded, Rooted, RootsOf, ListsOf, Answered, Fit};
 ghost use Rattle.refusals.specs.Counted.{toldCounted};
 ghost use Rattle.matrix.specs.Columns.{matrixCost, FrontCosts};
 use refusals::Counted;
