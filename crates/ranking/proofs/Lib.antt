@@ -1,5 +1,5 @@
 pub mod Levels
-pub mod Scoring
+pub mod Marks
 pub mod Written
 pub mod OneLevel
 pub mod AllLevels
