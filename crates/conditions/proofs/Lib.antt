@@ -1,4 +1,3 @@
-pub mod Walk
 pub mod Placed
 pub mod Counts
 pub mod Masks

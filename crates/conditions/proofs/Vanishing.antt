@@ -1,16 +1,15 @@
 -- A masked row of bytes and its Hasse condition vanish together.
 -- Assumes nothing.
-use mathlib.Core.Bool.{Bool, true, false, cond}
+use mathlib.Core.Bool.{Bool, cond}
 use mathlib.Core.List.{List, []}
 use mathlib.Core.Logic.{_≢_}
-use mathlib.Core.Path.{_≡_, refl, sym, _∙_, ap, ap₂, subst}
+use mathlib.Core.Path.{_≡_, refl, sym, _∙_, ap, ap₂}
 use Prim.Native.Nat.{ℕ, zero, suc, _+_, _*_, _/_, _≤_, _<_}
-use native.Mathlib.Nat.{mod-eq-of-lt}
 use native.Mathlib.Omega.{arith}
-use lib.Bits.{bitAnd, and-mask, and-zero-r}
+use lib.Bits.{bitAnd}
 use lib.Dec.{eqb, eqb·suc-zero}
 use lib.ListN.{length, getD}
-use Rattle.algebra.proofs.Elements.{zero-symbol, times-symbol}
+use Rattle.algebra.proofs.Elements.{times-symbol}
 use Rattle.algebra.proofs.Linear.{dot-equal}
 use Rattle.algebra.proofs.Masks.{masked, maskedRow, masked-symbol, masked-solves, masked-solves-at-zero}
 use Rattle.algebra.proofs.Numbers.{power-symbol}
@@ -26,33 +25,14 @@ use Rattle.definitions.specs.Field.{Code, numbers, power}
 use Rattle.definitions.specs.Polynomial.{terms, monomials, hasse}
 use Rattle.blocks.proofs.Filled.{length-filled, filled-at, filled-symbols}
 use Rattle.blocks.specs.Row.{width, block}
-use Rattle.conditions.proofs.Masks.{powers-symbols, base-symbol}
-use Rattle.conditions.proofs.Walk.{walked-le, x-within, y-within, walked-monomial}
-use Rattle.conditions.specs.Walk.{walked}
-use Rattle.conditions.specs.Masks.{exponentRows, powersRow, valuesRow, maskByte, keptEntry, keptRow, askedAt, baseAt}
-
--- all bits of a byte
-all-bits : (x : ℕ) → x < 256 → bitAnd x 255 ≡ x
-all-bits x h = and-mask x 8 ∙ mod-eq-of-lt h
-
--- what a mask leaves of a byte
-kept-byte : (p : Bool) (x : ℕ) → x < 256 → bitAnd x (cond p 255 0) ≡ cond p x 0
-kept-byte true x h = all-bits x h
-kept-byte false x h = and-zero-r x
-
--- it is no more
-kept-less : (p : Bool) (x : ℕ) → x < 256 → cond p x 0 < 256
-kept-less true x h = h
-kept-less false x h = omega arith
-
--- of a symbol it is a symbol
-kept-symbol : (C : Code) → FieldOf C → (p : Bool) (x : ℕ) → x < C .symbols → cond p x 0 < C .symbols
-kept-symbol C F true x h = h
-kept-symbol C F false x h = zero-symbol C F
-
--- two masks leave what both let through
-kept-twice : (C : Code) (p q : Bool) (x : ℕ) → x < 256 → bitAnd (bitAnd x (cond p 255 0)) (cond q 255 0) ≡ masked (numbers C) p q x
-kept-twice C p q x h = ap (λ (y : ℕ). bitAnd y (cond q 255 0)) (kept-byte p x h) ∙ kept-byte q (cond p x 0) (kept-less p x h)
+use Rattle.masks.proofs.Masks.{all-bits, kept-twice, kept-symbols}
+use Rattle.masks.specs.Masks.{maskByte, keptRow}
+use Rattle.monomials.proofs.Rows.{powers-symbols}
+use Rattle.monomials.proofs.Walk.{walked-le, x-within, y-within, walked-monomial}
+use Rattle.monomials.specs.Rows.{exponentRows, powersRow, valuesRow}
+use Rattle.monomials.specs.Walk.{walked}
+use Rattle.conditions.proofs.Masks.{base-symbol}
+use Rattle.conditions.specs.Masks.{askedAt, baseAt}
 
 -- the test of a power of y at the symbol b: at 0 it is the order, else it has the order's bits
 abbrev testAt : ℕ → ℕ → ℕ → Bool
@@ -86,13 +66,6 @@ length-conditionRow C v d blocks x b s t inside = length-filled _ (blocks * bloc
 
 -- where the symbols are bytes
 module _ (C : Code) (F : FieldOf C) (bytes : C .symbols ≤ 256) where
-  -- what a mask leaves of symbols are symbols
-  kept-symbols : (blocks : ℕ) (row es : List ℕ) (asked order : ℕ) → Symbols C row → Symbols C (keptRow blocks row es asked order)
-  kept-symbols blocks row es asked order sr =
-      filled-symbols C F (keptEntry row es asked order) (blocks * block) (λ k _.
-      subst (λ (x : ℕ). x < C .symbols) (sym (kept-byte (eqb (bitAnd (getD es k 0) asked) order) (getD row k 0) (let h = sr k in omega arith)))
-      (kept-symbol C F (eqb (bitAnd (getD es k 0) asked) order) (getD row k 0) (sr k)))
-
   module _ (v D blocks a b s t : ℕ) (ha : a < C .symbols) (hb : b < C .symbols) where
     -- the columns of the blocks
     abbrev wide : ℕ
@@ -105,8 +78,8 @@ module _ (C : Code) (F : FieldOf C) (bytes : C .symbols ≤ 256) where
     -- the row is one of symbols
     pub conditionRow-symbols : Symbols C (conditionRow C v D blocks a b s t)
     conditionRow-symbols =
-        kept-symbols blocks (keptRow blocks point-values (getD (exponentRows v wide) 0 []) s s) (getD (exponentRows v wide) 1 []) (askedAt b t) t
-        (kept-symbols blocks point-values (getD (exponentRows v wide) 0 []) s s
+        kept-symbols C F bytes blocks (keptRow blocks point-values (getD (exponentRows v wide) 0 []) s s) (getD (exponentRows v wide) 1 []) (askedAt b t) t
+        (kept-symbols C F bytes blocks point-values (getD (exponentRows v wide) 0 []) s s
         (filled-symbols C F _ wide (λ k _.
         times-symbol C F _ _ (powers-symbols C F (D + 1) a ha (entryOf (exponentRows v wide) 0 k))
         (powers-symbols C F (D / v + 1) (baseAt b) (base-symbol C F b hb) (entryOf (exponentRows v wide) 1 k)))))

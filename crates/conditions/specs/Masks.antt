@@ -1,53 +1,20 @@
 -- The rows of the Hasse conditions as masked rows: the monomials' values at a point, kept for each order where the powers have its bits.
 -- Assumes nothing.
 use mathlib.Core.Bool.{cond}
-use mathlib.Core.List.{List, [], _∷_, map, flatMap}
+use mathlib.Core.List.{List, [], map, flatMap}
 use Prim.Native.Nat.{ℕ, _+_, _-_, _*_, _/_, _≤_, _<_}
-use lib.Bits.{bitAnd}
 use lib.Dec.{eqb}
 use lib.ListN.{length, getD}
-use Rattle.algebra.specs.Grid.{entryOf}
 use Rattle.definitions.specs.Code.{point}
-use Rattle.definitions.specs.Field.{Code, numbers, power}
+use Rattle.definitions.specs.Field.{Code}
 use Rattle.definitions.specs.Tools.{below}
-use Rattle.conditions.specs.Walk.{walked}
-use Rattle.blocks.specs.Row.{width, block, ZeroFrom, Front, filled}
+use Rattle.monomials.specs.Rows.{exponentRows, powersRow, valuesRow}
+use Rattle.masks.specs.Masks.{keptRow}
+use Rattle.blocks.specs.Row.{block, ZeroFrom}
 
 -- the rows from a place on are zero from a column on
 abbrev pub Clear : ℕ → ℕ → List (List ℕ) → Type 0
 Clear at n rows = (r : ℕ) → at ≤ r → r < length rows → ZeroFrom n (getD rows r [])
-
--- the powers of x that the first monomials have, and those of y
-abbrev pub exponentRows : ℕ → ℕ → List (List ℕ)
-exponentRows v count = filled count (λ (k : ℕ). walked v k .0) ∷ filled count (λ (k : ℕ). walked v k .1) ∷ []
-
--- each is the place of an entry of a row
-abbrev pub Places : List (List ℕ) → Type 0
-Places es = (i k : ℕ) → entryOf es i k < width
-
--- the first n powers of x
-abbrev pub powersRow : Code → ℕ → ℕ → List ℕ
-powersRow C n x = filled n (λ (e : ℕ). power (numbers C) x e)
-
--- the monomials' values, of the powers of x and of y
-abbrev pub valuesRow : Code → ℕ → List ℕ → List ℕ → List (List ℕ) → List ℕ
-valuesRow C count px py es = filled count (λ (k : ℕ). C .times (getD px (entryOf es 0 k) 0) (getD py (entryOf es 1 k) 0))
-
--- 255 where a power has, of the bits asked for, just those of the order, else 0
-abbrev pub maskByte : ℕ → ℕ → ℕ → ℕ
-maskByte e asked order = cond (eqb (bitAnd e asked) order) 255 0
-
--- entry k of what the masks of an order leave
-abbrev pub keptEntry : List ℕ → List ℕ → ℕ → ℕ → ℕ → ℕ
-keptEntry row es asked order k = bitAnd (getD row k 0) (maskByte (getD es k 0) asked order)
-
--- what they leave of a block
-abbrev pub KeptBlock : List ℕ → List ℕ → ℕ → ℕ → List ℕ → Type 0
-KeptBlock a es asked order r = Front block (keptEntry a es asked order) r
-
--- and of the first blocks of a row
-abbrev pub keptRow : ℕ → List ℕ → List ℕ → ℕ → ℕ → List ℕ
-keptRow blocks row es asked order = filled (blocks * block) (keptEntry row es asked order)
 
 -- of a power of y the bits of the order are asked for, and at y = 0 all bits
 abbrev pub askedAt : ℕ → ℕ → ℕ

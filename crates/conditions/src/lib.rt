@@ -6,125 +6,15 @@ ghost use lib.Seq.{sets};
 ghost use Rattle.definitions.specs.Code.{Symbols};
 ghost use Rattle.definitions.specs.Field.{sixteen};
 ghost use Rattle.field.specs.Table.{Products};
-ghost use Rattle.conditions.specs.Masks.{Clear, exponentRows, Places, powersRow, valuesRow, maskByte, KeptBlock, keptRow, askedAt, baseAt, keptOrder, keptOrders, maskedPoint, maskedColumn, maskedRows};
-ghost use Rattle.blocks.specs.Row.{width, block, ZeroFrom};
+ghost use Rattle.monomials.specs.Rows.{Places};
+ghost use Rattle.conditions.specs.Masks.{Clear, askedAt, baseAt, keptOrder, keptOrders, maskedPoint, maskedColumn, maskedRows};
+ghost use Rattle.blocks.specs.Row.{width, block};
 use blocks::BLOCK;
 use blocks::WIDTH;
 use field::inside::ALPHA;
 use refusals::limits::GREATEST_SYMBOL;
 use refusals::limits::POSITIONS;
 use refusals::limits::SYMBOLS;
-
-// The powers of x that the first monomials have, in their order, and those of y.
-fn exponents(v: usize, count: usize) -> [[u8; WIDTH]; 2]
-    requires { ⌜ (0 < v) × (count ≤ width) ⌝ }
-    ensures { λ r. ⌜ r ≡ exponentRows v count ⌝ }
-{
-    let mut xs = [0u8; WIDTH];
-    let mut ys = [0u8; WIDTH];
-    let mut x = 0;
-    let mut y = 0usize;
-    let mut degree = 0;
-    let mut step = 0;
-    while step < count {
-        xs[step] = x as u8;
-        ys[step] = y as u8;
-        if v <= x {
-            x -= v;
-            y += 1;
-        } else {
-            degree += 1;
-            x = degree;
-            y = 0;
-        }
-        step += 1;
-    }
-    [xs, ys]
-}
-
-// The first n powers of x, to the front of a row.
-fn powers(table: &[u8; 256], x: u8, n: usize, row: &mut [u8; WIDTH])
-    requires { ⌜ Products sixteen (now table) ⌝ }
-    requires { ⌜ (x < sixteen .symbols) × (n ≤ width) × ZeroFrom n (now row) ⌝ }
-    ensures { λ _. ⌜ now (row .exit) ≡ powersRow sixteen n x ⌝ }
-{
-    let mut next = 1u8;
-    let mut e = 0;
-    while e < n {
-        row[e] = next;
-        next = field::inside::look(table, x, next);
-        e += 1;
-    }
-}
-
-// The monomials' values at a point, in their order, of the powers of its coordinates, to the front of a row.
-fn values(
-    table: &[u8; 256],
-    px: &[u8; WIDTH],
-    py: &[u8; WIDTH],
-    es: &[[u8; WIDTH]; 2],
-    count: usize,
-    row: &mut [u8; WIDTH],
-)
-    requires { ⌜ Products sixteen (now table) ⌝ }
-    requires { ⌜ Symbols sixteen (now px) × Symbols sixteen (now py) ⌝ }
-    requires { ⌜ Places (now es) × (count ≤ width) × ZeroFrom count (now row) ⌝ }
-    ensures { λ _. ⌜ now (row .exit) ≡ valuesRow sixteen count (now (px .entry)) (now (py .entry)) (now (es .entry)) ⌝ }
-{
-    let mut place = 0;
-    while place < count {
-        let x = field::inside::wide(es[0][place]);
-        let y = field::inside::wide(es[1][place]);
-        row[place] = field::inside::look(table, px[x], py[y]);
-        place += 1;
-    }
-}
-
-// 255 where a power has, of the bits asked for, just those of the order, else 0.
-fn mask(e: u8, asked: u8, order: u8) -> u8
-    ensures { λ r. ⌜ r ≡ maskByte e asked order ⌝ }
-{
-    if e & asked == order {
-        return 255;
-    }
-    0
-}
-
-// What the masks of the powers leave of a block.
-fn kept_block(a: &[u8; BLOCK], es: &[u8; BLOCK], asked: u8, order: u8) -> [u8; BLOCK]
-    ensures { λ r. ⌜ KeptBlock (now (a .entry)) (now (es .entry)) asked order r ⌝ }
-{
-    let mut part = [0u8; BLOCK];
-    let mut k = 0;
-    while k < BLOCK {
-        part[k] = a[k] & mask(es[k], asked, order);
-        k += 1;
-    }
-    part
-}
-
-// What they leave of the first blocks of a row, to the front of another.
-fn keep(
-    row: &[u8; WIDTH],
-    es: &[u8; WIDTH],
-    asked: u8,
-    order: u8,
-    blocks: usize,
-    out: &mut [u8; WIDTH],
-)
-    requires { ⌜ (blocks * block ≤ width) × ZeroFrom (blocks * block) (now out) ⌝ }
-    ensures { λ _. ⌜ now (out .exit) ≡ keptRow blocks (now (row .entry)) (now (es .entry)) asked order ⌝ }
-{
-    let mut p = 0;
-    while p < blocks {
-        let at = p * BLOCK;
-        let a = blocks::block(row, at);
-        let powers = blocks::block(es, at);
-        let left = kept_block(&a, &powers, asked, order);
-        blocks::put(out, at, &left);
-        p += 1;
-    }
-}
 
 // At y = 0 the power of y has to be the order itself.
 fn asked_at(b: u8, t: u8) -> u8
@@ -162,7 +52,7 @@ fn order_rows(
     let mut next = at;
     let mut t = 0u8;
     while t < m {
-        keep(row, ys, asked_at(b, t), t, blocks, &mut rows[next]);
+        masks::keep(row, ys, asked_at(b, t), t, blocks, &mut rows[next]);
         next += 1;
         t += 1;
     }
@@ -187,7 +77,7 @@ fn orders_rows(
     let mut next = at;
     let mut s = 0u8;
     while s < m {
-        keep(row, &es[0], s, s, blocks, &mut part);
+        masks::keep(row, &es[0], s, s, blocks, &mut part);
         next = order_rows(rows, next, &part, &es[1], b, m - s, blocks);
         s += 1;
     }
@@ -217,9 +107,9 @@ fn point_rows(
         return at;
     }
     let mut py = [0u8; WIDTH];
-    powers(table, base_at(b), n, &mut py);
+    monomials::powers(table, base_at(b), n, &mut py);
     let mut row = [0u8; WIDTH];
-    values(table, px, &py, es, blocks * BLOCK, &mut row);
+    monomials::values(table, px, &py, es, blocks * BLOCK, &mut row);
     orders_rows(rows, at, &row, es, b, m, blocks)
 }
 
@@ -266,13 +156,13 @@ pub fn matrix_rows(
     ensures { λ r. ⌜ r ≡ length (maskedRows sixteen v d blocks (now (matrix .entry))) ⌝ }
     ensures { λ _. ⌜ now (rows .exit) ≡ sets (now (rows .entry)) 0 (maskedRows sixteen v d blocks (now (matrix .entry))) ⌝ }
 {
-    let es = exponents(v, blocks * BLOCK);
+    let es = monomials::exponents(v, blocks * BLOCK);
     let mut px = [0u8; WIDTH];
     let mut next = 0;
     let mut a = 1u8;
     let mut i = 0;
     while i < POSITIONS {
-        powers(table, a, d + 1, &mut px);
+        monomials::powers(table, a, d + 1, &mut px);
         next = column_rows(rows, next, table, &px, &es, &matrix[i], d / v + 1, blocks);
         a = field::inside::look(table, ALPHA, a);
         i += 1;

@@ -15,7 +15,8 @@ use Rattle.algebra.specs.Grid.{entryOf}
 use Rattle.conditions.proofs.Counts.{point-cost}
 use Rattle.conditions.proofs.Masks.{length-orderAt}
 use Rattle.conditions.proofs.Vanishing.{conditionRow, length-conditionRow, conditionRow-symbols, row-vanishes}
-use Rattle.conditions.specs.Masks.{exponentRows, powersRow, valuesRow, baseAt, orderAt, maskedPoint, pointAt, maskedColumn, columnAt, maskedRows}
+use Rattle.conditions.specs.Masks.{baseAt, orderAt, maskedPoint, pointAt, maskedColumn, columnAt, maskedRows}
+use Rattle.monomials.specs.Rows.{exponentRows, powersRow, valuesRow}
 use Rattle.definitions.proofs.Joined.{join-member, member-join, length-join}
 use Rattle.definitions.proofs.Ordered.{member-at}
 use Rattle.definitions.proofs.Tools.{below-member, member-below, sum-ext}

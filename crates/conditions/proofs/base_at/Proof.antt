@@ -1,5 +1,5 @@
 -- Each return is one side of the choice.
-use Rattle.conditions.proofs.Masks.{chosen-equal, chosen-unequal}
+use Rattle.masks.proofs.Masks.{chosen-equal, chosen-unequal}
 use Rattle.conditions.proofs.base_at.Statement.{statement}
 use Rattle.conditions.proofs.base_at.Tie as tie
 

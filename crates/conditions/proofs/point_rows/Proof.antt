@@ -6,8 +6,10 @@ use native.Mathlib.Omega.{arith}
 use borrow.Author.Needs.{needs}
 use lib.ListN.{length}
 use lib.Seq.{sets}
-use Rattle.conditions.proofs.Masks.{orders-none, powers-symbols, base-symbol}
-use Rattle.conditions.specs.Masks.{baseAt, powersRow, valuesRow, keptOrders}
+use Rattle.monomials.proofs.Rows.{powers-symbols}
+use Rattle.monomials.specs.Rows.{powersRow, valuesRow}
+use Rattle.conditions.proofs.Masks.{orders-none, base-symbol}
+use Rattle.conditions.specs.Masks.{baseAt, keptOrders}
 use Rattle.blocks.proofs.Filled.{zeros-from}
 use Rattle.blocks.specs.Row.{block}
 use Rattle.definitions.specs.Code.{Symbols}

@@ -8,8 +8,8 @@ use Rattle.algebra.specs.Grid.{entryOf}
 use Rattle.definitions.specs.Field.{sixteen}
 use Rattle.blocks.proofs.Filled.{Filling, filling-none, filling-more, filling-whole}
 use Rattle.blocks.specs.Row.{width}
-use Rattle.conditions.proofs.values.Statement.{statement}
-use Rattle.conditions.proofs.values.Tie as tie
+use Rattle.monomials.proofs.values.Statement.{statement}
+use Rattle.monomials.proofs.values.Tie as tie
 
 abbrev Inv-loop : tie.InvT-loop
 Inv-loop table px py es count row₀ place₀ row place =

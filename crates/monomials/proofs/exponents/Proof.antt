@@ -6,12 +6,12 @@ use Prim.Native.Nat.{ℕ, _-_, _≤_}
 use native.Mathlib.Omega.{arith}
 use borrow.Author.Needs.{needs}
 use lib.ListN.{replicate}
-use Rattle.conditions.proofs.Walk.{walked-le, walk-begins, walk-stays, walk-turns}
-use Rattle.conditions.specs.Walk.{walked}
+use Rattle.monomials.proofs.Walk.{walked-le, walk-begins, walk-stays, walk-turns}
+use Rattle.monomials.specs.Walk.{walked}
 use Rattle.blocks.proofs.Filled.{zeros-from, Filling, filling-none, filling-more, filling-whole}
 use Rattle.blocks.specs.Row.{width}
-use Rattle.conditions.proofs.exponents.Statement.{statement}
-use Rattle.conditions.proofs.exponents.Tie as tie
+use Rattle.monomials.proofs.exponents.Statement.{statement}
+use Rattle.monomials.proofs.exponents.Tie as tie
 
 abbrev Inv-loop : tie.InvT-loop
 Inv-loop v count xs₀ ys₀ x₀ y₀ degree₀ step₀ xs ys x y degree step =

@@ -7,9 +7,9 @@ use lib.Bits.{bitAnd}
 use lib.ListN.{length, getD, replicate, length-set}
 use Rattle.blocks.proofs.Blocks.{front-none, front-more}
 use Rattle.blocks.specs.Row.{block, Front}
-use Rattle.conditions.specs.Masks.{keptEntry}
-use Rattle.conditions.proofs.kept_block.Statement.{statement}
-use Rattle.conditions.proofs.kept_block.Tie as tie
+use Rattle.masks.specs.Masks.{keptEntry}
+use Rattle.masks.proofs.kept_block.Statement.{statement}
+use Rattle.masks.proofs.kept_block.Tie as tie
 
 abbrev Inv-loop : tie.InvT-loop
 Inv-loop a es asked order part₀ k₀ part k = (k ≤ block) × (length part ≡ block) × Front k (keptEntry a es asked order) part

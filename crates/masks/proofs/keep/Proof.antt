@@ -3,12 +3,12 @@ use mathlib.Core.Path.{_≡_, subst}
 use Prim.Native.Nat.{ℕ, _+_, _-_, _*_, _≤_}
 use native.Mathlib.Omega.{arith}
 use borrow.Author.Needs.{needs}
-use Rattle.conditions.proofs.Masks.{kept-left}
-use Rattle.conditions.specs.Masks.{keptEntry}
+use Rattle.masks.proofs.Masks.{kept-left}
+use Rattle.masks.specs.Masks.{keptEntry}
 use Rattle.blocks.proofs.Filled.{Filling, filling-none, filling-block, filling-whole}
 use Rattle.blocks.specs.Row.{block}
-use Rattle.conditions.proofs.keep.Statement.{statement}
-use Rattle.conditions.proofs.keep.Tie as tie
+use Rattle.masks.proofs.keep.Statement.{statement}
+use Rattle.masks.proofs.keep.Tie as tie
 
 abbrev Inv-loop : tie.InvT-loop
 Inv-loop row es asked order blocks out₀ p₀ out p = (p ≤ blocks) × Filling (blocks * block) (p * block) (keptEntry row es asked order) out

@@ -1,8 +1,8 @@
 -- Each return is one side of the choice.
 use lib.Bits.{bitAnd}
-use Rattle.conditions.proofs.Masks.{chosen-equal, chosen-unequal}
-use Rattle.conditions.proofs.mask.Statement.{statement}
-use Rattle.conditions.proofs.mask.Tie as tie
+use Rattle.masks.proofs.Masks.{chosen-equal, chosen-unequal}
+use Rattle.masks.proofs.mask.Statement.{statement}
+use Rattle.masks.proofs.mask.Tie as tie
 
 returns : tie.Need-returns
 returns c = let a = c .before .args in chosen-equal (bitAnd (a .e) (a .asked)) (a .order) 255 0 (c .if1 .taken)

@@ -9,8 +9,8 @@ use Rattle.definitions.proofs.Codeword.{power-zero, power-suc}
 use Rattle.definitions.specs.Field.{numbers, sixteen, power}
 use Rattle.instances.proofs.Codes.{sixteen-field}
 use Rattle.blocks.proofs.Filled.{Filling, filling-none, filling-more, filling-whole}
-use Rattle.conditions.proofs.powers.Statement.{statement}
-use Rattle.conditions.proofs.powers.Tie as tie
+use Rattle.monomials.proofs.powers.Statement.{statement}
+use Rattle.monomials.proofs.powers.Tie as tie
 
 abbrev Inv-loop : tie.InvT-loop
 Inv-loop table x n row₀ next₀ e₀ row next e = (e ≤ n) × (next ≡ power (numbers sixteen) x e) × Filling n e (power (numbers sixteen) x) row

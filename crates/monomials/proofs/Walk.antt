@@ -17,7 +17,7 @@ use Rattle.definitions.proofs.Tools.{map-below-at}
 use Rattle.definitions.specs.Bound.{count}
 use Rattle.definitions.specs.Polynomial.{monomialsOf, monomials}
 use Rattle.definitions.specs.Tools.{below}
-use Rattle.conditions.specs.Walk.{Place, nextPlace, walked}
+use Rattle.monomials.specs.Walk.{Place, nextPlace, walked}
 
 module _ (v : ℕ) where
   -- no step
