@@ -1,4 +1,2 @@
-pub mod Blocks
 pub mod Steps
 pub mod Solving
-pub mod Answered

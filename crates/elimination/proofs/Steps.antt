@@ -1,22 +1,13 @@
--- The inverse of a pivot, and the search for the column that has none.
+-- The search for the column that has no pivot.
 -- Assumes nothing.
 use mathlib.Core.List.{List}
-use mathlib.Core.Logic.{_≢_}
-use mathlib.Core.Path.{_≡_, refl, sym, _∙_, ap, subst}
+use mathlib.Core.Path.{_≡_, refl, _∙_, ap}
 use Prim.Native.Nat.{ℕ, _+_, _≤_, _<_}
 use native.Mathlib.Decide.{ℕ-discrete}
 use native.Mathlib.Omega.{arith}
-use Rattle.algebra.proofs.Elements.{times-turned, inverse-symbol, times-inverse}
-use Rattle.algebra.specs.FieldOf.{FieldOf}
 use Rattle.algebra.specs.Grid.{entryOf}
-use Rattle.definitions.specs.Field.{Code, inverseOf}
-use Rattle.elimination.specs.System.{System, Eliminated}
-
--- the inverse of a symbol other than 0 is a symbol, and their product is 1
-pub inverse-law : (C : Code) → FieldOf C → (a u : ℕ) → a < C .symbols → a ≢ 0 → u ≡ inverseOf C a → (u < C .symbols) × (C .times u a ≡ 1)
-inverse-law C F a u h n is =
-    let small = inverse-symbol C F a h n in
-    (subst (λ (x : ℕ). x < C .symbols) (sym is) small, ap (λ (x : ℕ). C .times x a) is ∙ times-turned C F (inverseOf C a) a small h ∙ times-inverse C F a h n)
+use Rattle.definitions.specs.Field.{Code}
+use Rattle.pivots.specs.System.{System, Eliminated}
 
 -- rows j to r - 1 have 0 in column j
 abbrev pub ZeroFrom : ℕ → ℕ → List (List ℕ) → Type 0

@@ -19,7 +19,7 @@ use Rattle.definitions.specs.Code.{Symbols}
 use Rattle.definitions.specs.Field.{Code}
 use Rattle.definitions.specs.Limits.{greatestLimit, coefficientRoom}
 use Rattle.definitions.specs.Polynomial.{Interpolates, Through, isZero, leading}
-use Rattle.elimination.specs.System.{System, Within, Eliminated}
+use Rattle.pivots.specs.System.{System, Within, Eliminated}
 use Rattle.linear.proofs.Back.{coefficients-size, coefficients-back, coefficients-one, coefficients-end, coefficients-written}
 use Rattle.linear.proofs.Leading.{zero-after, leading-is}
 use Rattle.linear.proofs.Symbols.{back-symbols, triangle-solves, triangle-least}

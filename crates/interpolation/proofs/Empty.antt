@@ -12,7 +12,7 @@ use Rattle.blocks.proofs.Filled.{zeros-from}
 use Rattle.blocks.specs.Row.{width, ZeroFrom}
 use Rattle.conditions.specs.Masks.{Clear}
 use Rattle.definitions.specs.Field.{Code}
-use Rattle.elimination.specs.System.{System}
+use Rattle.pivots.specs.System.{System}
 
 -- rows of zeros are clear
 pub empty-clear : (n : ℕ) → Clear 0 0 (replicate n (replicate width 0))

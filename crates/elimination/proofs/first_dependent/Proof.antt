@@ -4,7 +4,7 @@ use Prim.Native.Nat.{_+_, _*_, _-_, _≤_, _<_}
 use native.Mathlib.Omega.{arith}
 use Rattle.definitions.specs.Field.{sixteen}
 use Rattle.elimination.proofs.Steps.{ZeroFrom, none-zero, zero-more, eliminated-none, eliminated-more}
-use Rattle.elimination.specs.System.{Eliminated, Within}
+use Rattle.pivots.specs.System.{Eliminated, Within}
 use Rattle.blocks.specs.Row.{block}
 use borrow.Author.Needs.{needs}
 use Rattle.elimination.proofs.first_dependent.Statement.{statement}

@@ -3,7 +3,7 @@ use Prim.Native.Nat.{_*_, _≤_, _<_}
 use native.Mathlib.Omega.{arith}
 use lib.ListN.{length}
 use Rattle.definitions.specs.Field.{sixteen}
-use Rattle.elimination.specs.System.{System, Within}
+use Rattle.pivots.specs.System.{System, Within}
 use Rattle.instances.proofs.Codes.{sixteen-field}
 use Rattle.interpolation.proofs.Coefficients.{degree-small, blocks-fit, rows-priced, more, start-system, start-within, polynomial-found}
 use Rattle.interpolation.proofs.Empty.{clear-from, clear-system}

@@ -4,11 +4,11 @@ use Prim.Native.Nat.{ℕ, _-_, _≤_, _<_}
 use native.Mathlib.Omega.{arith}
 use lib.ListN.{length, length-set}
 use Rattle.definitions.specs.Limits.{greatestLimit}
-use Rattle.elimination.proofs.Solving.{rows-none, rows-more}
-use Rattle.elimination.specs.System.{ListedRows}
+use Rattle.pivots.proofs.Listing.{rows-none, rows-more}
+use Rattle.pivots.specs.System.{ListedRows}
 use borrow.Author.Needs.{needs}
-use Rattle.elimination.proofs.factors.Statement.{statement}
-use Rattle.elimination.proofs.factors.Tie as tie
+use Rattle.pivots.proofs.factors.Statement.{statement}
+use Rattle.pivots.proofs.factors.Tie as tie
 
 abbrev Inv-loop : tie.InvT-loop
 Inv-loop system j rows places₀ c₀ n₀ t₀ places c n t =

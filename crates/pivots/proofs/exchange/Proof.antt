@@ -3,12 +3,12 @@ use mathlib.Core.Path.{_≡_, subst}
 use Prim.Native.Nat.{ℕ, _*_, _/_, _-_, _≤_}
 use native.Mathlib.Omega.{arith}
 use Rattle.definitions.specs.Field.{sixteen}
-use Rattle.elimination.proofs.Blocks.{exchange-none, exchange-more}
-use Rattle.elimination.specs.System.{ExchangedIn}
+use Rattle.pivots.proofs.Blocks.{exchange-none, exchange-more}
+use Rattle.pivots.specs.System.{ExchangedIn}
 use Rattle.blocks.specs.Row.{block}
 use borrow.Author.Needs.{needs}
-use Rattle.elimination.proofs.exchange.Statement.{statement}
-use Rattle.elimination.proofs.exchange.Tie as tie
+use Rattle.pivots.proofs.exchange.Statement.{statement}
+use Rattle.pivots.proofs.exchange.Tie as tie
 
 abbrev Inv-loop : tie.InvT-loop
 Inv-loop system₀ table r j u blocks p₀ system p = (j / block ≤ p) × (p ≤ blocks) × ExchangedIn sixteen (j / block * block) (p * block) r j u system₀ system

@@ -69,7 +69,3 @@ pub record Eliminated (C : Code) (rows w j : ℕ) (o m : List (List ℕ)) : Type
   pub system : System C m
   pub same : SameSolutions C rows w o m
   pub triangle : Triangle rows j m
-
--- the entries behind s and before j are symbols
-abbrev pub SymbolsBetween : Code → ℕ → ℕ → List ℕ → Type 0
-SymbolsBetween C s j q = (k : ℕ) → s < k → k < j → getD q k 0 < C .symbols

@@ -5,15 +5,15 @@ use native.Mathlib.Omega.{arith}
 use lib.ListN.{length}
 use Rattle.algebra.specs.Grid.{entryOf}
 use Rattle.definitions.specs.Field.{sixteen}
-use Rattle.elimination.proofs.Answered.{answered, not-refused}
-use Rattle.elimination.proofs.Blocks.{block-step}
-use Rattle.elimination.proofs.Steps.{inverse-law}
+use Rattle.pivots.proofs.Answered.{answered, not-refused}
+use Rattle.pivots.proofs.Blocks.{block-step}
+use Rattle.pivots.proofs.Steps.{inverse-law}
 use Rattle.instances.proofs.Codes.{sixteen-field}
 use Rattle.field.specs.Element.{toldElement}
 use Rattle.blocks.specs.Row.{block}
 use borrow.Author.Needs.{needs}
-use Rattle.elimination.proofs.pivot.Statement.{statement}
-use Rattle.elimination.proofs.pivot.Tie as tie
+use Rattle.pivots.proofs.pivot.Statement.{statement}
+use Rattle.pivots.proofs.pivot.Tie as tie
 
 abbrev entry : tie.After-inverse → tie.Start
 entry c = c .before .before

@@ -4,13 +4,13 @@ use Prim.Native.Nat.{_<_}
 use native.Mathlib.Omega.{arith}
 use lib.ListN.{length, getD, set, length-set}
 use Rattle.definitions.specs.Field.{sixteen}
-use Rattle.elimination.proofs.Blocks.{exchanged-once, exchanged-in}
-use Rattle.elimination.specs.System.{System}
+use Rattle.pivots.proofs.Blocks.{exchanged-once, exchanged-in}
+use Rattle.pivots.specs.System.{System}
 use Rattle.instances.proofs.Codes.{sixteen-field}
 use Rattle.blocks.proofs.Blocks.{block-symbols}
 use borrow.Author.Needs.{needs}
-use Rattle.elimination.proofs.exchange_block.Statement.{statement}
-use Rattle.elimination.proofs.exchange_block.Tie as tie
+use Rattle.pivots.proofs.exchange_block.Statement.{statement}
+use Rattle.pivots.proofs.exchange_block.Tie as tie
 
 abbrev entry : tie.After-scaled → tie.Start
 entry c = c .before .before .before .before .before .before

@@ -5,14 +5,14 @@ use Prim.Native.Nat.{ℕ, _+_, _-_, _≤_, _<_}
 use native.Mathlib.Omega.{arith}
 use lib.ListN.{length, getD}
 use Rattle.definitions.specs.Field.{sixteen}
-use Rattle.elimination.proofs.Blocks.{rows-undone, less-block, rows-done}
-use Rattle.elimination.specs.System.{DoneIn}
+use Rattle.pivots.proofs.Blocks.{rows-undone, less-block, rows-done}
+use Rattle.pivots.specs.System.{DoneIn}
 use Rattle.instances.proofs.Codes.{sixteen-field}
 use Rattle.blocks.proofs.Blocks.{block-symbols}
 use Rattle.blocks.specs.Row.{block}
 use borrow.Author.Needs.{needs}
-use Rattle.elimination.proofs.clear_block.Statement.{statement}
-use Rattle.elimination.proofs.clear_block.Tie as tie
+use Rattle.pivots.proofs.clear_block.Statement.{statement}
+use Rattle.pivots.proofs.clear_block.Tie as tie
 
 abbrev Inv-loop : tie.InvT-loop
 Inv-loop system₀ at j places c n times i₀ system i = (i ≤ n) × DoneIn sixteen at (at + block) j i places c system₀ system

@@ -5,13 +5,13 @@ use native.Mathlib.Omega.{arith}
 use lib.ListN.{length}
 use Rattle.definitions.specs.Field.{sixteen}
 use Rattle.definitions.specs.Limits.{greatestLimit}
-use Rattle.elimination.proofs.Blocks.{lower-none, lower-more, listed-rows}
-use Rattle.elimination.specs.System.{DoneIn, LoweredIn, columnOf}
+use Rattle.pivots.proofs.Blocks.{lower-none, lower-more, listed-rows}
+use Rattle.pivots.specs.System.{DoneIn, LoweredIn, columnOf}
 use Rattle.instances.proofs.Codes.{sixteen-field}
 use Rattle.blocks.specs.Row.{block, InRow}
 use borrow.Author.Needs.{needs}
-use Rattle.elimination.proofs.clear.Statement.{statement}
-use Rattle.elimination.proofs.clear.Tie as tie
+use Rattle.pivots.proofs.clear.Statement.{statement}
+use Rattle.pivots.proofs.clear.Tie as tie
 
 abbrev Inv-loop : tie.InvT-loop
 Inv-loop system₀ j rows blocks places c n next₀ system next =

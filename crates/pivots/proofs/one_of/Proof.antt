@@ -1,8 +1,8 @@
 -- Zero gives 0, and all else 1.
 use native.Mathlib.Omega.{arith}
-use Rattle.elimination.proofs.Solving.{one-of-zero, one-of-other}
-use Rattle.elimination.proofs.one_of.Statement.{statement}
-use Rattle.elimination.proofs.one_of.Tie as tie
+use Rattle.pivots.proofs.Listing.{one-of-zero, one-of-other}
+use Rattle.pivots.proofs.one_of.Statement.{statement}
+use Rattle.pivots.proofs.one_of.Tie as tie
 
 returns : tie.Need-returns
 returns c = (one-of-zero (c .before .args .x) (c .if1 .taken), omega arith)

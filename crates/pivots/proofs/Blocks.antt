@@ -13,7 +13,7 @@ use Rattle.algebra.specs.FieldOf.{FieldOf}
 use Rattle.algebra.specs.Grid.{entryOf, Patched}
 use Rattle.definitions.specs.Code.{Symbols}
 use Rattle.definitions.specs.Field.{Code, numbers}
-use Rattle.elimination.specs.System.{System, ExchangedIn, columnOf, ListedRows, TargetRows, Factors, DoneIn, LoweredIn, Eliminated}
+use Rattle.pivots.specs.System.{System, ExchangedIn, columnOf, ListedRows, TargetRows, Factors, DoneIn, LoweredIn, Eliminated}
 use Rattle.linear.proofs.Columns.{exchanged-block, between-none, between-more, patched-symbols, blocks-solutions, blocks-triangle}
 use Rattle.linear.proofs.Listed.{done-none, done-row, done-lowered, listed-targets}
 use Rattle.linear.specs.Columns.{Between, Exchanged, Lowered, Listed}

@@ -1,0 +1,158 @@
+// A step of the elimination: a pivot row scaled and brought up, and its column cleared in the rows below; for inner use: what it is given is within limits already.
+ghost use mathlib.Core.Logic.{_≢_};
+ghost use mathlib.Core.Path.{_≡_};
+ghost use Prim.Native.Nat.{_+_, _*_, _/_, _≤_, _<_};
+ghost use lib.ListN.{length};
+ghost use Rattle.algebra.specs.Grid.{entryOf};
+ghost use Rattle.definitions.specs.Field.{sixteen};
+ghost use Rattle.definitions.specs.Limits.{greatestLimit};
+ghost use Rattle.pivots.specs.System.{System, Within, ExchangedIn, oneOf, columnOf, ListedRows, TargetRows, Factors, DoneIn, LoweredIn, Eliminated};
+ghost use Rattle.linear.specs.Rows.{Triangle};
+ghost use Rattle.field.specs.Table.{Products};
+ghost use Rattle.blocks.specs.Row.{width, block, InRow};
+use blocks::BLOCK;
+use blocks::WIDTH;
+use field::Element;
+use refusals::limits::GREATEST_LIMIT;
+
+// Row r, scaled by u, changes places with row j, in the block of columns from `at` on.
+fn exchange_block(
+    system: &mut [[u8; WIDTH]],
+    table: &[u8; 256],
+    at: usize,
+    r: usize,
+    j: usize,
+    u: u8,
+)
+    requires { ⌜ System sixteen (now system) ⌝ }
+    requires { ⌜ Products sixteen (now table) ⌝ }
+    requires { ⌜ InRow at × (r < length (now system)) × (j < length (now system)) × (u < sixteen .symbols) ⌝ }
+    ensures { λ _. ⌜ ExchangedIn sixteen at (at + block) r j u (now (system .entry)) (now (system .exit)) ⌝ }
+{
+    let part = blocks::block(&system[r], at);
+    let other = blocks::block(&system[j], at);
+    let first = blocks::scaled(table, &part, u);
+    blocks::put(&mut system[r], at, &other);
+    blocks::put(&mut system[j], at, &first);
+}
+
+// The same in each block from that of column j on.
+fn exchange(system: &mut [[u8; WIDTH]], table: &[u8; 256], r: usize, j: usize, u: u8, blocks: usize)
+    requires { ⌜ System sixteen (now system) ⌝ }
+    requires { ⌜ Products sixteen (now table) ⌝ }
+    requires { ⌜ (r < length (now system)) × (j < length (now system)) × (u < sixteen .symbols) ⌝ }
+    requires { ⌜ (j < blocks * block) × (blocks * block ≤ width) ⌝ }
+    ensures { λ _. ⌜ ExchangedIn sixteen (j / block * block) (blocks * block) r j u (now (system .entry)) (now (system .exit)) ⌝ }
+{
+    let mut p = j / BLOCK;
+    while p < blocks {
+        exchange_block(system, table, p * BLOCK, r, j, u);
+        p += 1;
+    }
+}
+
+fn narrow(x: usize) -> u8
+    requires { ⌜ x < 256 ⌝ }
+    ensures { λ r. ⌜ r ≡ x ⌝ }
+{
+    x as u8
+}
+
+fn one_of(x: u8) -> usize
+    ensures { λ r. ⌜ (r ≡ oneOf x) × (r ≤ 1) ⌝ }
+{
+    if x == 0 {
+        return 0;
+    }
+    1
+}
+
+// The rows below row j whose entry in column j is not zero, and those entries; answers how many.
+fn factors(
+    system: &[[u8; WIDTH]],
+    j: usize,
+    rows: usize,
+    places: &mut [u8; GREATEST_LIMIT],
+    c: &mut [u8; GREATEST_LIMIT],
+) -> usize
+    requires { ⌜ (j < rows) × (rows ≤ length (now system)) × (rows ≤ greatestLimit) ⌝ }
+    requires { ⌜ (length (now places) ≡ greatestLimit) × (length (now c) ≡ greatestLimit) ⌝ }
+    ensures { λ n. ⌜ (n ≤ rows) × ListedRows rows j n (now (system .entry)) (now (places .exit)) (now (c .exit)) ⌝ }
+{
+    let mut n = 0;
+    let mut t = j + 1;
+    while t < rows {
+        let x = system[t][j];
+        places[n] = narrow(t);
+        c[n] = x;
+        n += one_of(x);
+        t += 1;
+    }
+    n
+}
+
+// Takes, in the block of columns from `at` on, as much of row j from each row listed as its factor says.
+fn clear_block(
+    system: &mut [[u8; WIDTH]],
+    at: usize,
+    j: usize,
+    places: &[u8; GREATEST_LIMIT],
+    c: &[u8; GREATEST_LIMIT],
+    n: usize,
+)
+    requires { ⌜ System sixteen (now system) ⌝ }
+    requires { ⌜ InRow at × (j < length (now system)) × (n ≤ greatestLimit) ⌝ }
+    requires { ⌜ TargetRows (length (now system)) j n (now places) × Factors sixteen n (now c) ⌝ }
+    ensures { λ _. ⌜ DoneIn sixteen at (at + block) j n (now (places .entry)) (now (c .entry)) (now (system .entry)) (now (system .exit)) ⌝ }
+{
+    let first = blocks::block(&system[j], at);
+    let times = blocks::multiples(&first);
+    let mut i = 0;
+    while i < n {
+        let t = field::inside::wide(places[i]);
+        let x = field::inside::wide(c[i]);
+        blocks::add(&mut system[t], at, &times[x]);
+        i += 1;
+    }
+}
+
+// Clears column j in the rows below row j, in each block from that of column j on.
+fn clear(system: &mut [[u8; WIDTH]], j: usize, rows: usize, blocks: usize)
+    requires { ⌜ System sixteen (now system) ⌝ }
+    requires { ⌜ Within rows blocks (now system) ⌝ }
+    requires { ⌜ j < rows ⌝ }
+    ensures { λ _. ⌜ LoweredIn sixteen (j / block * block) (blocks * block) rows j (columnOf (now (system .entry)) j) (now (system .entry)) (now (system .exit)) ⌝ }
+{
+    let mut places = [0u8; GREATEST_LIMIT];
+    let mut c = [0u8; GREATEST_LIMIT];
+    let n = factors(system, j, rows, &mut places, &mut c);
+    let mut next = j / BLOCK;
+    while next < blocks {
+        clear_block(system, next * BLOCK, j, &places, &c, n);
+        next += 1;
+    }
+}
+
+// Row r, scaled to 1 in column j, changes places with row j, and column j is cleared in the rows below.
+pub fn pivot(
+    system: &mut [[u8; WIDTH]],
+    table: &[u8; 256],
+    r: usize,
+    j: usize,
+    rows: usize,
+    blocks: usize,
+)
+    requires { ⌜ System sixteen (now system) ⌝ }
+    requires { ⌜ Products sixteen (now table) ⌝ }
+    requires { ⌜ Within rows blocks (now system) ⌝ }
+    requires { ⌜ (j ≤ r) × (r < rows) ⌝ }
+    requires { ⌜ Triangle rows j (now system) ⌝ }
+    requires { ⌜ entryOf (now system) r j ≢ 0 ⌝ }
+    ensures { λ _. ⌜ Eliminated sixteen rows (blocks * block) (j + 1) (now (system .entry)) (now (system .exit)) ⌝ }
+{
+    let Element::Of(u) = field::inverse(system[r][j]) else {
+        return;
+    };
+    exchange(system, table, r, j, u, blocks);
+    clear(system, j, rows, blocks);
+}
