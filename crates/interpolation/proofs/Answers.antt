@@ -18,7 +18,7 @@ use Rattle.definitions.specs.Polynomial.{Interpolates}
 use Rattle.definitions.specs.Refusals.{Line, sizes, limit, entries, room, entriesOf, costWithin}
 use Rattle.definitions.specs.Weights.{cost}
 use Rattle.interpolation.specs.Answered.{Fit, Answered}
-use Rattle.interpolation.specs.Found.{Found}
+use Rattle.polynomial.specs.Found.{Found}
 use Rattle.refusals.proofs.Chain.{Came, told-is, stops, goes-on}
 use Rattle.refusals.specs.Checked.{toldChecked}
 use Rattle.refusals.specs.Refusal.{toldRefusal}

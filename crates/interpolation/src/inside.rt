@@ -1,152 +1,14 @@
-// The polynomial of what is within limits already.
+// The polynomial of what passed the checks before the cost.
 ghost use mathlib.Core.List.{[], _∷_};
-ghost use Prim.Native.Nat.{_*_, _≤_, _<_};
+ghost use Prim.Native.Nat.{_*_};
 ghost use lib.ListN.{length, take};
 ghost use Rattle.definitions.specs.Field.{sixteen};
 ghost use Rattle.definitions.specs.Refusals.{costWithin};
-ghost use Rattle.conditions.specs.Masks.{Clear};
-ghost use Rattle.linear.specs.Rows.{Led};
 ghost use Rattle.interpolation.specs.Answered.{Fit, Answered};
-ghost use Rattle.interpolation.specs.Found.{middleRows, upperRows, Given, Found};
 ghost use Rattle.interpolation.specs.Interpolated.{toldInterpolated};
-ghost use Rattle.blocks.specs.Row.{block};
 ghost use Rattle.matrix.specs.Columns.{FrontCosts};
 use crate::Interpolated;
-use blocks::BLOCK;
-use blocks::WIDTH;
 use refusals::Refusal;
-use refusals::limits::GREATEST_LIMIT;
-use refusals::limits::POSITIONS;
-use refusals::limits::SYMBOLS;
-
-// The rows of the middle and of the upper one of four systems: no tag costs more up to level 3, and up to level 4.
-const MIDDLE_ROWS: usize = 6 * BLOCK;
-
-const UPPER_ROWS: usize = 10 * BLOCK;
-
-// 1 at place j, and zeros behind it.
-fn lead(j: usize, count: usize, out: &mut [u8])
-    requires { ⌜ (j < count) × (count ≤ length (now out)) ⌝ }
-    ensures { λ _. ⌜ Led j count (now (out .entry)) (now (out .exit)) ⌝ }
-{
-    out[j] = 1;
-    let mut k = j + 1;
-    while k < count {
-        out[k] = 0;
-        k += 1;
-    }
-}
-
-// The polynomial of a matrix within limits, worked out in a system of zeros that has room for its conditions.
-fn polynomial_in(
-    system: &mut [[u8; WIDTH]],
-    matrix: &[[u8; SYMBOLS]; POSITIONS],
-    v: usize,
-    d: usize,
-    count: usize,
-    cost: usize,
-    out: &mut [u8],
-) -> usize
-    requires { ⌜ Given sixteen (now matrix) v d count cost (now out) ⌝ }
-    requires { ⌜ Clear 0 0 (now system) × (cost ≤ length (now system)) ⌝ }
-    ensures { λ r. ⌜ Found sixteen (now (matrix .entry)) v d (now (out .entry)) r (now (out .exit)) ⌝ }
-{
-    let table = field::inside::products();
-    let blocks = cost / BLOCK + 1;
-    let rows = conditions::matrix_rows(system, &table, matrix, v, d, blocks);
-    let leading = elimination::first_dependent(system, &table, rows, blocks);
-    lead(leading, count, out);
-    elimination::solve(system, &table, leading, out);
-    leading
-}
-
-// In a system of one block of rows.
-fn small_polynomial(
-    matrix: &[[u8; SYMBOLS]; POSITIONS],
-    v: usize,
-    d: usize,
-    count: usize,
-    cost: usize,
-    out: &mut [u8],
-) -> usize
-    requires { ⌜ Given sixteen (now matrix) v d count cost (now out) × (cost ≤ block) ⌝ }
-    ensures { λ r. ⌜ Found sixteen (now (matrix .entry)) v d (now (out .entry)) r (now (out .exit)) ⌝ }
-{
-    let mut system = [[0u8; WIDTH]; BLOCK];
-    polynomial_in(&mut system, matrix, v, d, count, cost, out)
-}
-
-// In a system of the middle size.
-fn middle_polynomial(
-    matrix: &[[u8; SYMBOLS]; POSITIONS],
-    v: usize,
-    d: usize,
-    count: usize,
-    cost: usize,
-    out: &mut [u8],
-) -> usize
-    requires { ⌜ Given sixteen (now matrix) v d count cost (now out) × (cost ≤ middleRows) ⌝ }
-    ensures { λ r. ⌜ Found sixteen (now (matrix .entry)) v d (now (out .entry)) r (now (out .exit)) ⌝ }
-{
-    let mut system = [[0u8; WIDTH]; MIDDLE_ROWS];
-    polynomial_in(&mut system, matrix, v, d, count, cost, out)
-}
-
-// In a system of the upper size.
-fn upper_polynomial(
-    matrix: &[[u8; SYMBOLS]; POSITIONS],
-    v: usize,
-    d: usize,
-    count: usize,
-    cost: usize,
-    out: &mut [u8],
-) -> usize
-    requires { ⌜ Given sixteen (now matrix) v d count cost (now out) × (cost ≤ upperRows) ⌝ }
-    ensures { λ r. ⌜ Found sixteen (now (matrix .entry)) v d (now (out .entry)) r (now (out .exit)) ⌝ }
-{
-    let mut system = [[0u8; WIDTH]; UPPER_ROWS];
-    polynomial_in(&mut system, matrix, v, d, count, cost, out)
-}
-
-// In a system of as many rows as the greatest limit.
-fn large_polynomial(
-    matrix: &[[u8; SYMBOLS]; POSITIONS],
-    v: usize,
-    d: usize,
-    count: usize,
-    cost: usize,
-    out: &mut [u8],
-) -> usize
-    requires { ⌜ Given sixteen (now matrix) v d count cost (now out) ⌝ }
-    ensures { λ r. ⌜ Found sixteen (now (matrix .entry)) v d (now (out .entry)) r (now (out .exit)) ⌝ }
-{
-    let mut system = [[0u8; WIDTH]; GREATEST_LIMIT];
-    polynomial_in(&mut system, matrix, v, d, count, cost, out)
-}
-
-// The polynomial of a matrix within limits, d being its bound and count N(d), to the front of out. Answers the place of its leading monomial.
-pub fn polynomial(
-    matrix: &[[u8; SYMBOLS]; POSITIONS],
-    v: usize,
-    d: usize,
-    count: usize,
-    cost: usize,
-    out: &mut [u8],
-) -> usize
-    requires { ⌜ Given sixteen (now matrix) v d count cost (now out) ⌝ }
-    ensures { λ r. ⌜ Found sixteen (now (matrix .entry)) v d (now (out .entry)) r (now (out .exit)) ⌝ }
-{
-    if cost <= BLOCK {
-        return small_polynomial(matrix, v, d, count, cost, out);
-    }
-    if cost <= MIDDLE_ROWS {
-        return middle_polynomial(matrix, v, d, count, cost, out);
-    }
-    if cost <= UPPER_ROWS {
-        return upper_polynomial(matrix, v, d, count, cost, out);
-    }
-    large_polynomial(matrix, v, d, count, cost, out)
-}
 
 // What passed the checks of its table is interpolated, where it costs no more than the limit.
 pub fn interpolate_priced(
@@ -168,6 +30,6 @@ pub fn interpolate_priced(
     let v = k - 1;
     let bound = bound::bound(v, cost);
     let count = bound::count(v, bound);
-    polynomial(&columns, v, bound, count, cost, out);
+    polynomial::polynomial(&columns, v, bound, count, cost, out);
     Interpolated::Of { bound, count }
 }

@@ -11,7 +11,7 @@ use Rattle.definitions.specs.Bound.{count, bound}
 use Rattle.definitions.specs.Field.{Code}
 use Rattle.definitions.specs.Limits.{greatestLimit}
 use Rattle.definitions.specs.Weights.{cost}
-use Rattle.interpolation.specs.Found.{Found}
+use Rattle.polynomial.specs.Found.{Found}
 use Rattle.matrix.proofs.Columns.{matrix-cost}
 use Rattle.matrix.specs.Columns.{matrixOf, matrixCost}
 

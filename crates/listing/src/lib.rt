@@ -61,7 +61,7 @@ pub fn list_within(
     let bound = bound::bound(v, cost);
     let count = bound::count(v, bound);
     let mut polynomial = [0u8; COEFFICIENT_ROOM];
-    interpolation::inside::polynomial(matrix, v, bound, count, cost, &mut polynomial);
+    polynomial::polynomial(matrix, v, bound, count, cost, &mut polynomial);
     listed(
         matrix,
         n,

@@ -11,11 +11,11 @@ use Rattle.definitions.specs.Field.{sixteen}
 use Rattle.definitions.specs.Limits.{coefficientRoom, greatestRows}
 use Rattle.definitions.specs.Polynomial.{Interpolates}
 use Rattle.instances.proofs.Codes.{sixteen-field}
-use Rattle.interpolation.proofs.Coefficients.{count-small}
 use Rattle.listing.proofs.Found.{degree-small, bound-of-cost, prefix, length-after}
 use Rattle.listing.proofs.Listing.{lists}
 use Rattle.listing.specs.Within.{Rooted}
 use Rattle.matrix.specs.Columns.{matrixOf}
+use Rattle.polynomial.proofs.Coefficients.{count-small}
 use borrow.Author.Needs.{needs}
 use Rattle.listing.proofs.list_within.Statement.{statement}
 use Rattle.listing.proofs.list_within.Tie as tie

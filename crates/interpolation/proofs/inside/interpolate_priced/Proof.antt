@@ -10,7 +10,7 @@ use Rattle.definitions.specs.Bound.{bound}
 use Rattle.definitions.specs.Field.{sixteen}
 use Rattle.definitions.specs.Limits.{greatestLimit}
 use Rattle.interpolation.proofs.Answers.{refused-by-cost, found-is-answered}
-use Rattle.interpolation.proofs.Coefficients.{count-small}
+use Rattle.polynomial.proofs.Coefficients.{count-small}
 use Rattle.matrix.proofs.Columns.{opened-front, opened-cost}
 use Rattle.matrix.specs.Columns.{matrixCost}
 use borrow.Author.Needs.{needs}

@@ -1,9 +1,9 @@
 -- The cost is within the middle rows, and a system of zeros of so many has room for it.
-use Rattle.interpolation.proofs.Empty.{empty-clear}
-use Rattle.interpolation.specs.Found.{middleRows}
+use Rattle.polynomial.proofs.Empty.{empty-clear}
+use Rattle.polynomial.specs.Found.{middleRows}
 use borrow.Author.Needs.{needs}
-use Rattle.interpolation.proofs.inside.middle_polynomial.Statement.{statement}
-use Rattle.interpolation.proofs.inside.middle_polynomial.Tie as tie
+use Rattle.polynomial.proofs.middle_polynomial.Statement.{statement}
+use Rattle.polynomial.proofs.middle_polynomial.Tie as tie
 
 polynomial-in-requires : tie.Need-polynomial-in-requires
 polynomial-in-requires c κs =

@@ -5,12 +5,12 @@ use lib.ListN.{length}
 use Rattle.definitions.specs.Field.{sixteen}
 use Rattle.pivots.specs.System.{System, Within}
 use Rattle.instances.proofs.Codes.{sixteen-field}
-use Rattle.interpolation.proofs.Coefficients.{degree-small, blocks-fit, rows-priced, more, start-system, start-within, polynomial-found}
-use Rattle.interpolation.proofs.Empty.{clear-from, clear-system}
+use Rattle.polynomial.proofs.Coefficients.{degree-small, blocks-fit, rows-priced, more, start-system, start-within, polynomial-found}
+use Rattle.polynomial.proofs.Empty.{clear-from, clear-system}
 use Rattle.blocks.specs.Row.{block, blocksFor, width}
 use borrow.Author.Needs.{needs}
-use Rattle.interpolation.proofs.inside.polynomial_in.Statement.{statement}
-use Rattle.interpolation.proofs.inside.polynomial_in.Tie as tie
+use Rattle.polynomial.proofs.polynomial_in.Statement.{statement}
+use Rattle.polynomial.proofs.polynomial_in.Tie as tie
 
 abbrev entry : tie.After-matrix-rows → tie.Start
 entry c = c .before .before .before .before .before

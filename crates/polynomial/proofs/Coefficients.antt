@@ -24,8 +24,8 @@ use Rattle.linear.proofs.Back.{coefficients-size, coefficients-back, coefficien
 use Rattle.linear.proofs.Leading.{zero-after, leading-is}
 use Rattle.linear.proofs.Symbols.{back-symbols, triangle-solves, triangle-least}
 use Rattle.linear.specs.Rows.{Solves, Reduced, Solved, Led}
-use Rattle.interpolation.proofs.Conditions.{length-conditions, conditions-symbols, conditions-wide, through-solves, solves-through}
-use Rattle.interpolation.specs.Found.{Given, Found}
+use Rattle.polynomial.proofs.Conditions.{length-conditions, conditions-symbols, conditions-wide, through-solves, solves-through}
+use Rattle.polynomial.specs.Found.{Given, Found}
 use Rattle.blocks.specs.Row.{width, block, blocksFor}
 use Rattle.matrix.specs.Columns.{matrixOf, matrixCost}
 

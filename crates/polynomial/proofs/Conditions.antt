@@ -27,8 +27,8 @@ use Rattle.definitions.specs.Polynomial.{Through, hasse, terms, monomials}
 use Rattle.definitions.specs.Tools.{below}
 use Rattle.definitions.specs.Weights.{entry, entryCost}
 use Rattle.linear.specs.Rows.{Solves}
-use Rattle.interpolation.proofs.Loaded.{entry-is, used}
-use Rattle.interpolation.proofs.Placing.{place-of, placed-at, placed-each}
+use Rattle.polynomial.proofs.Loaded.{entry-is, used}
+use Rattle.polynomial.proofs.Placing.{place-of, placed-at, placed-each}
 use Rattle.blocks.specs.Row.{width, block}
 use Rattle.matrix.specs.Columns.{matrixOf, columnCost, matrixCost}
 

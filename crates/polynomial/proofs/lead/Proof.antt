@@ -4,10 +4,10 @@ use Prim.Native.Nat.{ℕ, _-_, _≤_, _<_}
 use native.Mathlib.Omega.{arith}
 use lib.ListN.{length, set, length-set}
 use Rattle.linear.specs.Rows.{Led}
-use Rattle.interpolation.proofs.Coefficients.{led-first, led-more, led-whole}
+use Rattle.polynomial.proofs.Coefficients.{led-first, led-more, led-whole}
 use borrow.Author.Needs.{needs}
-use Rattle.interpolation.proofs.inside.lead.Statement.{statement}
-use Rattle.interpolation.proofs.inside.lead.Tie as tie
+use Rattle.polynomial.proofs.lead.Statement.{statement}
+use Rattle.polynomial.proofs.lead.Tie as tie
 
 abbrev Inv-loop : tie.InvT-loop
 Inv-loop j count out₀ k₀ out k = (j < k) × (k ≤ count) × Led j k out₀ out × (count ≤ length out)

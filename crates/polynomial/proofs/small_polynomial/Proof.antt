@@ -1,9 +1,9 @@
 -- The cost is at most a block, and a system of zeros of so many rows has room for it.
-use Rattle.interpolation.proofs.Empty.{empty-clear}
+use Rattle.polynomial.proofs.Empty.{empty-clear}
 use Rattle.blocks.specs.Row.{block}
 use borrow.Author.Needs.{needs}
-use Rattle.interpolation.proofs.inside.small_polynomial.Statement.{statement}
-use Rattle.interpolation.proofs.inside.small_polynomial.Tie as tie
+use Rattle.polynomial.proofs.small_polynomial.Statement.{statement}
+use Rattle.polynomial.proofs.small_polynomial.Tie as tie
 
 polynomial-in-requires : tie.Need-polynomial-in-requires
 polynomial-in-requires c κs =

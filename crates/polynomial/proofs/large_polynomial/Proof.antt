@@ -1,9 +1,9 @@
 -- The cost is within the greatest limit, and a system of zeros of so many rows has room for it.
 use Rattle.definitions.specs.Limits.{greatestLimit}
-use Rattle.interpolation.proofs.Empty.{empty-clear}
+use Rattle.polynomial.proofs.Empty.{empty-clear}
 use borrow.Author.Needs.{needs}
-use Rattle.interpolation.proofs.inside.large_polynomial.Statement.{statement}
-use Rattle.interpolation.proofs.inside.large_polynomial.Tie as tie
+use Rattle.polynomial.proofs.large_polynomial.Statement.{statement}
+use Rattle.polynomial.proofs.large_polynomial.Tie as tie
 
 polynomial-in-requires : tie.Need-polynomial-in-requires
 polynomial-in-requires c κs =
