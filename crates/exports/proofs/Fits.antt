@@ -10,6 +10,7 @@ use borrow.Author.Tests.{ltb-true}
 use lib.Dec.{eqb}
 use lib.ListN.{length}
 use Rattle.algebra.proofs.Elements.{plus-symbol, times-symbol}
+use Rattle.crossing.specs.Crossing.{Narrow}
 use Rattle.definitions.proofs.Bound.{bound-le, count-above}
 use Rattle.definitions.proofs.Powers.{coefficients-fit}
 use Rattle.definitions.proofs.Table.{Whatever, last, or, whatever, sizes-mean, size-means, limit-means, degree-means, entries-mean, above-means, cost-means}
@@ -23,7 +24,6 @@ use Rattle.definitions.specs.Refusals.{Line, tried, noneAbove, firstAbove, badC
 use Rattle.definitions.specs.Roots.{rootsOf}
 use Rattle.definitions.specs.Tools.{smallest}
 use Rattle.definitions.specs.Weights.{matrix, cost}
-use Rattle.exports.specs.Crossing.{Narrow}
 use Rattle.instances.proofs.Codes.{sixteen-field}
 use Rattle.root_tree.proofs.Roots.{roots-at-most}
 use Rattle.matrix.proofs.Columns.{cost-small}

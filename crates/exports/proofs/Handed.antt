@@ -10,11 +10,11 @@ use lib.ListN.{length}
 use Rattle.counter.specs.Handing.{isOpen, front, opened, bothOpened}
 use Rattle.counter.specs.Judging.{judgeAnswer, bothAnswer}
 use Rattle.counter.specs.declared.Settings.{Settings}
+use Rattle.crossing.specs.Held.{judgementOf, holder, heldAnswer}
+use Rattle.crossing.specs.declared.judging.Judgement as crossing
 use Rattle.definitions.proofs.Tools.{split}
 use Rattle.definitions.specs.Answers.{Answer}
 use Rattle.definitions.specs.Field.{Code}
-use Rattle.exports.specs.Held.{judgementOf, holder, heldAnswer}
-use Rattle.exports.specs.declared.judging.Judgement as crossing
 
 -- list 2 is the second, any other number the first
 abbrev numbered : RefT (List ℕ) → RefT (List ℕ) → ℕ → RefT (List ℕ)

@@ -7,6 +7,7 @@ use Prim.Native.Nat.{ℕ, _+_, _*_, _-_, _≤_}
 use native.Mathlib.Omega.{arith}
 use borrow.Author.Tests.{ltb-true}
 use lib.ListN.{length, getD, length-set}
+use Rattle.crossing.specs.Crossing.{Narrow}
 use Rattle.definitions.proofs.Bound.{bound-le}
 use Rattle.definitions.proofs.Editing.{position-means, stored-means, length-added, out-of-two, out-of-three}
 use Rattle.definitions.proofs.Held.{cost-none, cost-filled, length-cleared, cost-bytes}
@@ -20,7 +21,6 @@ use Rattle.definitions.specs.Limits.{greatestLevel}
 use Rattle.definitions.specs.Listing.{listOf}
 use Rattle.definitions.specs.Weights.{cost}
 use Rattle.exports.proofs.Fits.{counted-narrow, costed-narrow, refused-narrow, narrow, at-none, at-first, found-narrow, so-refused, Few, few-narrow}
-use Rattle.exports.specs.Crossing.{Narrow}
 use Rattle.matrix.proofs.Columns.{cost-small}
 
 -- a refusal at the lowest place of an entry above 5

@@ -7,12 +7,12 @@ use Prim.Native.Nat.{ℕ}
 use Rattle.refusals.proofs.Unique.{one-counted}
 use Rattle.refusals.specs.Counted.{toldCounted}
 use Rattle.refusals.specs.declared.Counted.{Counted}
+use Rattle.crossing.specs.Crossing.{answerOf}
+use Rattle.crossing.specs.declared.Answer as crossing
 use Rattle.definitions.specs.Answers.{Answer, sumAnswer, productAnswer, inverseAnswer, encodeAnswer, encodeOut, multiplicitiesAnswer, multiplicitiesOut, costAnswer, InterpolationAnswers, rootsAnswer, rootsOut, listAnswer, listRows, listScores, readAnswer, readRows, readScores}
 use Rattle.definitions.specs.Editing.{heldCostAnswer, HeldInterpolationAnswers, heldListAnswer, heldListRows, heldListScores}
 use Rattle.definitions.specs.Field.{sixteen}
 use Rattle.definitions.specs.Held.{Held}
-use Rattle.exports.specs.Crossing.{answerOf}
-use Rattle.exports.specs.declared.Answer as crossing
 use Rattle.field.proofs.Unique.{one-element}
 use Rattle.field.specs.Element.{toldElement}
 use Rattle.field.specs.declared.Element.{Element}

@@ -1,24 +1,12 @@
 // The entries for C of a matrix record: n and cost cross as numbers, totals and entries as lent memory that an edit writes in place.
 ghost use mathlib.Core.Path.{_≡_};
 ghost use Prim.Native.Nat.{_≤_};
+ghost use Rattle.crossing.specs.Crossing.{answerOf};
 ghost use Rattle.definitions.specs.Editing.{lentFreshHeld, lentFreshAnswer, lentBytesHeld, lentBytesAnswer, setHeld, setAnswer, clearHeld, clearAnswer, addHeld, addAnswer, heldCostAnswer, HeldInterpolationAnswers, heldListAnswer, heldListRows, heldListScores};
 ghost use Rattle.definitions.specs.Field.{sixteen};
 ghost use Rattle.definitions.specs.Held.{held};
 ghost use Rattle.definitions.specs.Limits.{greatestRows};
-ghost use Rattle.exports.specs.Crossing.{answerOf, Narrow};
-ghost use Rattle.edits.specs.Priced.{toldPriced};
-use crate::Answer;
-use edits::Priced;
-
-fn priced(p: Priced) -> Answer
-    requires { ⌜ Narrow (toldPriced p) ⌝ }
-    ensures { λ a. ⌜ answerOf a ≡ toldPriced p ⌝ }
-{
-    match p {
-        Priced::Cost(cost) => crate::accepted(0, 0, crate::narrow(cost), 0),
-        Priced::Refused(r) => crate::refused(r),
-    }
-}
+use crossing::Answer;
 
 #[no_mangle]
 pub extern "C" fn kv_matrix_fresh(n: usize, totals: &mut [u16], entries: &mut [u8]) -> Answer
@@ -26,7 +14,7 @@ pub extern "C" fn kv_matrix_fresh(n: usize, totals: &mut [u16], entries: &mut [u
     ensures total_memory { λ _. ⌜ now (totals .exit) ≡ lentFreshHeld sixteen n (now (totals .entry)) (now (entries .entry)) .totals ⌝ }
     ensures entry_memory { λ _. ⌜ now (entries .exit) ≡ lentFreshHeld sixteen n (now (totals .entry)) (now (entries .entry)) .entries ⌝ }
 {
-    priced(parts::fresh(n, totals, entries))
+    crossing::priced(parts::fresh(n, totals, entries))
 }
 
 #[no_mangle]
@@ -40,7 +28,7 @@ pub extern "C" fn kv_matrix_of_bytes(
     ensures total_memory { λ _. ⌜ now (totals .exit) ≡ lentBytesHeld sixteen n (now (bytes .entry)) (now (totals .entry)) (now (entries .entry)) .totals ⌝ }
     ensures entry_memory { λ _. ⌜ now (entries .exit) ≡ lentBytesHeld sixteen n (now (bytes .entry)) (now (totals .entry)) (now (entries .entry)) .entries ⌝ }
 {
-    priced(parts::of_bytes(n, bytes, totals, entries))
+    crossing::priced(parts::of_bytes(n, bytes, totals, entries))
 }
 
 #[no_mangle]
@@ -57,7 +45,7 @@ pub extern "C" fn kv_matrix_set_entry(
     ensures total_memory { λ _. ⌜ now (totals .exit) ≡ setHeld sixteen (held n cost (now (totals .entry)) (now (entries .entry))) position symbol entry .totals ⌝ }
     ensures entry_memory { λ _. ⌜ now (entries .exit) ≡ setHeld sixteen (held n cost (now (totals .entry)) (now (entries .entry))) position symbol entry .entries ⌝ }
 {
-    priced(parts::set_entry(n, cost, totals, entries, position, symbol, entry))
+    crossing::priced(parts::set_entry(n, cost, totals, entries, position, symbol, entry))
 }
 
 #[no_mangle]
@@ -72,7 +60,7 @@ pub extern "C" fn kv_matrix_clear_column(
     ensures total_memory { λ _. ⌜ now (totals .exit) ≡ clearHeld sixteen (held n cost (now (totals .entry)) (now (entries .entry))) position .totals ⌝ }
     ensures entry_memory { λ _. ⌜ now (entries .exit) ≡ clearHeld sixteen (held n cost (now (totals .entry)) (now (entries .entry))) position .entries ⌝ }
 {
-    priced(parts::clear_column(n, cost, totals, entries, position))
+    crossing::priced(parts::clear_column(n, cost, totals, entries, position))
 }
 
 #[no_mangle]
@@ -90,7 +78,7 @@ pub extern "C" fn kv_matrix_add(
     ensures total_memory { λ _. ⌜ now (totals .exit) ≡ addHeld sixteen (held n cost (now (totals .entry)) (now (entries .entry))) (held «other_n» «other_cost» (now («other_totals» .entry)) (now («other_entries» .entry))) .totals ⌝ }
     ensures entry_memory { λ _. ⌜ now (entries .exit) ≡ addHeld sixteen (held n cost (now (totals .entry)) (now (entries .entry))) (held «other_n» «other_cost» (now («other_totals» .entry)) (now («other_entries» .entry))) .entries ⌝ }
 {
-    priced(parts::add(
+    crossing::priced(parts::add(
         n,
         cost,
         totals,
@@ -112,7 +100,7 @@ pub extern "C" fn kv_matrix_cost_and_bound(
 ) -> Answer
     ensures { λ r. ⌜ answerOf r ≡ heldCostAnswer sixteen (held n cost (now (totals .entry)) (now (entries .entry))) k ⌝ }
 {
-    crate::costed(weights::cost_and_bound_of_parts(n, cost, totals, entries, k))
+    crossing::costed(weights::cost_and_bound_of_parts(n, cost, totals, entries, k))
 }
 
 #[no_mangle]
@@ -127,7 +115,15 @@ pub extern "C" fn kv_matrix_interpolate(
 ) -> Answer
     ensures { λ r. ⌜ HeldInterpolationAnswers sixteen (held n cost (now (totals .entry)) (now (entries .entry))) k limit (now (out .entry)) (answerOf r) (now (out .exit)) ⌝ }
 {
-    crate::interpolated(interpolation::interpolate_parts(n, cost, totals, entries, k, limit, out))
+    crossing::interpolated(interpolation::interpolate_parts(
+        n,
+        cost,
+        totals,
+        entries,
+        k,
+        limit,
+        out,
+    ))
 }
 
 #[no_mangle]
@@ -146,5 +142,5 @@ pub extern "C" fn kv_matrix_list(
     ensures score_memory { λ _. ⌜ now (scores .exit) ≡ heldListScores sixteen (held n cost (now (totals .entry)) (now (entries .entry))) k limit (now (rows .entry)) (now (scores .entry)) ⌝ }
     ensures few { λ r. ⌜ answerOf r .count ≤ greatestRows ⌝ }
 {
-    crate::counted(list::list_of_parts(n, cost, totals, entries, k, limit, rows, scores))
+    crossing::counted(list::list_of_parts(n, cost, totals, entries, k, limit, rows, scores))
 }

@@ -5,9 +5,9 @@ use native.Mathlib.Omega.{arith}
 use borrow.Author.Needs.{needs}
 use Rattle.counter.proofs.Opening.{both-open-sized}
 use Rattle.counter.specs.Handing.{isOpen}
+use Rattle.crossing.specs.Held.{settingsOf, heldAnswer}
 use Rattle.definitions.specs.Answers.{Answer}
 use Rattle.definitions.specs.Field.{sixteen}
-use Rattle.exports.specs.Held.{settingsOf, heldAnswer}
 use Rattle.exports.proofs.judging.kv_open_both.Statement.{statement}
 use Rattle.exports.proofs.judging.kv_open_both.Tie as tie
 

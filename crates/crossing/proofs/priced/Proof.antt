@@ -4,8 +4,8 @@ use Prim.Native.Nat.{ℕ}
 use Rattle.definitions.specs.Answers.{costed}
 use Rattle.edits.specs.Priced.{toldPriced}
 use borrow.Author.Needs.{needs}
-use Rattle.exports.proofs.editing.priced.Statement.{statement}
-use Rattle.exports.proofs.editing.priced.Tie as tie
+use Rattle.crossing.proofs.priced.Statement.{statement}
+use Rattle.crossing.proofs.priced.Tie as tie
 
 narrow-requires : tie.Need-narrow-requires
 narrow-requires c κs = (rw (c .before .p .given .1) at (c .before .before .before .pre)) .cost

@@ -7,7 +7,7 @@ use Rattle.counter.specs.Handing.{isOpen}
 use Rattle.counter.specs.Judging.{ofJudged}
 use Rattle.counter.specs.declared.Settings.{Settings}
 use Rattle.definitions.specs.Answers.{Answer}
-use Rattle.exports.specs.declared.judging.Judgement as crossing
+use Rattle.crossing.specs.declared.judging.Judgement as crossing
 
 -- field by field
 abbrev pub judgementOf : crossing.Judgement → Answer

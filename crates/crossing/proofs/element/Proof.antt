@@ -2,8 +2,8 @@
 use mathlib.Core.Path.{sym, _∙_, ap}
 use Rattle.field.specs.Element.{toldElement}
 use borrow.Author.Needs.{needs}
-use Rattle.exports.proofs.element.Statement.{statement}
-use Rattle.exports.proofs.element.Tie as tie
+use Rattle.crossing.proofs.element.Statement.{statement}
+use Rattle.crossing.proofs.element.Tie as tie
 
 enum-known-e : tie.Need-enum-known-e
 enum-known-e c = search needs

@@ -3,8 +3,8 @@ use mathlib.Core.Path.{sym, _∙_, ap}
 use Rattle.refusals.specs.Counted.{toldCounted}
 use Rattle.definitions.specs.Answers.{counted}
 use borrow.Author.Needs.{needs}
-use Rattle.exports.proofs.counted.Statement.{statement}
-use Rattle.exports.proofs.counted.Tie as tie
+use Rattle.crossing.proofs.counted.Statement.{statement}
+use Rattle.crossing.proofs.counted.Tie as tie
 
 enum-known-c : tie.Need-enum-known-c
 enum-known-c c = search needs

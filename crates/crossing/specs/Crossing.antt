@@ -2,7 +2,7 @@
 -- Assumes nothing.
 use Prim.Native.Nat.{_<_}
 use Rattle.definitions.specs.Answers.{Answer}
-use Rattle.exports.specs.declared.Answer as crossing
+use Rattle.crossing.specs.declared.Answer as crossing
 
 -- field by field
 abbrev pub answerOf : crossing.Answer → Answer

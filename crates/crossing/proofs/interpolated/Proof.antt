@@ -3,8 +3,8 @@ use mathlib.Core.Path.{sym, _∙_, ap, ap₂}
 use Rattle.definitions.specs.Answers.{interpolated}
 use Rattle.interpolation.specs.Interpolated.{toldInterpolated}
 use borrow.Author.Needs.{needs}
-use Rattle.exports.proofs.interpolated.Statement.{statement}
-use Rattle.exports.proofs.interpolated.Tie as tie
+use Rattle.crossing.proofs.interpolated.Statement.{statement}
+use Rattle.crossing.proofs.interpolated.Tie as tie
 
 enum-known-i : tie.Need-enum-known-i
 enum-known-i c = search needs

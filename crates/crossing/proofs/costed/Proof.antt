@@ -3,8 +3,8 @@ use mathlib.Core.Path.{sym, _∙_, ap, ap₂}
 use Rattle.definitions.specs.Answers.{costed}
 use Rattle.weights.specs.Costed.{toldCosted}
 use borrow.Author.Needs.{needs}
-use Rattle.exports.proofs.costed.Statement.{statement}
-use Rattle.exports.proofs.costed.Tie as tie
+use Rattle.crossing.proofs.costed.Statement.{statement}
+use Rattle.crossing.proofs.costed.Tie as tie
 
 enum-known-c : tie.Need-enum-known-c
 enum-known-c c = search needs
