@@ -14,7 +14,7 @@ use Rattle.audit.specs.Words.{Accepted, products}
 use Rattle.definitions.proofs.Editing.{added-at, length-added, sameSize-means, stored-means}
 use Rattle.definitions.proofs.Held.{Rightly, length-totals, total-at}
 use Rattle.definitions.proofs.Sums.{sum-both}
-use Rattle.definitions.proofs.Table.{Accepts, next, end, accepts, not-refused, size-means}
+use Rattle.definitions.proofs.Table.{Accepts, next, end, accepts, zero-accepts, size-means}
 use Rattle.definitions.proofs.Tools.{sum-ext}
 use Rattle.definitions.proofs.Weights.{entry-cost-sum}
 use Rattle.definitions.specs.Answers.{costed}
@@ -133,5 +133,5 @@ module _ (C : Code) (h o : Held) where
 
   pub laws-of-sum : Accepted C h o → SumLaws C h o
   laws-of-sum taken =
-      let lines = not-refused (addTable C h o) (costed (summed .cost) 0) refl taken in
+      let lines = zero-accepts (addTable C h o) (costed (summed .cost) 0) refl taken in
       laws-of-lines lines (sym (accepts (λ _ _. h) summed lines))

@@ -1,4 +1,4 @@
 pub mod Placed
 pub mod Counts
-pub mod Masks
+pub mod MaskedRows
 pub mod Vanishing

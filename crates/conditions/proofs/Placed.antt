@@ -12,7 +12,7 @@ use Rattle.definitions.proofs.Joined.{join-nil, join-below, joined-count}
 use Rattle.definitions.proofs.Tools.{below-zero, length-map-below, map-below}
 use Rattle.definitions.specs.Tools.{below}
 use Rattle.blocks.specs.Row.{ZeroFrom}
-use Rattle.conditions.specs.Masks.{Clear}
+use Rattle.conditions.specs.MaskedRows.{Clear}
 
 -- two runs of rows, one after the other
 sets-append : {A : Type 0} (o : List A) (at : ℕ) (l k : List A) → sets o at (l ++ k) ≡ sets (sets o at l) (at + length l) k

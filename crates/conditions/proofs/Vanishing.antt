@@ -31,8 +31,8 @@ use Rattle.monomials.proofs.Rows.{powers-symbols}
 use Rattle.monomials.proofs.Walk.{walked-le, x-within, y-within, walked-monomial}
 use Rattle.monomials.specs.Rows.{exponentRows, powersRow, valuesRow}
 use Rattle.monomials.specs.Walk.{walked}
-use Rattle.conditions.proofs.Masks.{base-symbol}
-use Rattle.conditions.specs.Masks.{askedAt, baseAt}
+use Rattle.conditions.proofs.MaskedRows.{base-symbol}
+use Rattle.conditions.specs.MaskedRows.{askedAt, baseAt}
 
 -- the test of a power of y at the symbol b: at 0 it is the order, else it has the order's bits
 abbrev testAt : ℕ → ℕ → ℕ → Bool

@@ -7,7 +7,7 @@ ghost use Rattle.definitions.specs.Code.{Symbols};
 ghost use Rattle.definitions.specs.Field.{sixteen};
 ghost use Rattle.field.specs.Table.{Products};
 ghost use Rattle.monomials.specs.Rows.{Places};
-ghost use Rattle.conditions.specs.Masks.{Clear, askedAt, baseAt, keptOrder, keptOrders, maskedPoint, maskedColumn, maskedRows};
+ghost use Rattle.conditions.specs.MaskedRows.{Clear, askedAt, baseAt, keptOrder, keptOrders, maskedPoint, maskedColumn, maskedRows};
 ghost use Rattle.blocks.specs.Row.{width, block};
 use blocks::BLOCK;
 use blocks::WIDTH;

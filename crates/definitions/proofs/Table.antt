@@ -44,12 +44,12 @@ numbered [] = true
 numbered (l ∷ table) = not (eqb (l .number) 0) && numbered table
 
 -- so a call that answers the number 0 is accepted
-pub not-refused : (table : List Line) (accepted : Answer) → numbered table ≡ true → tried table refused accepted .number ≡ 0 → Accepts table
-not-refused [] accepted some e = end
-not-refused (l ∷ table) accepted some e =
+pub zero-accepts : (table : List Line) (accepted : Answer) → numbered table ≡ true → tried table refused accepted .number ≡ 0 → Accepts table
+zero-accepts [] accepted some e = end
+zero-accepts (l ∷ table) accepted some e =
     let b = both (not (eqb (l .number) 0)) (numbered table) some in
     split (l .given) (λ g. absurd (eqb-false (l .number) 0 (not-true (eqb (l .number) 0) (b .0)) (rw g at e)))
-    (λ g. next g (not-refused table accepted (b .1) (rw g at e)))
+    (λ g. next g (zero-accepts table accepted (b .1) (rw g at e)))
 
 -- what a line says of a call that passes it
 pub sizes-mean : (C : Code) (n k : ℕ) → sizes C n k .given ≡ false → (2 ≤ k) × (k ≤ n) × (n ≤ C .positions)

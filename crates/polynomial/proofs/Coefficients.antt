@@ -10,7 +10,7 @@ use native.Mathlib.Omega.{arith}
 use lib.ListN.{length, take, drop, getD, set, length-set}
 use lib.Seq.{sets, length-sets, getD-set-same, getD-set-other}
 use Rattle.algebra.specs.FieldOf.{FieldOf}
-use Rattle.conditions.specs.Masks.{maskedRows}
+use Rattle.conditions.specs.MaskedRows.{maskedRows}
 use Rattle.definitions.proofs.Bound.{bound-le, bound-is-least}
 use Rattle.definitions.proofs.Powers.{coefficients-fit}
 use Rattle.definitions.proofs.Zeros.{isZero-of-zeros, isZero-false}

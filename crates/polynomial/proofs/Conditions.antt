@@ -13,9 +13,9 @@ use Rattle.algebra.specs.Dot.{dot}
 use Rattle.algebra.specs.FieldOf.{FieldOf}
 use Rattle.algebra.specs.Grid.{entryOf}
 use Rattle.conditions.proofs.Counts.{point-cost}
-use Rattle.conditions.proofs.Masks.{length-orderAt}
+use Rattle.conditions.proofs.MaskedRows.{length-orderAt}
 use Rattle.conditions.proofs.Vanishing.{conditionRow, length-conditionRow, conditionRow-symbols, row-vanishes}
-use Rattle.conditions.specs.Masks.{baseAt, orderAt, maskedPoint, pointAt, maskedColumn, columnAt, maskedRows}
+use Rattle.conditions.specs.MaskedRows.{baseAt, orderAt, maskedPoint, pointAt, maskedColumn, columnAt, maskedRows}
 use Rattle.monomials.specs.Rows.{exponentRows, powersRow, valuesRow}
 use Rattle.definitions.proofs.Joined.{join-member, member-join, length-join}
 use Rattle.definitions.proofs.Ordered.{member-at}

@@ -10,7 +10,7 @@ use Rattle.algebra.proofs.Elements.{zero-symbol}
 use Rattle.algebra.specs.FieldOf.{FieldOf}
 use Rattle.blocks.proofs.Filled.{zeros-from}
 use Rattle.blocks.specs.Row.{width, ZeroFrom}
-use Rattle.conditions.specs.Masks.{Clear}
+use Rattle.conditions.specs.MaskedRows.{Clear}
 use Rattle.definitions.specs.Field.{Code}
 use Rattle.pivots.specs.System.{System}
 

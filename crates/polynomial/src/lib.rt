@@ -2,7 +2,7 @@
 ghost use Prim.Native.Nat.{_*_, _≤_, _<_};
 ghost use lib.ListN.{length};
 ghost use Rattle.definitions.specs.Field.{sixteen};
-ghost use Rattle.conditions.specs.Masks.{Clear};
+ghost use Rattle.conditions.specs.MaskedRows.{Clear};
 ghost use Rattle.linear.specs.Rows.{Led};
 ghost use Rattle.polynomial.specs.Found.{middleRows, upperRows, Given, Found};
 ghost use Rattle.blocks.specs.Row.{block};

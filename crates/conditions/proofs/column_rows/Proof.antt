@@ -7,7 +7,7 @@ use borrow.Author.Needs.{needs}
 use lib.ListN.{length, getD}
 use lib.Seq.{sets}
 use Rattle.conditions.proofs.Placed.{joined-none, none-counted, joined-more, count-more, clear-behind}
-use Rattle.conditions.specs.Masks.{maskedPoint, pointAt}
+use Rattle.conditions.specs.MaskedRows.{maskedPoint, pointAt}
 use Rattle.blocks.specs.Row.{block}
 use Rattle.definitions.proofs.Joined.{joined-room}
 use Rattle.definitions.specs.Field.{sixteen}

@@ -12,7 +12,7 @@ use Rattle.algebra.proofs.Numbers.{point-symbol}
 use Rattle.monomials.proofs.Rows.{powers-symbols, exponents-places}
 use Rattle.monomials.specs.Rows.{Places, powersRow}
 use Rattle.conditions.proofs.Placed.{joined-none, none-counted, joined-more, count-more, clear-behind}
-use Rattle.conditions.specs.Masks.{maskedColumn, columnAt, maskedRows}
+use Rattle.conditions.specs.MaskedRows.{maskedColumn, columnAt, maskedRows}
 use Rattle.definitions.proofs.Codeword.{power-zero, power-suc}
 use Rattle.definitions.proofs.Joined.{joined-room}
 use Rattle.definitions.specs.Code.{Symbols, point}

@@ -8,7 +8,7 @@ use lib.Seq.{sets}
 use Rattle.blocks.specs.Row.{block}
 use Rattle.conditions.proofs.Placed.{rows-none, rows-more, clear-behind}
 use Rattle.masks.specs.Masks.{keptRow}
-use Rattle.conditions.specs.Masks.{askedAt, keptOrder}
+use Rattle.conditions.specs.MaskedRows.{askedAt, keptOrder}
 use Rattle.definitions.proofs.Tools.{length-map-below}
 use Rattle.conditions.proofs.order_rows.Statement.{statement}
 use Rattle.conditions.proofs.order_rows.Tie as tie

@@ -6,10 +6,10 @@ use native.Mathlib.Omega.{arith}
 use borrow.Author.Needs.{needs}
 use lib.ListN.{length, getD}
 use lib.Seq.{sets}
-use Rattle.conditions.proofs.Masks.{length-orderAt}
+use Rattle.conditions.proofs.MaskedRows.{length-orderAt}
 use Rattle.conditions.proofs.Placed.{joined-none, none-counted, joined-more, count-more, clear-behind}
 use Rattle.masks.specs.Masks.{keptEntry}
-use Rattle.conditions.specs.Masks.{keptOrder, orderAt}
+use Rattle.conditions.specs.MaskedRows.{keptOrder, orderAt}
 use Rattle.blocks.proofs.Filled.{filled-zeros, zeros-from}
 use Rattle.blocks.specs.Row.{block, ZeroFrom}
 use Rattle.definitions.proofs.Joined.{joined-room}

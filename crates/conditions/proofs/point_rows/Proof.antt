@@ -8,8 +8,8 @@ use lib.ListN.{length}
 use lib.Seq.{sets}
 use Rattle.monomials.proofs.Rows.{powers-symbols}
 use Rattle.monomials.specs.Rows.{powersRow, valuesRow}
-use Rattle.conditions.proofs.Masks.{orders-none, base-symbol}
-use Rattle.conditions.specs.Masks.{baseAt, keptOrders}
+use Rattle.conditions.proofs.MaskedRows.{orders-none, base-symbol}
+use Rattle.conditions.specs.MaskedRows.{baseAt, keptOrders}
 use Rattle.blocks.proofs.Filled.{zeros-from}
 use Rattle.blocks.specs.Row.{block}
 use Rattle.definitions.specs.Code.{Symbols}

@@ -12,7 +12,7 @@ use Rattle.definitions.proofs.Tools.{below-zero, length-map-below}
 use Rattle.definitions.specs.Field.{Code}
 use Rattle.definitions.specs.Tools.{below}
 use Rattle.masks.specs.Masks.{keptRow}
-use Rattle.conditions.specs.Masks.{askedAt, baseAt, orderAt, keptOrders}
+use Rattle.conditions.specs.MaskedRows.{askedAt, baseAt, orderAt, keptOrders}
 
 -- the rows of one order by x are as many as orders by y are left
 pub length-orderAt : (blocks : ℕ) (row : List ℕ) (es : List (List ℕ)) (b m s : ℕ) → length (orderAt blocks row es b m s) ≡ m - s
