@@ -2,19 +2,17 @@
 -- Assumes nothing.
 use mathlib.Core.Bool.{true, false}
 use mathlib.Core.List.{List, [], _∷_}
-use mathlib.Core.Path.{_≡_, sym, _∙_, ap}
+use mathlib.Core.Path.{_≡_, sym, ap}
 use Prim.Native.Nat.{ℕ, _+_, _≤_}
 use native.Mathlib.Omega.{arith}
 use borrow.Author.Tests.{le-leb, le-ltb, eq-eqb}
 use lib.ListN.{getD}
-use Rattle.audit.proofs.Added.{sum-at}
 use Rattle.audit.specs.Words.{Accepted}
-use Rattle.definitions.proofs.Editing.{none-yet, low-too}
+use Rattle.definitions.proofs.Editing.{sum-passed, none-found}
 use Rattle.definitions.proofs.Held.{rightly-means}
 use Rattle.definitions.proofs.Table.{Accepts, next, end, accepts}
-use Rattle.definitions.proofs.Tools.{smallest-is}
 use Rattle.definitions.specs.Answers.{Answer, refused, costed}
-use Rattle.definitions.specs.Editing.{anyAbove, sameSize, stored, lowestAbove, inOrOut, addTable}
+use Rattle.definitions.specs.Editing.{sameSize, stored, lowestAbove, inOrOut, addTable}
 use Rattle.definitions.specs.Field.{Code}
 use Rattle.definitions.specs.Held.{Held, places, heldOf, withAdded, rightly}
 use Rattle.definitions.specs.Limits.{greatestLevel}
@@ -32,25 +30,16 @@ module _ (C : Code) (h o : Held) (some : 2 ≤ h .n) (few : h .n ≤ C .position
   stored-passed x r = rw r
 
   -- what goes in and what comes out
-  three : List (List ℕ)
+  abbrev three : List (List ℕ)
   three = h .entries ∷ o .entries ∷ withAdded (h .entries) (o .entries) ∷ []
-
-  none-above : (j : ℕ) → anyAbove three j ≡ false
-  unfolding three
-  none-above j =
-      let l = low j in
-      let s = sum-at (h .entries) (o .entries) (rightly-means C h rh .full ∙ sym (rightly-means C o ro .full)) j in
-      low-too j (h .entries) (o .entries ∷ withAdded (h .entries) (o .entries) ∷ []) (omega arith)
-      (low-too j (o .entries) (withAdded (h .entries) (o .entries) ∷ []) (omega arith)
-      (low-too j (withAdded (h .entries) (o .entries)) [] (omega arith) (none-yet j)))
 
   entries-passed : inOrOut C three .given ≡ false
   entries-passed =
-      let past : lowestAbove C three ≡ places C = smallest-is (anyAbove three) (places C) (places C) (omega arith) (λ j _. none-above j) (λ l. let z : ⊥ = omega arith in absurd z) in
+      let full = rightly-means C h rh .full in
+      let past = none-found C (h .entries) full (o .entries) (places C) (λ j l. sum-passed C (h .entries) full (o .entries) j (omega arith) (low j)) (omega arith) in
       le-ltb (lowestAbove C three) (places C) (omega arith)
 
   lines : Accepts (addTable C h o)
-  unfolding three
   lines = next size-passed (next same-passed (next (stored-passed h rh) (next (stored-passed o ro) (next entries-passed end))))
 
   pub accepted : Accepted C h o

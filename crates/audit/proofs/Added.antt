@@ -5,14 +5,13 @@ use mathlib.Core.List.{List}
 use mathlib.Core.Path.{_≡_, refl, sym, _∙_, ap, ap₂}
 use Prim.Native.Nat.{ℕ, _+_, _*_, _≤_}
 use native.Mathlib.Decide.{decLt}
-use native.Mathlib.Nat.{mul-le-mul-left}
 use native.Mathlib.Omega.{arith}
 use lib.ListN.{length, getD, take, List·getD-eq-default}
 use lib.Seq.{ext-getD, getD-take, length-take-le}
 use Rattle.audit.specs.Laws.{SumLaws}
 use Rattle.audit.specs.Words.{Accepted, products}
 use Rattle.definitions.proofs.Editing.{added-at, length-added, sameSize-means, stored-means}
-use Rattle.definitions.proofs.Held.{Rightly, length-totals, total-at}
+use Rattle.definitions.proofs.Held.{Rightly, length-totals, total-at, used-within}
 use Rattle.definitions.proofs.Sums.{sum-both}
 use Rattle.definitions.proofs.Table.{Accepts, next, end, accepts, zero-accepts, size-means}
 use Rattle.definitions.proofs.Tools.{sum-ext}
@@ -27,7 +26,7 @@ use Rattle.definitions.specs.Weights.{entry, sumOfColumn, entryCost, cost, scor
 
 module _ (d e : List ℕ) (same : length d ≡ length e) where
   -- every place, also one past the end
-  pub sum-at : (j : ℕ) → getD (withAdded d e) j 0 ≡ getD d j 0 + getD e j 0
+  sum-at : (j : ℕ) → getD (withAdded d e) j 0 ≡ getD d j 0 + getD e j 0
   sum-at j =
       elim (decLt j (length d)) [
         | yes h ↦ added-at d e j h
@@ -94,7 +93,7 @@ module _ (C : Code) (h o : Held) where
       full = r .full ∙ sym (s .full)
 
       within : C .symbols * h .n ≤ length (h .entries)
-      within = let w = mul-le-mul-left (C .symbols) small in let e = r .full in omega arith
+      within = used-within C h r small
 
       bytes : bytesOf C summed ≡ withAdded (bytesOf C h) (bytesOf C o)
       bytes =

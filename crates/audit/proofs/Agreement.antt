@@ -91,17 +91,18 @@ module _ (C : Code) (F : FieldOf C) (n k : ℕ) (f g : List ℕ) (hn : n ≤ C .
       ∙ ap (F .number .φ) (equal-of-sum (F .ring) a b (sym (coefficient-plus (F .ring) (elements C F f) (elements C F g) t) ∙ all-zero many t))
       ∙ number-entry C F g (mg .1) t)
 
-  pub agree-at-most : f ≢ g → agreeing n (codeword C n f) (codeword C n g) ≤ k - 1
-  agree-at-most other =
+  agree-below : f ≢ g → agreeing n (codeword C n f) (codeword C n g) < k
+  agree-below other =
       elim (decLt (agreeing n (codeword C n f) (codeword C n g)) k) [
-        | yes few ↦ omega arith
+        | yes few ↦ few
         | no many ↦ absurd (other (same-of-agreement (omega arith)))
       ]
+
+  pub agree-at-most : f ≢ g → agreeing n (codeword C n f) (codeword C n g) ≤ k - 1
+  agree-at-most other = let few = agree-below other in omega arith
 
   pub differ-at-least : k ≤ n → f ≢ g → n - k + 1 ≤ differing n (codeword C n f) (codeword C n g)
   differ-at-least hk other =
       let both = agree-or-differ n (codeword C n f) (codeword C n g) in
-      elim (decLt (agreeing n (codeword C n f) (codeword C n g)) k) [
-        | yes few ↦ omega arith
-        | no many ↦ absurd (other (same-of-agreement (omega arith)))
-      ]
+      let few = agree-below other in
+      omega arith

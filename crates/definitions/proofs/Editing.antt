@@ -101,6 +101,11 @@ module _ (C : Code) (e : List ℕ) (full : length e ≡ places C) where
       (λ j h. let below = cleared-below C e i (omega arith) j in let low = before-above greatestLevel e j h in omega arith)
 
   -- of a sum: it is above wherever one of both is
+  pub sum-passed : (d : List ℕ) (i : ℕ) → i < length e → getD e i 0 + getD d i 0 ≤ greatestLevel → anyAbove (e ∷ d ∷ withAdded e d ∷ []) i ≡ false
+  sum-passed d i h low =
+      let here = added-at e d i h in
+      low-too i e (d ∷ withAdded e d ∷ []) (omega arith) (low-too i d (withAdded e d ∷ []) (omega arith) (low-too i (withAdded e d) [] (omega arith) (none-yet i)))
+
   module _ (d : List ℕ) (i : ℕ) (passed : (j : ℕ) → j < i → anyAbove (e ∷ d ∷ withAdded e d ∷ []) j ≡ false) where
     pub sum-found : i < length e → greatestLevel < getD e i 0 + getD d i 0 → i ≡ lowestAbove C (e ∷ d ∷ withAdded e d ∷ [])
     sum-found h bad =
@@ -109,13 +114,8 @@ module _ (C : Code) (e : List ℕ) (full : length e ≡ places C) where
         (smallest-is (anyAbove (e ∷ d ∷ withAdded e d ∷ [])) (places C) i (omega arith) passed
         (λ _. above-later i e (d ∷ withAdded e d ∷ []) (above-later i d (withAdded e d ∷ []) (above-here i (withAdded e d) [] (omega arith)))))
 
-    pub sum-passed : i < length e → getD e i 0 + getD d i 0 ≤ greatestLevel → anyAbove (e ∷ d ∷ withAdded e d ∷ []) i ≡ false
-    sum-passed h low =
-        let here = added-at e d i h in
-        low-too i e (d ∷ withAdded e d ∷ []) (omega arith) (low-too i d (withAdded e d ∷ []) (omega arith) (low-too i (withAdded e d) [] (omega arith) (none-yet i)))
-
-    pub sum-none : length e ≤ i → places C ≡ lowestAbove C (e ∷ d ∷ withAdded e d ∷ [])
-    sum-none h =
+    pub none-found : length e ≤ i → places C ≡ lowestAbove C (e ∷ d ∷ withAdded e d ∷ [])
+    none-found h =
         sym
         (smallest-is (anyAbove (e ∷ d ∷ withAdded e d ∷ [])) (places C) (places C) (omega arith) (λ j l. passed j (omega arith))
         (λ l. let z : ⊥ = omega arith in absurd z))

@@ -301,7 +301,7 @@ module _ (C : Code) where
       rw (eq-eqb (length (h .totals)) (C .positions) size, eq-eqb (length (h .entries)) (places C) (r .full), totals, eq-eqb (h .cost) (cost (h .entries)) (r .cost-is)) rest
 
   module _ (h : Held) (r : Rightly h) (small : h .n ≤ C .positions) where
-    used-within : C .symbols * h .n ≤ length (h .entries)
+    pub used-within : C .symbols * h .n ≤ length (h .entries)
     used-within = let w = mul-le-mul-left (C .symbols) small in let s = r .full in omega arith
 
     -- the stored cost is that of the bytes

@@ -8,7 +8,7 @@ use native.Mathlib.Omega.{arith}
 use borrow.Author.Count.{below-more}
 use borrow.Author.Needs.{needs}
 use lib.ListN.{length}
-use Rattle.definitions.proofs.Editing.{sum-found, sum-passed, sum-none}
+use Rattle.definitions.proofs.Editing.{sum-found, sum-passed, none-found}
 use Rattle.definitions.specs.Editing.{anyAbove}
 use Rattle.definitions.specs.Field.{sixteen}
 use Rattle.definitions.specs.Held.{withAdded}
@@ -38,13 +38,13 @@ loop-again c =
     let e = w .wide2 .ensures .0 in
     let d = w .before .before .wide .ensures .0 in
     below-more (λ (t : ℕ). anyAbove (s .args .entries .now ∷ s .args .others .now ∷ withAdded (s .args .entries .now) (s .args .others .now) ∷ []) t ≡ false) (l .loop .j) (l .loop .inv)
-    (sum-passed sixteen (s .args .entries .now) (s .pre .0) (s .args .others .now) (l .loop .j) (l .loop .inv) (omega arith) (omega arith))
+    (sum-passed sixteen (s .args .entries .now) (s .pre .0) (s .args .others .now) (l .loop .j) (omega arith) (omega arith))
 
 returns-2 : tie.Need-returns-2 Inv-loop μ-loop
 returns-2 c =
     let l = c .before in
     let s = l .before .before .before in
-    sum-none sixteen (s .args .entries .now) (s .pre .0) (s .args .others .now) (l .loop .j) (l .loop .inv) (omega arith)
+    none-found sixteen (s .args .entries .now) (s .pre .0) (s .args .others .now) (l .loop .j) (l .loop .inv) (omega arith)
 
 pub lowest-sum-spec : {M : Type 1} → statement M
 lowest-sum-spec =
