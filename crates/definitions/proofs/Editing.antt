@@ -1,7 +1,7 @@
 -- The edits of a matrix record: the lowest place of an entry above 5, what their lines say, and that after any sequence of them the stored
 -- numbers are those that the entries define.
 -- Assumes nothing.
-use mathlib.Core.Bool.{Bool, true, false, _||_, false≢true}
+use mathlib.Core.Bool.{true, false}
 use mathlib.Core.List.{List, [], _∷_}
 use mathlib.Core.Path.{_≡_, refl, sym, _∙_, ap, ap₂}
 use Prim.Native.Nat.{ℕ, _+_, _*_, _≤_, _<_}
@@ -15,7 +15,7 @@ use lib.Seq.{getD-set-same, getD-set-other}
 use Rattle.definitions.proofs.Held.{Rightly, rightly-means, length-cleared, cleared-below, length-filled, filled-behind}
 use Rattle.definitions.proofs.Refusals.{first-within, first-above, before-above}
 use Rattle.definitions.proofs.Table.{Accepts, next, end, whatever, last, or, size-means, entries-mean, above-means}
-use Rattle.definitions.proofs.Tools.{split, length-map-below, map-below-at, smallest-is, smallest-fails}
+use Rattle.definitions.proofs.Tools.{neither, split, length-map-below, map-below-at, smallest-is, smallest-fails}
 use Rattle.definitions.proofs.Zeros.{zero-at}
 use Rattle.definitions.specs.Editing.{anyAbove, edited, position, sameSize, symbol, stored, lowestAbove, inOrOut, noMatrix, freshTable, freshHeld, bytesTable, bytesHeld, setTable, setHeld, clearTable, clearHeld, addTable, addHeld}
 use Rattle.definitions.specs.Field.{Code}
@@ -25,10 +25,6 @@ use Rattle.definitions.specs.Refusals.{Line, firstAbove}
 use Rattle.definitions.specs.Tools.{below}
 
 -- ---- the lowest place
-
-either-false : (a b : Bool) → (a || b) ≡ false → (a ≡ false) × (b ≡ false)
-either-false true b e = absurd (false≢true (sym e))
-either-false false b e = (refl, e)
 
 module _ (j : ℕ) where
   pub none-yet : anyAbove [] j ≡ false
@@ -45,7 +41,7 @@ module _ (j : ℕ) where
 
   low-first : (e : List ℕ) (es : List (List ℕ)) → anyAbove (e ∷ es) j ≡ false → (getD e j 0 ≤ greatestLevel) × (anyAbove es j ≡ false)
   low-first e es n =
-      let b = either-false (ltb greatestLevel (getD e j 0)) (anyAbove es j) n in
+      let b = neither (ltb greatestLevel (getD e j 0)) (anyAbove es j) n in
       (ltb-false greatestLevel (getD e j 0) (b .0), b .1)
 
 -- an entry of the sum

@@ -46,3 +46,9 @@ module _ (test : ℕ → Bool) where
   -- one does not
   pub every-but : (n i : ℕ) → i < n → test i ≡ false → every n test ≡ false
   every-but n i h f = split (every n test) (λ t. absurd (true≢false (sym (every-at n i t h) ∙ f))) (λ e. e)
+
+-- two tests that agree on all of them
+pub every-same : (test other : ℕ → Bool) (n : ℕ) → ((i : ℕ) → i < n → test i ≡ other i) → every n test ≡ every n other
+every-same test other n same =
+    split (every n other) (λ t. every-of test n (λ i h. same i h ∙ every-at other n i t h) ∙ sym t)
+    (λ f. split (every n test) (λ t. absurd (true≢false (sym (every-of other n (λ i h. sym (same i h) ∙ every-at test n i t h)) ∙ f))) (λ g. g ∙ sym f))

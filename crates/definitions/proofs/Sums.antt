@@ -1,4 +1,4 @@
--- Sums taken apart: in two, term by term, in blocks of equal size, without a tail of zeros, and but for one term; and the sum of numbers that fall by the same step.
+-- Sums taken apart: in two, term by term, without a common factor, in blocks of equal size, without a tail of zeros, and but for one term; and the sum of numbers that fall by the same step.
 -- Assumes nothing.
 use mathlib.Core.Path.{_≡_, sym, _∙_, ap}
 use Prim.Native.Nat.{ℕ, zero, suc, _+_, _*_, _-_, _≤_, _<_}
@@ -32,6 +32,12 @@ sum-both (suc n) f g =
     let b = sum-suc n g in
     let c = sum-suc n (λ j. f j + g j) in
     omega arith
+
+-- a multiple of every term
+pub sum-times : (n q : ℕ) (f : ℕ → ℕ) → sum n (λ j. q * f j) ≡ q * sum n f
+sum-times zero q f = rw (sum-zero f, sum-zero (λ j. q * f j)) (omega arith)
+sum-times (suc n) q f =
+    rw (sum-suc n f, sum-suc n (λ j. q * f j)) (ap (λ (s : ℕ). s + q * f n) (sum-times n q f) ∙ sym (mul-add q (sum n f) (f n)))
 
 pub sum-of-zeros : (n : ℕ) (f : ℕ → ℕ) → ((j : ℕ) → f j ≡ 0) → sum n f ≡ 0
 sum-of-zeros zero f z = sum-zero f

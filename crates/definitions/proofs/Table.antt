@@ -2,8 +2,8 @@
 -- or its memory, is then known.
 -- Assumes nothing.
 use mathlib.Core.Bool.{Bool, true, false, not, _&&_}
-use mathlib.Core.List.{List, [], _∷_}
-use mathlib.Core.Path.{_≡_, refl}
+use mathlib.Core.List.{List, [], _∷_, _++_, append-nil}
+use mathlib.Core.Path.{_≡_, refl, sym, _∙_}
 use Prim.Native.Nat.{ℕ, _-_, _≤_, _<_}
 use borrow.Author.Tests.{leb-true, ltb-true, ltb-false, eqb-true, eqb-false, not-true, not-false}
 use native.Mathlib.Omega.{arith}
@@ -38,18 +38,31 @@ module _ {ℓ} {A : Type ℓ} (refused : ℕ → ℕ → A) (accepted : A) where
   accepts end = refl
   accepts (next e later) = rw e (accepts later)
 
+  -- two tables that accept a call make the same of it
+  pub both-accept : {table other : List Line} → Accepts table → Accepts other → tried table refused accepted ≡ tried other refused accepted
+  both-accept a b = sym (accepts a) ∙ accepts b
+
+-- no line of a table has this number
+abbrev pub without : ℕ → List Line → Bool
+without number [] = true
+without number (l ∷ table) = not (eqb (l .number) number) && without number table
+
+-- so a call that answers it has passed them all, and has it from the rest
+pub passed-front : (number : ℕ) (front rest : List Line) (accepted : Answer) → without number front ≡ true → tried (front ++ rest) refused accepted .number ≡ number
+    → Accepts front × (tried rest refused accepted .number ≡ number)
+passed-front number [] rest accepted other e = (end, e)
+passed-front number (l ∷ front) rest accepted other e =
+    let b = both (not (eqb (l .number) number)) (without number front) other in
+    split (l .given) (λ g. absurd (eqb-false (l .number) number (not-true (eqb (l .number) number) (b .0)) (rw g at e)))
+    (λ g. let (a, left) = passed-front number front rest accepted (b .1) (rw g at e) in (next g a, left))
+
 -- each line of a table has a number
 abbrev pub numbered : List Line → Bool
-numbered [] = true
-numbered (l ∷ table) = not (eqb (l .number) 0) && numbered table
+numbered = without 0
 
 -- so a call that answers the number 0 is accepted
 pub zero-accepts : (table : List Line) (accepted : Answer) → numbered table ≡ true → tried table refused accepted .number ≡ 0 → Accepts table
-zero-accepts [] accepted some e = end
-zero-accepts (l ∷ table) accepted some e =
-    let b = both (not (eqb (l .number) 0)) (numbered table) some in
-    split (l .given) (λ g. absurd (eqb-false (l .number) 0 (not-true (eqb (l .number) 0) (b .0)) (rw g at e)))
-    (λ g. next g (zero-accepts table accepted (b .1) (rw g at e)))
+zero-accepts table accepted some e = passed-front 0 table [] accepted some (rw (append-nil table) e) .0
 
 -- what a line says of a call that passes it
 pub sizes-mean : (C : Code) (n k : ℕ) → sizes C n k .given ≡ false → (2 ≤ k) × (k ≤ n) × (n ≤ C .positions)
@@ -86,16 +99,19 @@ above-means greatest l e = none-above greatest l (ltb-false (firstAbove greatest
 pub symbols-mean : (C : Code) → 0 < C .symbols → (l : List ℕ) → symbols C l .given ≡ false → Symbols C l
 symbols-mean C some l e j = let h = above-means (C .symbols - 1) l e j in omega arith
 
--- and a list of symbols passes it
-pub symbols-pass : (C : Code) (l : List ℕ) → Symbols C l → symbols C l .given ≡ false
-symbols-pass C l s =
-    let first = firstAbove (C .symbols - 1) l in
+-- and a list that has none above the greatest passes it
+pub none-passes : (greatest : ℕ) (l : List ℕ) → ((j : ℕ) → getD l j 0 ≤ greatest) → noneAbove greatest l .given ≡ false
+none-passes greatest l low =
+    let first = firstAbove greatest l in
     split (ltb first (length l))
     (λ y.
-    let bad = first-above (C .symbols - 1) l (ltb-true first (length l) y) in
-    let good = s first in
+    let bad = first-above greatest l (ltb-true first (length l) y) in
+    let good = low first in
     let z : ⊥ = omega arith in absurd z)
     (λ n. n)
+
+pub symbols-pass : (C : Code) (l : List ℕ) → Symbols C l → symbols C l .given ≡ false
+symbols-pass C l s = none-passes (C .symbols - 1) l (λ j. let h = s j in omega arith)
 
 pub cost-means : (G : ℕ) (m : List ℕ) → costWithin G m .given ≡ false → cost m ≤ G
 cost-means G m e = ltb-false G (cost m) e

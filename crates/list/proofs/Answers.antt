@@ -1,46 +1,22 @@
--- What a list answers and leaves: where a check refuses, and where all pass and the cost is left to try.
+-- The lines that each list tries before the cost, and what they say.
 -- Assumes nothing.
-use mathlib.Core.List.{List, [], _∷_, _++_}
-use mathlib.Core.Path.{_≡_, _∙_, ap, subst}
+use mathlib.Core.List.{List, [], _∷_}
+use mathlib.Core.Path.{_≡_}
 use Prim.Native.Nat.{ℕ, _*_, _≤_}
-use native.Mathlib.Omega.{arith}
 use lib.ListN.{length}
 use Rattle.definitions.proofs.Editing.{stored-means}
 use Rattle.definitions.proofs.Held.{Rightly}
 use Rattle.definitions.proofs.Table.{Accepts, next, end, sizes-mean, level-means, limit-means, entries-mean, room-means}
-use Rattle.definitions.specs.Answers.{Answer, refused}
 use Rattle.definitions.specs.Editing.{stored}
 use Rattle.definitions.specs.Field.{Code}
 use Rattle.definitions.specs.Held.{Held}
 use Rattle.definitions.specs.Limits.{greatestLevel, greatestRows}
 use Rattle.definitions.specs.Refusals.{Line, sizes, level, limit, entries, room, entriesOf, costWithin}
-use Rattle.listing.specs.Within.{Answered, Fit}
-use Rattle.refusals.proofs.Chain.{Came, told-is, answers, stops, goes-on}
-use Rattle.refusals.specs.Checked.{toldChecked}
-use Rattle.refusals.specs.Refusal.{toldRefusal}
-use Rattle.refusals.specs.declared.Checked.{Checked}
-use Rattle.refusals.specs.declared.Checked.the-variants.{Passed, Refused}
-use Rattle.refusals.specs.declared.Refusal.{Refusal}
+use Rattle.listing.specs.Within.{Fit}
 
-module _ (C : Code) (n k G : ℕ) (m rows scores : List ℕ) where
-  -- the checks of the front, and the cost, which every table tries last
-  module _ {front : List Line} {c : Checked} (came : Came front [] (toldChecked c)) where
-    pub refused-by-check : {r : Refusal} → c ≡ Refused r → Answered C (front ++ (costWithin G m ∷ [])) n k m rows scores (toldRefusal r) rows scores
-    refused-by-check {r} e =
-        let rest = costWithin G m ∷ [] in
-        let none = ap (λ (a : Answer). a .count) (told-is r) in
-        (answers came rest _ e, (stops came rest (λ _ _. rows) _ e, (stops came rest (λ _ _. scores) _ e, omega arith)))
-
-    -- the rest, of the same bytes
-    pub passed-on : c ≡ Passed → {bytes : List ℕ} → bytes ≡ m → (answer : Answer) (rowsAfter scoresAfter : List ℕ)
-        → Answered C (costWithin G bytes ∷ []) n k bytes rows scores answer rowsAfter scoresAfter
-        → Answered C (front ++ (costWithin G m ∷ [])) n k m rows scores answer rowsAfter scoresAfter
-    passed-on e same answer rowsAfter scoresAfter w =
-        let rest = costWithin G m ∷ [] in
-        let of = subst (λ (x : List ℕ). Answered C (costWithin G x ∷ []) n k x rows scores answer rowsAfter scoresAfter) same w in (
-          of .0 ∙ goes-on came rest refused _ e,
-          (of .1 .0 ∙ goes-on came rest (λ _ _. rows) _ e, (of .1 .1 .0 ∙ goes-on came rest (λ _ _. scores) _ e, of .1 .1 .1)),
-        )
+-- "7 cost", which every table tries last
+abbrev pub costLeft : ℕ → List ℕ → List Line
+costLeft G m = costWithin G m ∷ []
 
 -- the lines that are tried before the cost, and what they say: of bytes
 module _ (C : Code) (n k G : ℕ) (m : List ℕ) (rows scores : ℕ) where

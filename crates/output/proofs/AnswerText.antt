@@ -23,9 +23,9 @@ use Rattle.definitions.specs.Refusals.{Line, tried, line, readTable}
 use Rattle.definitions.specs.Tools.{below}
 use Rattle.definitions.specs.Weights.{matrix, cost, score}
 use Rattle.instances.proofs.Codes.{sixteen-field}
+use Rattle.refusals.proofs.Unique.{refusal-number}
 use Rattle.refusals.specs.Refusal.{toldRefusal}
 use Rattle.refusals.specs.declared.Refusal.{Refusal}
-use Rattle.refusals.specs.declared.Refusal.the-variants.{Sizes, Setting, Length, Room, Symbol, Column, Cost, Zero}
 use Rattle.ranking.proofs.Memory.{rows-read}
 use Rattle.ranking.proofs.Written.{Sized}
 use Rattle.output.specs.Program.{listText, symbolsOfRows, answerTo, answerText, Holds}
@@ -170,14 +170,7 @@ module _ (n k L G : ℕ) (r rows₀ scores₀ : List ℕ) (a : Answer) (rows sco
 
 -- a refusal's line is the text of its answer
 told-text : (k : ℕ) (rows scores : List ℕ) (r : Refusal) → refusedLine (toldRefusal r .number) (toldRefusal r .place) ≡ answerText k (toldRefusal r) rows scores
-told-text k rows scores Sizes = refl
-told-text k rows scores Setting = refl
-told-text k rows scores Length = refl
-told-text k rows scores Room = refl
-told-text k rows scores (Symbol place) = refl
-told-text k rows scores (Column place) = refl
-told-text k rows scores Cost = refl
-told-text k rows scores Zero = refl
+told-text k rows scores r = rw (ne-eqb (toldRefusal r .number) 0 (refusal-number r))
 
 pub refusal-text : (k : ℕ) (rows scores : List ℕ) (r : Refusal) (number place : ℕ) → number ≡ toldRefusal r .number → place ≡ toldRefusal r .place
     → refusedLine number place ≡ answerText k (toldRefusal r) rows scores

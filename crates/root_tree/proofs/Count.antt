@@ -7,13 +7,14 @@ use mathlib.Core.Logic.{_≢_}
 use mathlib.Core.Path.{_≡_, refl, sym, _∙_, ap}
 use Prim.Native.Nat.{ℕ, zero, suc, _+_, _*_, _≤_, _<_}
 use native.Mathlib.Decide.{decLt}
-use native.Mathlib.Nat.{le-of-suc-le-suc, not-suc-le-zero, zero-add, mul-le-mul-left, mul-add, suc-mul, le-trans}
+use native.Mathlib.Nat.{le-of-suc-le-suc, not-suc-le-zero, zero-add, mul-le-mul-left, suc-mul, le-trans}
 use native.Mathlib.Omega.{arith}
 use borrow.Author.Tests.{eqb-true, eqb-false}
 use lib.Dec.{eqb}
 use lib.ListN.{length, getD, length-map}
 use Rattle.definitions.proofs.Joined.{length-join}
-use Rattle.definitions.proofs.Tools.{split, sum-zero, sum-suc, sum-one, sum-le}
+use Rattle.definitions.proofs.Sums.{sum-times}
+use Rattle.definitions.proofs.Tools.{split, sum-one, sum-le}
 use Rattle.definitions.proofs.Zeros.{zeros-of-isZero, isZero-false}
 use Rattle.definitions.specs.Code.{Symbols}
 use Rattle.definitions.specs.Field.{Code, numbers, value}
@@ -30,12 +31,6 @@ use Rattle.root_tree.proofs.Columns.{Triangular, triangular-substitute,
 use Rattle.root_tree.proofs.Elements.{SymbolColumns, zero-elements, number-shift, shift-element, substitute-coefficient}
 use Rattle.root_tree.proofs.Search.{strip-yes, strip-no, first-symbols, branch, search-zero, search-suc, next-symbols}
 use Rattle.root_tree.proofs.Values.{shift-coefficient}
-
--- a multiple of every term
-sum-times : (n q : ℕ) (f : ℕ → ℕ) → sum n (λ (c : ℕ). q * f c) ≡ q * sum n f
-sum-times zero q f = rw (sum-zero f, sum-zero (λ (c : ℕ). q * f c)) (omega arith)
-sum-times (suc n) q f =
-    rw (sum-suc n f, sum-suc n (λ (c : ℕ). q * f c)) (ap (λ (m : ℕ). m + q * f n) (sum-times n q f) ∙ sym (mul-add q (sum n f) (f n)))
 
 -- the zeros before the first other entry
 unfoldable pub zerosBefore : List ℕ → ℕ

@@ -5,7 +5,8 @@ use Prim.Native.Nat.{_*_}
 use native.Mathlib.Omega.{arith}
 use lib.ListN.{length}
 use Rattle.definitions.specs.Field.{sixteen}
-use Rattle.list.proofs.Answers.{refused-by-check, passed-on, listFront, list-fits}
+use Rattle.list.proofs.Answers.{costLeft, listFront, list-fits}
+use Rattle.listing.proofs.Answers.{refused-by-check, passed-on}
 use Rattle.listing.specs.Within.{Fit}
 use Rattle.matrix.proofs.Columns.{turned-front, turned-priced}
 use Rattle.matrix.specs.Record.{heldBy}
@@ -32,7 +33,7 @@ returns : tie.Need-returns
 returns c =
     let w = c .before .before .before in
     let a = entry w .args in
-    refused-by-check sixteen (a .n) (a .k) (a .limit) (a .matrix .now) (a .rows .now) (a .scores .now) (came w) (c .before .checked .given .1)
+    refused-by-check sixteen (a .n) (a .k) (costLeft (a .limit)) (a .matrix .now) (a .rows .now) (a .scores .now) (came w) (c .before .checked .given .1)
 
 fit : (c : tie.After-enum-told)
     → (let a = entry (c .before .before) .args in
@@ -59,7 +60,7 @@ returns-2 c =
     let w = t .before .before in
     let a = entry w .args in
     let f = fit t in
-    passed-on sixteen (a .n) (a .k) (a .limit) (a .matrix .now) (a .rows .now) (a .scores .now) (came w) (t .enum-told .given .1)
+    passed-on sixteen (a .n) (a .k) (costLeft (a .limit)) (a .matrix .now) (a .rows .now) (a .scores .now) (came w) (t .enum-told .given .1)
     (turned-front sixteen (heldBy (m .of-bytes .result)) (a .n) (a .matrix .now) (f .0 .sized .2) (f .1) (m .of-bytes .ensures)) _ _ _ (q .list-priced .ensures)
 
 pub list-of-multiplicities-spec : {M : Type 1} → statement M

@@ -5,7 +5,8 @@ use lib.ListN.{length}
 use Rattle.definitions.proofs.Held.{Rightly}
 use Rattle.definitions.specs.Field.{sixteen}
 use Rattle.definitions.specs.Held.{Held, held, bytesOf}
-use Rattle.list.proofs.Answers.{refused-by-check, passed-on, heldFront, held-fits}
+use Rattle.list.proofs.Answers.{costLeft, heldFront, held-fits}
+use Rattle.listing.proofs.Answers.{refused-by-check, passed-on}
 use Rattle.listing.specs.Within.{Fit}
 use Rattle.matrix.proofs.Columns.{rightly-priced}
 use Rattle.matrix.proofs.Record.{stored-tried}
@@ -38,7 +39,7 @@ returns : tie.Need-returns
 returns c =
     let w = c .before .before .before in
     let a = entry w .args in
-    refused-by-check sixteen (a .n) (a .k) (a .limit) (bytesOf sixteen (given w)) (a .rows .now) (a .scores .now) (came w) (c .before .checked .given .1)
+    refused-by-check sixteen (a .n) (a .k) (costLeft (a .limit)) (bytesOf sixteen (given w)) (a .rows .now) (a .scores .now) (came w) (c .before .checked .given .1)
 
 fit : (c : tie.After-enum-told)
     → (let a = entry (c .before .before) .args in
@@ -60,7 +61,7 @@ returns-2 c =
     let t = q .before .before .before in
     let w = t .before .before in
     let a = entry w .args in
-    passed-on sixteen (a .n) (a .k) (a .limit) (bytesOf sixteen (given w)) (a .rows .now) (a .scores .now) (came w) (t .enum-told .given .1) refl _ _ _ (q .list-priced .ensures)
+    passed-on sixteen (a .n) (a .k) (costLeft (a .limit)) (bytesOf sixteen (given w)) (a .rows .now) (a .scores .now) (came w) (t .enum-told .given .1) refl _ _ _ (q .list-priced .ensures)
 
 pub list-of-parts-spec : {M : Type 1} → statement M
 list-of-parts-spec =

@@ -10,7 +10,8 @@ use Rattle.definitions.specs.Field.{sixteen}
 use Rattle.definitions.specs.Limits.{greatestLevel}
 use Rattle.definitions.specs.Refusals.{columns}
 use Rattle.definitions.specs.Weights.{matrix}
-use Rattle.list.proofs.Answers.{refused-by-check, passed-on, readStart, read-fits}
+use Rattle.list.proofs.Answers.{costLeft, readStart, read-fits}
+use Rattle.listing.proofs.Answers.{refused-by-check, passed-on}
 use Rattle.listing.specs.Within.{Fit}
 use Rattle.matrix.proofs.Columns.{turned-front, turned-priced}
 use Rattle.matrix.specs.Record.{heldBy}
@@ -55,7 +56,7 @@ returns : tie.Need-returns
 returns c =
     let w = c .before .before .before in
     let a = entry (w .before) .args in
-    refused-by-check sixteen (a .n) (a .k) (a .limit) (made w) (a .rows .now) (a .scores .now) (came w) (c .before .checked .given .1)
+    refused-by-check sixteen (a .n) (a .k) (costLeft (a .limit)) (made w) (a .rows .now) (a .scores .now) (came w) (c .before .checked .given .1)
 
 fit : (c : tie.After-enum-told)
     → (let a = entry (c .before .before .before) .args in
@@ -84,7 +85,7 @@ returns-2 c =
     let t = m .before in
     let w = t .before .before in
     let a = entry (w .before) .args in
-    passed-on sixteen (a .n) (a .k) (a .limit) (made w) (a .rows .now) (a .scores .now) (came w) (t .enum-told .given .1)
+    passed-on sixteen (a .n) (a .k) (costLeft (a .limit)) (made w) (a .rows .now) (a .scores .now) (came w) (t .enum-told .given .1)
     (turned-front sixteen (heldBy (m .weighed .result)) (a .n) (made w) (fit t .1 .sized .2) (full t) (m .weighed .ensures)) _ _ _ (q .list-priced .ensures)
 
 pub list-of-reliabilities-spec : {M : Type 1} → statement M

@@ -1,5 +1,5 @@
 -- The stored cost is that of the bytes: it is refused, or the entries are opened and the list of their columns is that of the bytes.
-use mathlib.Core.List.{List}
+use mathlib.Core.List.{List, []}
 use mathlib.Core.Path.{_≡_}
 use Prim.Native.Nat.{ℕ, _*_}
 use native.Mathlib.Omega.{arith}
@@ -25,7 +25,7 @@ returns c =
     let s = c .before .before .before .before in
     let a = s .args in
     let paid = s .pre .1 .paid in
-    refused-by-cost sixteen (a .n) (a .k) (a .limit) (bytes s) (a .rows .now) (a .scores .now) (omega arith)
+    refused-by-cost sixteen (a .n) (a .k) (a .limit) (bytes s) (a .rows .now) (a .scores .now) [] (omega arith)
 
 abbrev entry : tie.After-opened → tie.Start
 entry c = c .before .before .before .before .before
