@@ -19,4 +19,6 @@ pub mod Sums
 pub mod Powers
 pub mod Held
 pub mod Editing
+pub mod Planning
+pub mod Plans
 pub mod Direct

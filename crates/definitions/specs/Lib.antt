@@ -11,3 +11,4 @@ pub mod Refusals
 pub mod Answers
 pub mod Held
 pub mod Editing
+pub mod Planning

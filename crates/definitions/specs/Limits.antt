@@ -25,3 +25,7 @@ coefficientRoom = 246
 -- "list room 20 rows and 20 scores" (document 02, order 2): there are at most so many rows
 abbrev pub greatestRows : ℕ
 greatestRows = 20
+
+-- "s is 0 to 75" (document 02, order 7)
+abbrev pub greatestSteps : ℕ
+greatestSteps = 75

@@ -1,0 +1,153 @@
+-- What is planned is taken when it comes back, and nothing else is; whatever it costs it is within the greatest limit; and the list of a plan
+-- that is taken is the list of its matrix.
+-- Assumes nothing.
+use mathlib.Core.Bool.{true, false, not}
+use mathlib.Core.List.{List, [], _∷_, _++_}
+use mathlib.Core.Path.{_≡_, refl, sym, _∙_, ap}
+use Prim.Native.Nat.{ℕ, _*_, _≤_}
+use native.Mathlib.Omega.{arith}
+use borrow.Author.Tests.{ltb-false, le-ltb, eq-eqb, not-false}
+use lib.ListN.{length, take, drop}
+use lib.Seq.{take-at, length-take-le}
+use Rattle.definitions.proofs.Editing.{stored-means}
+use Rattle.definitions.proofs.Held.{used-within}
+use Rattle.definitions.proofs.Planning.{length-plan, plan-low, done-within, plan-cost, is-plan, plan-is}
+use Rattle.definitions.proofs.Table.{Accepts, next, end, accepts, both-accept, without, passed-front, zero-accepts, sizes-mean, entries-mean, none-passes}
+use Rattle.definitions.proofs.Tools.{split}
+use Rattle.definitions.specs.Answers.{refused, counted, listAnswer, listRows, listScores}
+use Rattle.definitions.specs.Editing.{stored, heldListTable, heldListAnswer, heldListRows, heldListScores}
+use Rattle.definitions.specs.Field.{Code}
+use Rattle.definitions.specs.Held.{Held, bytesOf}
+use Rattle.definitions.specs.Limits.{greatestLevel, greatestLimit, greatestSteps, greatestRows}
+use Rattle.definitions.specs.Listing.{listOf}
+use Rattle.definitions.specs.Planning.{plan, stepsDone, isPlan, steps, ruled, planned, planTable, planAnswer, planOut, checkTable, checkAnswer, planListTable, planListAnswer, planListRows, planListScores, heldPlanListTable, heldPlanListAnswer, heldPlanListRows, heldPlanListScores}
+use Rattle.definitions.specs.Refusals.{Line, tried, sizes, limit, entries, room, entriesOf, columns, costWithin, listTable}
+use Rattle.definitions.specs.Weights.{cost}
+
+pub steps-mean : (s : ℕ) → steps s .given ≡ false → s ≤ greatestSteps
+steps-mean s e = ltb-false greatestSteps s e
+
+pub ruled-means : (r : List ℕ) (s : ℕ) (m : List ℕ) → ruled r s m .given ≡ false → isPlan r s m ≡ true
+ruled-means r s m e = not-false (isPlan r s m) e
+
+-- a plan of at most 75 steps costs at most 225
+pub plan-within : (r : List ℕ) (s : ℕ) → s ≤ greatestSteps → cost (plan r s) ≤ greatestLimit
+plan-within r s h = let c = plan-cost r s in let d = done-within r s in omega arith
+
+-- "7 cost", and "9 plan, tried last"
+abbrev pub costAndPlanLeft : ℕ → List ℕ → ℕ → List ℕ → List Line
+costAndPlanLeft G r s m = costWithin G m ∷ ruled r s m ∷ []
+
+-- where only these are left, a plan that costs no more than the limit is not refused for its cost
+affordable : (G : ℕ) (r : List ℕ) (s : ℕ) (m : List ℕ) (front : List Line) (rows : ℕ) → without 7 front ≡ true → (Accepts front → cost m ≤ G)
+    → tried (front ++ costAndPlanLeft G r s m) refused (counted rows) .number ≡ 7 → ⊥
+affordable G r s m front rows other cheap e =
+    let (a, left) = passed-front 7 front (costAndPlanLeft G r s m) (counted rows) other e in
+    let paid = le-ltb G (cost m) (cheap a) in
+    split (ruled r s m .given) (λ wrong. let z = rw (paid, wrong) at left in omega arith) (λ right. let z = rw (paid, right) at left in omega arith)
+
+module _ (C : Code) where
+  -- "From outside, a plan is taken exactly when it equals the rule's result": so the plan itself is
+  plan-taken : (n s : ℕ) (r : List ℕ) (out : ℕ) → Accepts (planTable C n s r out) → Accepts (checkTable C n s r (plan r s))
+  plan-taken n s r out (next size (next few (next full (next room (next columns end))))) =
+      let whole : length (plan r s) ≡ C .symbols * n = length-plan r s ∙ entries-mean (C .symbols * n) r full in
+      next size
+      (next few
+      (next full
+      (next (ap not (eq-eqb (length (plan r s)) (C .symbols * n) whole))
+      (next (none-passes greatestLevel (plan r s) (plan-low r s)) (next columns (next (ap not (is-plan r s)) end))))))
+
+  -- and what is written for s steps is taken, as a plan of as many
+  pub written-taken : (n s : ℕ) (r out : List ℕ) → planAnswer C n s r out .number ≡ 0
+      → checkAnswer C n s r (take (C .symbols * n) (planOut C n s r out)) ≡ planned 0 (stepsDone r s)
+  written-taken n s r out zero =
+      let table = planTable C n s r (length out) in
+      let a = zero-accepts table (planned (C .symbols * n) (stepsDone r s)) refl zero in
+      let taken = plan-taken n s r (length out) a in
+      let full : length (plan r s) ≡ C .symbols * n = length-plan r s ∙ wide a in
+      let written : take (C .symbols * n) (planOut C n s r out) ≡ plan r s =
+      ap (take (C .symbols * n)) (sym (accepts (λ _ _. out) (plan r s ++ drop (C .symbols * n) out) a))
+      ∙ take-at (plan r s) (drop (C .symbols * n) out) (C .symbols * n) full in
+      ap (checkAnswer C n s r) written ∙ sym (accepts refused (planned 0 (stepsDone r s)) taken)
+    where
+      wide : Accepts (planTable C n s r (length out)) → length r ≡ C .symbols * n
+      wide (next size (next few (next full rest))) = entries-mean (C .symbols * n) r full
+
+  -- and nothing else is
+  pub taken-is-plan : (n s : ℕ) (r m : List ℕ) → checkAnswer C n s r m .number ≡ 0 → m ≡ plan r s
+  taken-is-plan n s r m zero = of-rule (zero-accepts (checkTable C n s r m) (planned 0 (stepsDone r s)) refl zero)
+    where
+      of-rule : Accepts (checkTable C n s r m) → m ≡ plan r s
+      of-rule (next size (next few (next full (next whole (next low (next columns (next right end))))))) =
+          plan-is r s m (entries-mean (C .symbols * n) m whole ∙ sym (entries-mean (C .symbols * n) r full)) (ruled-means r s m right)
+
+  -- "An accepted plan feeds the list like any other matrix"
+  listed-too : (n k G s : ℕ) (r m : List ℕ) (rows scores : ℕ) → Accepts (planListTable C n k G s r m rows scores) → Accepts (listTable C n k G m rows scores)
+  listed-too n k G s r m rows scores (next sized (next low (next few (next full (next whole (next a (next b (next entries (next columns (next paid (next right end))))))))))) =
+      next sized (next low (next whole (next a (next b (next entries (next paid end))))))
+
+  pub plan-listed : (n k G s : ℕ) (r m rows scores : List ℕ) → planListAnswer C n k G s r m rows scores .number ≡ 0
+      → (planListAnswer C n k G s r m rows scores ≡ listAnswer C n k G m rows scores)
+      × (planListRows C n k G s r m rows scores ≡ listRows C n k G m rows scores)
+      × (planListScores C n k G s r m rows scores ≡ listScores C n k G m rows scores)
+  plan-listed n k G s r m rows scores zero =
+      let listed = listOf C n k m in
+      let a = zero-accepts (planListTable C n k G s r m (length rows) (length scores)) (counted (length listed)) refl zero in
+      let b = listed-too n k G s r m (length rows) (length scores) a in
+      (both-accept refused _ a b, both-accept (λ _ _. rows) _ a b, both-accept (λ _ _. scores) _ a b)
+
+  -- of one that is held in a record too
+  held-listed-too : (h : Held) (k G s : ℕ) (r : List ℕ) (rows scores : ℕ) → Accepts (heldPlanListTable C h k G s r rows scores)
+      → Accepts (heldListTable C h k G rows scores)
+  held-listed-too h k G s r rows scores (next sized (next low (next few (next full (next held (next a (next b (next entries (next columns (next paid (next right end))))))))))) =
+      next sized (next low (next held (next a (next b (next entries (next paid end))))))
+
+  pub held-plan-listed : (h : Held) (k G s : ℕ) (r rows scores : List ℕ) → heldPlanListAnswer C h k G s r rows scores .number ≡ 0
+      → (heldPlanListAnswer C h k G s r rows scores ≡ heldListAnswer C h k G rows scores)
+      × (heldPlanListRows C h k G s r rows scores ≡ heldListRows C h k G rows scores)
+      × (heldPlanListScores C h k G s r rows scores ≡ heldListScores C h k G rows scores)
+  held-plan-listed h k G s r rows scores zero =
+      let listed = listOf C (h .n) k (bytesOf C h) in
+      let a = zero-accepts (heldPlanListTable C h k G s r (length rows) (length scores)) (counted (length listed)) refl zero in
+      let b = held-listed-too h k G s r (length rows) (length scores) a in
+      (both-accept refused _ a b, both-accept (λ _ _. rows) _ a b, both-accept (λ _ _. scores) _ a b)
+
+  -- the lines before the columns, the cost and the plan: of bytes
+  module _ (n k G s : ℕ) (r m : List ℕ) (rows scores : ℕ) where
+    abbrev pub planStart : List Line
+    planStart =
+        sizes C n k ∷ limit G ∷ steps s ∷ entries (C .symbols * n) r ∷ entries (C .symbols * n) m ∷ room (greatestRows * k) rows ∷ room greatestRows scores
+        ∷ entriesOf m ∷ []
+
+  -- of a record
+  module _ (h : Held) (k G s : ℕ) (r : List ℕ) (rows scores : ℕ) where
+    abbrev pub heldPlanStart : List Line
+    heldPlanStart =
+        sizes C (h .n) k ∷ limit G ∷ steps s ∷ entries (C .symbols * h .n) r ∷ stored C h ∷ room (greatestRows * k) rows ∷ room greatestRows scores
+        ∷ entriesOf (h .entries) ∷ []
+
+  right-within : (n s : ℕ) (r m : List ℕ) → isPlan r s m ≡ true → steps s .given ≡ false → entries (C .symbols * n) r .given ≡ false
+      → length m ≡ C .symbols * n → cost m ≤ greatestLimit
+  right-within n s r m right few full whole =
+      rw (plan-is r s m (whole ∙ sym (entries-mean (C .symbols * n) r full)) right) (plan-within r s (steps-mean s few))
+
+  -- at the greatest limit no right plan costs too much
+  pub plan-affordable : (n k s : ℕ) (r m rows scores : List ℕ) → isPlan r s m ≡ true
+      → planListAnswer C n k greatestLimit s r m rows scores .number ≡ 7 → ⊥
+  plan-affordable n k s r m rows scores right =
+      affordable greatestLimit r s m (planStart n k greatestLimit s r m (length rows) (length scores) ++ (columns C n r ∷ [])) (length (listOf C n k m)) refl cheap
+    where
+      cheap : Accepts (planStart n k greatestLimit s r m (length rows) (length scores) ++ (columns C n r ∷ [])) → cost m ≤ greatestLimit
+      cheap (next sized (next low (next few (next full (next whole rest))))) =
+          right-within n s r m right few full (entries-mean (C .symbols * n) m whole)
+
+  pub held-plan-affordable : (h : Held) (k s : ℕ) (r rows scores : List ℕ) → isPlan r s (bytesOf C h) ≡ true
+      → heldPlanListAnswer C h k greatestLimit s r rows scores .number ≡ 7 → ⊥
+  held-plan-affordable h k s r rows scores right =
+      affordable greatestLimit r s (bytesOf C h) (heldPlanStart h k greatestLimit s r (length rows) (length scores) ++ (columns C (h .n) r ∷ []))
+      (length (listOf C (h .n) k (bytesOf C h))) refl cheap
+    where
+      cheap : Accepts (heldPlanStart h k greatestLimit s r (length rows) (length scores) ++ (columns C (h .n) r ∷ [])) → cost (bytesOf C h) ≤ greatestLimit
+      cheap (next sized (next low (next few (next full (next held rest))))) =
+          right-within (h .n) s r (bytesOf C h) right few full
+          (length-take-le (C .symbols * h .n) (h .entries) (used-within C h (stored-means C h held) (sizes-mean C (h .n) k sized .2)))
