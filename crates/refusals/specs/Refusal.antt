@@ -1,8 +1,8 @@
--- The number and the place that document 01's table gives to each refusal.
+-- The number and the place that document 01's table gives to each refusal, and document 02's order 7 to the plan.
 -- Assumes nothing.
 use Rattle.definitions.specs.Answers.{Answer, refused}
 use Rattle.refusals.specs.declared.Refusal.{Refusal}
-use Rattle.refusals.specs.declared.Refusal.the-variants.{Sizes, Setting, Length, Room, Symbol, Column, Cost, Zero}
+use Rattle.refusals.specs.declared.Refusal.the-variants.{Sizes, Setting, Length, Room, Symbol, Column, Cost, Zero, Plan}
 
 abbrev pub toldRefusal : Refusal → Answer
 toldRefusal Sizes = refused 1 0
@@ -13,3 +13,4 @@ toldRefusal (Symbol place) = refused 5 place
 toldRefusal (Column place) = refused 6 place
 toldRefusal Cost = refused 7 0
 toldRefusal Zero = refused 8 0
+toldRefusal Plan = refused 9 0

@@ -5,6 +5,7 @@ ghost use Prim.Native.Nat.{_+_, _*_, _^_, _<_};
 ghost use lib.Dec.{eqb, leb};
 ghost use lib.ListN.{length};
 ghost use Rattle.definitions.specs.Field.{sixteen};
+ghost use Rattle.definitions.specs.Planning.{steps};
 ghost use Rattle.definitions.specs.Refusals.{line, sizes, size, level, room, firstAbove, noneAbove, runsOn};
 ghost use Rattle.refusals.specs.Checked.{passed, orLine, lineOf, toldChecked};
 ghost use Rattle.refusals.specs.Refusal.{toldRefusal};
@@ -12,6 +13,7 @@ ghost use Rattle.refusals.specs.Refusal.{toldRefusal};
 pub mod limits;
 
 use limits::GREATEST_LEVEL;
+use limits::GREATEST_STEPS;
 use limits::POSITIONS;
 
 // The lines of the table.
@@ -24,6 +26,7 @@ pub enum Refusal {
     Column(usize),
     Cost,
     Zero,
+    Plan,
 }
 
 // The answer of an entry that writes: how much it wrote.
@@ -51,6 +54,7 @@ impl Refusal {
             Refusal::Column(_) => 6,
             Refusal::Cost => 7,
             Refusal::Zero => 8,
+            Refusal::Plan => 9,
         }
     }
 
@@ -66,6 +70,7 @@ impl Refusal {
             Refusal::Column(place) => place,
             Refusal::Cost => 0,
             Refusal::Zero => 0,
+            Refusal::Plan => 0,
         }
     }
 }
@@ -140,6 +145,12 @@ impl Checked {
         ensures { λ r. ⌜ toldChecked r ≡ orLine (toldChecked self) (level l) ⌝ }
     {
         self.within(1, l, GREATEST_LEVEL, Refusal::Setting)
+    }
+
+    pub fn steps(self, s: usize) -> Checked
+        ensures { λ r. ⌜ toldChecked r ≡ orLine (toldChecked self) (steps s) ⌝ }
+    {
+        self.or(GREATEST_STEPS < s, Refusal::Setting)
     }
 
     // Exactly many times each.

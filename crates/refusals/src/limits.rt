@@ -20,3 +20,5 @@ pub const GREATEST_COUNT: usize = 256;
 pub const COEFFICIENT_ROOM: usize = 246;
 
 pub const GREATEST_ROWS: usize = 20;
+
+pub const GREATEST_STEPS: usize = 75;
