@@ -1,9 +1,10 @@
-// Lists of bytes: copied into lent memory, and tested for zeros.
+// Lists of bytes: copied into lent memory, tested for zeros, and compared.
 ghost use mathlib.Core.Path.{_≡_};
 ghost use Prim.Native.Nat.{_+_, _≤_};
 ghost use lib.ListN.{length};
 ghost use Rattle.definitions.specs.Polynomial.{isZero};
 ghost use Rattle.memory.specs.Laid.{laid};
+ghost use Rattle.memory.specs.Same.{sameUpTo};
 
 // The part, in place of what lies from a place on.
 pub fn put(out: &mut [u8], at: usize, part: &[u8])
@@ -23,6 +24,20 @@ pub fn all_zero(list: &[u8]) -> bool
     let mut i = 0;
     while i < list.len() {
         if list[i] != 0 {
+            return false;
+        }
+        i += 1;
+    }
+    true
+}
+
+pub fn same_up_to(n: usize, list: &[u8], other: &[u8]) -> bool
+    requires { ⌜ (n ≤ length (now list)) × (n ≤ length (now other)) ⌝ }
+    ensures { λ r. ⌜ r ≡ sameUpTo n (now (list .entry)) (now (other .entry)) ⌝ }
+{
+    let mut i = 0;
+    while i < n {
+        if list[i] != other[i] {
             return false;
         }
         i += 1;
