@@ -18,7 +18,7 @@ use refusals::limits::ENTRIES;
 use refusals::limits::GREATEST_SUM;
 use refusals::limits::SYMBOLS;
 
-fn wide(x: u16) -> usize
+pub fn wide(x: u16) -> usize
     ensures { λ r. ⌜ (r ≡ x) × (r < 65536) ⌝ }
 {
     x as usize

@@ -1,0 +1,71 @@
+-- The first i columns have their leaders.
+use mathlib.Core.Path.{_≡_, sym, _∙_, subst}
+use Prim.Native.Nat.{ℕ, _-_, _≤_}
+use native.Mathlib.Nat.{not-suc-le-zero}
+use native.Mathlib.Omega.{arith}
+use Rattle.definitions.specs.Field.{sixteen}
+use Rattle.steps.proofs.Leading.{led-more}
+use Rattle.steps.specs.Leads.{Led}
+use Rattle.steps.proofs.lay_leaders.Statement.{statement}
+use Rattle.steps.proofs.lay_leaders.Tie as tie
+
+abbrev Inv-loop : tie.InvT-loop
+Inv-loop n reliabilities multiplicities leaders₀ i₀ leaders i =
+    (i ≤ n) × Led sixteen reliabilities multiplicities i leaders
+
+abbrev μ-loop : tie.MeasureT-loop
+μ-loop n reliabilities multiplicities leaders₀ i₀ leaders i = n - i
+
+loop-holds : tie.Need-loop-holds Inv-loop μ-loop
+loop-holds c = (omega arith, record { full = c .before .before .before .pre .1; leads = λ i h. absurd (not-suc-le-zero h) })
+
+best-of-column-requires : tie.Need-best-of-column-requires Inv-loop μ-loop
+best-of-column-requires c κs =
+    let s = c .before .before .before .before .before in
+    let small = s .pre .0 .weights .small in
+    let full = s .pre .0 .weights .full in
+    (omega arith, omega arith, s .pre .0 .as-many)
+
+slice-write-leaders : tie.Need-slice-write-leaders Inv-loop μ-loop
+slice-write-leaders c =
+    let l = c .before .before in
+    let small = l .before .before .before .before .pre .0 .weights .small in
+    let full = l .loop .inv .1 .full in
+    omega arith
+
+loop-again : tie.Need-loop-again Inv-loop μ-loop
+loop-again c =
+    let l = c .before .before in
+    let s = l .before .before .before .before in
+    let a = s .args in
+    let led = l .loop .inv .1 in
+    let small = s .pre .0 .weights .small in (
+      omega arith,
+      led-more sixteen (a .reliabilities .now) (a .multiplicities .now) (l .loop .leaders) (led .full) (l .loop .i) (c .best-of-column .result) (omega arith) (c .best-of-column .ensures) led,
+    )
+
+same-length : tie.Need-same-length Inv-loop μ-loop
+same-length c = c .before .loop .inv .1 .full ∙ sym (c .before .before .before .before .before .pre .1)
+
+returns : tie.Need-returns Inv-loop μ-loop
+returns c =
+    let l = c .before in
+    let a = l .before .before .before .before .args in
+    let e : l .loop .i ≡ a .n = omega arith in
+    subst (λ (j : ℕ). Led sixteen (a .reliabilities .now) (a .multiplicities .now) j (l .loop .leaders)) e (l .loop .inv .1)
+
+pub lay-leaders-spec : {M : Type 1} → statement M
+lay-leaders-spec =
+    tie.close
+    (tie.spec
+    Inv-loop
+    μ-loop
+    loop-holds
+    best-of-column-requires
+    (λ c. omega arith)
+    slice-write-leaders
+    (λ c. omega arith)
+    (λ c. omega arith)
+    loop-again
+    same-length
+    returns)
