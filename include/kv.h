@@ -30,6 +30,7 @@ enum {
     KV_WHOLE = 4096,       /* the most that a position's reliabilities sum to */
     KV_LEVEL = 5,          /* the greatest level, and the greatest entry of a matrix */
     KV_LIMIT = 225,        /* the greatest limit on a matrix's cost */
+    KV_STEPS = 75,         /* the most steps that a plan is asked for */
     KV_COEFFICIENTS = 246, /* the room that kv_interpolate asks for */
     KV_MONOMIALS = 256,    /* the most coefficients that kv_roots takes */
     KV_ROWS = 20           /* the most rows of a list, and the room that it asks for */
@@ -101,6 +102,35 @@ struct kv_answer kv_encode(size_t n, size_t k,
 struct kv_answer kv_multiplicities(size_t n, size_t level,
                                    const uint16_t *reliabilities, size_t reliabilities_len,
                                    uint8_t *out, size_t out_len);
+
+/*
+ * A plan starts from all zeros and takes so many steps. Each raises by one the entry whose
+ * reliability / (entry + 1) is the largest, compared exactly, of equal ones that of the lowest
+ * index. At a step whose best entry has reliability 0, or already stands at KV_LEVEL, it stops.
+ * count: 16n.
+ * value: the steps done, which are the sum of all entries.
+ * Memory: position i, symbol b lies at 16i + b in both lists. out[j], for j from 0 to 16n-1, is the
+ * plan's entry for reliabilities[j]; out from 16n on stays.
+ * Refusals: 1 unless 2 <= n <= 15; 2 where steps is above KV_STEPS; 3 where reliabilities_len, in
+ * numbers, is not 16n; 4 where out_len is below 16n; 6 where a position's sixteen reliabilities sum
+ * to more than KV_WHOLE, place that position, the first one's.
+ */
+struct kv_answer kv_plan(size_t n, size_t steps,
+                         const uint16_t *reliabilities, size_t reliabilities_len,
+                         uint8_t *out, size_t out_len);
+
+/*
+ * Takes a plan from outside exactly where it is what kv_plan writes for these reliabilities and
+ * steps. One that stopped early is so for every greater number of steps too.
+ * value: the steps done.
+ * Refusals: 1 unless 2 <= n <= 15; 2 where steps is above KV_STEPS; 3 where reliabilities_len, in
+ * numbers, or plan_len is not 16n; 5 where an entry of the plan is above KV_LEVEL, place its index,
+ * the first one's; 6 where a position's sixteen reliabilities sum to more than KV_WHOLE, place that
+ * position, the first one's; 9 where the plan is another than kv_plan writes.
+ */
+struct kv_answer kv_check_plan(size_t n, size_t steps,
+                               const uint16_t *reliabilities, size_t reliabilities_len,
+                               const uint8_t *plan, size_t plan_len);
 
 /*
  * The matrix has the multiplicity of position i, symbol b at 16i + b.
@@ -179,6 +209,23 @@ struct kv_answer kv_list_of_reliabilities(size_t n, size_t k, size_t level, size
                                           const uint16_t *reliabilities, size_t reliabilities_len,
                                           uint8_t *rows, size_t rows_len,
                                           uint16_t *scores, size_t scores_len);
+
+/*
+ * The matrix is a plan from outside, as kv_check_plan takes it. A plan costs at most 3 * steps, so
+ * that none which is right costs more than KV_LIMIT.
+ * count, memory: as kv_list_of_multiplicities answers and leaves them for the plan.
+ * Refusals: 1 unless 2 <= k <= n <= 15; 2 where limit is above KV_LIMIT or steps above KV_STEPS; 3
+ * where reliabilities_len, in numbers, or plan_len is not 16n; 4 where rows_len is below KV_ROWS * k
+ * or scores_len, in numbers, below KV_ROWS; 5 where an entry of the plan is above KV_LEVEL, place
+ * its index, the first one's; 6 where a position's sixteen reliabilities sum to more than KV_WHOLE,
+ * place that position, the first one's; 7 where the plan's cost is above limit; 9 where the plan is
+ * another than kv_plan writes for these reliabilities and steps.
+ */
+struct kv_answer kv_list_of_plan(size_t n, size_t k, size_t limit, size_t steps,
+                                 const uint16_t *reliabilities, size_t reliabilities_len,
+                                 const uint8_t *plan, size_t plan_len,
+                                 uint8_t *rows, size_t rows_len,
+                                 uint16_t *scores, size_t scores_len);
 
 /*
  * A matrix that is edited is kept as a record of four parts: n; cost, the sum of m(m+1)/2 over its
@@ -294,6 +341,37 @@ struct kv_answer kv_matrix_list(size_t n, size_t cost,
                                 size_t k, size_t limit,
                                 uint8_t *rows, size_t rows_len,
                                 uint16_t *scores, size_t scores_len);
+
+/*
+ * value: the steps done, as kv_check_plan answers them for the first 16n entries as the plan.
+ * Refusals: 1 unless 2 <= n <= 15; 2 where steps is above KV_STEPS; 3 where reliabilities_len, in
+ * numbers, is not 16n or the record is not rightly held; 5 where an entry is above KV_LEVEL, place
+ * its index, the first one's; 6 where a position's sixteen reliabilities sum to more than KV_WHOLE,
+ * place that position, the first one's; 9 where the first 16n entries are another plan than kv_plan
+ * writes for these reliabilities and steps.
+ */
+struct kv_answer kv_matrix_check_plan(size_t n, size_t cost,
+                                      const uint16_t *totals, size_t totals_len,
+                                      const uint8_t *entries, size_t entries_len,
+                                      size_t steps,
+                                      const uint16_t *reliabilities, size_t reliabilities_len);
+
+/*
+ * count, memory: as kv_list_of_plan answers and leaves them for the first 16n entries as the plan.
+ * Refusals: 1 unless 2 <= k <= n <= 15; 2 where limit is above KV_LIMIT or steps above KV_STEPS; 3
+ * where reliabilities_len, in numbers, is not 16n or the record is not rightly held; 4 where
+ * rows_len is below KV_ROWS * k or scores_len, in numbers, below KV_ROWS; 5 where an entry is above
+ * KV_LEVEL, place its index, the first one's; 6 where a position's sixteen reliabilities sum to more
+ * than KV_WHOLE, place that position, the first one's; 7 where cost is above limit; 9 where the
+ * first 16n entries are another plan than kv_plan writes for these reliabilities and steps.
+ */
+struct kv_answer kv_matrix_list_of_plan(size_t n, size_t cost,
+                                        const uint16_t *totals, size_t totals_len,
+                                        const uint8_t *entries, size_t entries_len,
+                                        size_t k, size_t limit, size_t steps,
+                                        const uint16_t *reliabilities, size_t reliabilities_len,
+                                        uint8_t *rows, size_t rows_len,
+                                        uint16_t *scores, size_t scores_len);
 
 /*
  * The list has rows[kr + j] as symbol j of the message of row r, and scores[r] as its score. It may

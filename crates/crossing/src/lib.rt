@@ -5,6 +5,7 @@ ghost use Rattle.crossing.specs.Crossing.{answerOf, Narrow};
 ghost use Rattle.edits.specs.Priced.{toldPriced};
 ghost use Rattle.field.specs.Element.{toldElement};
 ghost use Rattle.interpolation.specs.Interpolated.{toldInterpolated};
+ghost use Rattle.planner.specs.Planned.{toldPlanned};
 ghost use Rattle.refusals.specs.Counted.{toldCounted};
 ghost use Rattle.refusals.specs.Refusal.{toldRefusal};
 ghost use Rattle.weights.specs.Costed.{toldCosted};
@@ -14,6 +15,7 @@ pub mod judging;
 use edits::Priced;
 use field::Element;
 use interpolation::Interpolated;
+use planner::Planned;
 use refusals::Counted;
 use refusals::Refusal;
 use weights::Costed;
@@ -109,5 +111,15 @@ pub fn priced(p: Priced) -> Answer
     match p {
         Priced::Cost(cost) => accepted(0, 0, narrow(cost), 0),
         Priced::Refused(r) => refused(r),
+    }
+}
+
+pub fn planned(p: Planned) -> Answer
+    requires { ⌜ Narrow (toldPlanned p) ⌝ }
+    ensures { λ a. ⌜ answerOf a ≡ toldPlanned p ⌝ }
+{
+    match p {
+        Planned::Of { count, steps } => accepted(narrow(count), narrow(steps), 0, 0),
+        Planned::Refused(r) => refused(r),
     }
 }

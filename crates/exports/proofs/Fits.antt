@@ -56,7 +56,7 @@ pub at-first : (greatest : ℕ) (l : List ℕ) → length l < 65536 → noneAbov
 at-first greatest l h e = refused-narrow 5 (firstAbove greatest l) (let bad = ltb-true (firstAbove greatest l) (length l) e in omega arith)
 
 -- a refusal at the first of few positions whose numbers sum to more than 4,096
-at-bad-column : (n : ℕ) (r : List ℕ) → n < 65536 → columns sixteen n r .given ≡ true → Narrow (refused 6 (smallest (badColumn sixteen r) n))
+pub at-bad-column : (n : ℕ) (r : List ℕ) → n < 65536 → columns sixteen n r .given ≡ true → Narrow (refused 6 (smallest (badColumn sixteen r) n))
 at-bad-column n r h e = refused-narrow 6 (smallest (badColumn sixteen r) n) (let bad = ltb-true (smallest (badColumn sixteen r) n) n e in omega arith)
 
 module _ (a b : ℕ) where

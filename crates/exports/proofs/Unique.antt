@@ -13,6 +13,7 @@ use Rattle.definitions.specs.Answers.{Answer, sumAnswer, productAnswer, inverse
 use Rattle.definitions.specs.Editing.{heldCostAnswer, HeldInterpolationAnswers, heldListAnswer, heldListRows, heldListScores}
 use Rattle.definitions.specs.Field.{sixteen}
 use Rattle.definitions.specs.Held.{Held}
+use Rattle.definitions.specs.Planning.{planAnswer, planOut, checkAnswer, planListAnswer, planListRows, planListScores, heldCheckAnswer, heldPlanListAnswer, heldPlanListRows, heldPlanListScores}
 use Rattle.field.proofs.Unique.{one-element}
 use Rattle.field.specs.Element.{toldElement}
 use Rattle.field.specs.declared.Element.{Element}
@@ -20,6 +21,9 @@ use Rattle.instances.proofs.Codes.{sixteen-field}
 use Rattle.interpolation.proofs.Unique.{interpolation-unique, held-interpolation-unique, numbers-unique, held-numbers-unique}
 use Rattle.interpolation.specs.Interpolated.{toldInterpolated}
 use Rattle.interpolation.specs.declared.Interpolated.{Interpolated}
+use Rattle.planner.proofs.Unique.{one-planned}
+use Rattle.planner.specs.Planned.{toldPlanned}
+use Rattle.planner.specs.declared.Planned.{Planned}
 use Rattle.weights.proofs.Unique.{one-costed}
 use Rattle.weights.specs.Costed.{toldCosted}
 use Rattle.weights.specs.declared.Costed.{Costed}
@@ -83,6 +87,24 @@ pub list-of-reliabilities-unique : (n k L G : ℕ) (r rows scores : List ℕ) (x
 list-of-reliabilities-unique n k L G r rows scores =
     listed-unique (readAnswer sixteen n k L G r rows scores) (readRows sixteen n k L G r rows scores) (readScores sixteen n k L G r rows scores)
 
+-- the planner, and plans from outside
+pub plan-unique : (n s : ℕ) (r out : List ℕ) (x y : Planned) (after again : List ℕ)
+    → (toldPlanned x ≡ planAnswer sixteen n s r out) × (after ≡ planOut sixteen n s r out)
+    → (toldPlanned y ≡ planAnswer sixteen n s r out) × (again ≡ planOut sixteen n s r out) → (x ≡ y) × (after ≡ again)
+plan-unique n s r out x y after again p q = (one-planned (p .0) (q .0), p .1 ∙ sym (q .1))
+
+pub check-plan-unique : (n s : ℕ) (r m : List ℕ) (x y : Planned) → toldPlanned x ≡ checkAnswer sixteen n s r m → toldPlanned y ≡ checkAnswer sixteen n s r m → x ≡ y
+check-plan-unique n s r m x y = one-planned
+
+pub list-of-plan-unique : (n k G s : ℕ) (r m rows scores : List ℕ) (x y : Counted) (rowsAfter scoresAfter rowsAgain scoresAgain : List ℕ)
+    → (toldCounted x ≡ planListAnswer sixteen n k G s r m rows scores) × (rowsAfter ≡ planListRows sixteen n k G s r m rows scores)
+    × (scoresAfter ≡ planListScores sixteen n k G s r m rows scores)
+    → (toldCounted y ≡ planListAnswer sixteen n k G s r m rows scores) × (rowsAgain ≡ planListRows sixteen n k G s r m rows scores)
+    × (scoresAgain ≡ planListScores sixteen n k G s r m rows scores)
+    → (x ≡ y) × (rowsAfter ≡ rowsAgain) × (scoresAfter ≡ scoresAgain)
+list-of-plan-unique n k G s r m rows scores =
+    listed-unique (planListAnswer sixteen n k G s r m rows scores) (planListRows sixteen n k G s r m rows scores) (planListScores sixteen n k G s r m rows scores)
+
 -- the entries that take a record
 pub matrix-cost-unique : (h : Held) (k : ℕ) (x y : Costed) → toldCosted x ≡ heldCostAnswer sixteen h k → toldCosted y ≡ heldCostAnswer sixteen h k → x ≡ y
 matrix-cost-unique h k x y = one-costed
@@ -98,6 +120,19 @@ pub matrix-list-unique : (h : Held) (k G : ℕ) (rows scores : List ℕ) (x y : 
     → (x ≡ y) × (rowsAfter ≡ rowsAgain) × (scoresAfter ≡ scoresAgain)
 matrix-list-unique h k G rows scores =
     listed-unique (heldListAnswer sixteen h k G rows scores) (heldListRows sixteen h k G rows scores) (heldListScores sixteen h k G rows scores)
+
+pub matrix-check-plan-unique : (h : Held) (s : ℕ) (r : List ℕ) (x y : Planned) → toldPlanned x ≡ heldCheckAnswer sixteen h s r
+    → toldPlanned y ≡ heldCheckAnswer sixteen h s r → x ≡ y
+matrix-check-plan-unique h s r x y = one-planned
+
+pub matrix-list-of-plan-unique : (h : Held) (k G s : ℕ) (r rows scores : List ℕ) (x y : Counted) (rowsAfter scoresAfter rowsAgain scoresAgain : List ℕ)
+    → (toldCounted x ≡ heldPlanListAnswer sixteen h k G s r rows scores) × (rowsAfter ≡ heldPlanListRows sixteen h k G s r rows scores)
+    × (scoresAfter ≡ heldPlanListScores sixteen h k G s r rows scores)
+    → (toldCounted y ≡ heldPlanListAnswer sixteen h k G s r rows scores) × (rowsAgain ≡ heldPlanListRows sixteen h k G s r rows scores)
+    × (scoresAgain ≡ heldPlanListScores sixteen h k G s r rows scores)
+    → (x ≡ y) × (rowsAfter ≡ rowsAgain) × (scoresAfter ≡ scoresAgain)
+matrix-list-of-plan-unique h k G s r rows scores =
+    listed-unique (heldPlanListAnswer sixteen h k G s r rows scores) (heldPlanListRows sixteen h k G s r rows scores) (heldPlanListScores sixteen h k G s r rows scores)
 
 -- an answer as it crosses to C is told by its numbers
 pub crossing-unique : (a : Answer) (x y : crossing.Answer) → answerOf x ≡ a → answerOf y ≡ a → x ≡ y

@@ -8,6 +8,7 @@ ghost use Rattle.definitions.specs.Limits.{greatestRows};
 
 pub mod editing;
 pub mod judging;
+pub mod planning;
 
 use crossing::Answer;
 
