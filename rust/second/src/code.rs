@@ -11,6 +11,11 @@ pub fn sizes_allowed(n: usize, k: usize) -> bool {
     LEAST_SIZE <= k && k <= n && n <= MOST_POSITIONS
 }
 
+/// Of an entry that has no k.
+pub fn n_allowed(n: usize) -> bool {
+    (LEAST_SIZE..=MOST_POSITIONS).contains(&n)
+}
+
 /// f(x), the sum of f_j times x to the j, from the highest power down.
 pub fn value_at(message: &[u8], x: u8) -> u8 {
     let from_the_top = message.iter().rev();

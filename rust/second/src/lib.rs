@@ -9,6 +9,7 @@ pub mod counter;
 pub mod field;
 pub mod interpolation;
 pub mod list;
+pub mod plan;
 mod polynomial;
 pub mod program;
 pub mod record;

@@ -3,6 +3,7 @@
 use crate::bound::{bound, cost, GREATEST_LIMIT, GREATEST_MULTIPLICITY};
 use crate::code::{every_message, sizes_allowed, value_at, x_of, MOST_POSITIONS};
 use crate::field::SYMBOLS;
+use crate::plan::{Stated, GREATEST_STEPS};
 use crate::refusal::{symbol_above, unless_refused, Refusal};
 use crate::roots::FEW_SYMBOLS;
 use crate::search::messages_above;
@@ -112,5 +113,28 @@ pub fn list_of_reliabilities(
         let matrix: Vec<u8> = reliabilities.iter().map(entry).collect();
         let costs_too_much = (cost(&matrix) > limit).then_some(Refusal::Cost);
         unless_refused(&[costs_too_much], || write_list(k, &matrix, rows, scores))
+    })
+}
+
+pub fn list_of_plan(
+    n: usize,
+    k: usize,
+    limit: usize,
+    stated: Stated,
+    rows: &mut [u8],
+    scores: &mut [u16],
+) -> Answer {
+    let too_great = limit > GREATEST_LIMIT || stated.steps > GREATEST_STEPS;
+    let tests = [
+        (!sizes_allowed(n, k)).then_some(Refusal::Sizes),
+        too_great.then_some(Refusal::Setting),
+        (!stated.has_lengths(n)).then_some(Refusal::Length),
+        too_little_room(k, rows, scores).then_some(Refusal::Room),
+        symbol_above(GREATEST_MULTIPLICITY, stated.entries),
+        column_above(stated.reliabilities),
+        (cost(stated.entries) > limit).then_some(Refusal::Cost),
+    ];
+    unless_refused(&tests, || {
+        stated.unless_refused(|_| write_list(k, stated.entries, rows, scores))
     })
 }

@@ -1,10 +1,11 @@
 //! The matrix that is edited: whatever its record says of it is counted anew, in every call.
 
 use crate::bound::{self, GREATEST_LIMIT, GREATEST_MULTIPLICITY};
-use crate::code::{sizes_allowed, LEAST_SIZE, MOST_POSITIONS};
+use crate::code::{n_allowed, sizes_allowed, MOST_POSITIONS};
 use crate::field::SYMBOLS;
 use crate::interpolation;
 use crate::list;
+use crate::plan::{self, Stated, GREATEST_STEPS};
 use crate::refusal::{refuse, unless_refused, Refusal};
 use crate::weights::entries;
 use crate::Answer;
@@ -65,6 +66,15 @@ impl Record<'_> {
     fn bytes(&self) -> &[u8] {
         &self.entries[..SYMBOLS * self.n]
     }
+
+    /// The same as a plan.
+    fn stated<'b>(&'b self, steps: usize, reliabilities: &'b [u16]) -> Stated<'b> {
+        Stated {
+            steps,
+            reliabilities,
+            entries: self.bytes(),
+        }
+    }
 }
 
 impl Edited<'_> {
@@ -76,10 +86,6 @@ impl Edited<'_> {
             entries: self.entries,
         }
     }
-}
-
-fn n_allowed(n: usize) -> bool {
-    (LEAST_SIZE..=MOST_POSITIONS).contains(&n)
 }
 
 /// The refusal of the lowest place at which any of the matrices has too great an entry.
@@ -211,5 +217,41 @@ pub fn interpolate(record: Record, k: usize, limit: usize, out: &mut [u8]) -> An
 pub fn list(record: Record, k: usize, limit: usize, rows: &mut [u8], scores: &mut [u16]) -> Answer {
     unless_refused(&tests_with_limit(record, k, limit), || {
         list::list_of_multiplicities(record.n, k, limit, record.bytes(), rows, scores)
+    })
+}
+
+/// Whether a record is right and has a reliability for each entry.
+fn has_lengths(record: Record, reliabilities: &[u16]) -> bool {
+    record.is_right() && reliabilities.len() as u128 == entries(record.n)
+}
+
+pub fn check_plan(record: Record, steps: usize, reliabilities: &[u16]) -> Answer {
+    let tests = [
+        (!n_allowed(record.n)).then_some(Refusal::Sizes),
+        (steps > GREATEST_STEPS).then_some(Refusal::Setting),
+        (!has_lengths(record, reliabilities)).then_some(Refusal::Length),
+    ];
+    unless_refused(&tests, || {
+        plan::check_plan(record.n, record.stated(steps, reliabilities))
+    })
+}
+
+pub fn list_of_plan(
+    record: Record,
+    k: usize,
+    limit: usize,
+    steps: usize,
+    reliabilities: &[u16],
+    rows: &mut [u8],
+    scores: &mut [u16],
+) -> Answer {
+    let tests = [
+        (!sizes_allowed(record.n, k)).then_some(Refusal::Sizes),
+        (limit > GREATEST_LIMIT || steps > GREATEST_STEPS).then_some(Refusal::Setting),
+        (!has_lengths(record, reliabilities)).then_some(Refusal::Length),
+    ];
+    unless_refused(&tests, || {
+        let stated = record.stated(steps, reliabilities);
+        list::list_of_plan(record.n, k, limit, stated, rows, scores)
     })
 }

@@ -12,6 +12,7 @@ pub enum Refusal {
     Column(usize),
     Cost,
     Zero,
+    Plan,
 }
 
 impl Refusal {
@@ -25,6 +26,7 @@ impl Refusal {
             Refusal::Column(_) => 6,
             Refusal::Cost => 7,
             Refusal::Zero => 8,
+            Refusal::Plan => 9,
         }
     }
 

@@ -1,6 +1,6 @@
 //! Reliabilities and the multiplicities that they give.
 
-use crate::code::{LEAST_SIZE, MOST_POSITIONS};
+use crate::code::n_allowed;
 use crate::field::SYMBOLS;
 use crate::refusal::{unless_refused, Refusal};
 use crate::Answer;
@@ -31,7 +31,7 @@ pub fn multiplicity(level: usize, reliability: u16) -> u8 {
 
 pub fn multiplicities(n: usize, level: usize, reliabilities: &[u16], out: &mut [u8]) -> Answer {
     let tests = [
-        (!(LEAST_SIZE..=MOST_POSITIONS).contains(&n)).then_some(Refusal::Sizes),
+        (!n_allowed(n)).then_some(Refusal::Sizes),
         (!(LEAST_LEVEL..=GREATEST_LEVEL).contains(&level)).then_some(Refusal::Setting),
         (reliabilities.len() as u128 != entries(n)).then_some(Refusal::Length),
         ((out.len() as u128) < entries(n)).then_some(Refusal::Room),
