@@ -11,7 +11,7 @@ pub struct Answer {
     pub place: u16,
     /// How many entries were written.
     pub count: u16,
-    /// A symbol.
+    /// A symbol, or the steps done of a plan.
     pub value: u16,
     /// The cost of a matrix.
     pub cost: u16,
@@ -86,6 +86,14 @@ entries! {
         n: usize, level: usize, reliabilities: &[u16], out: &mut [u8]
     ) -> Answer;
 
+    /// `count`: 16n, and `value`: the steps done. `out` begins with the plan; it has room for 16n.
+    plan = kv_plan(n: usize, steps: usize, reliabilities: &[u16], out: &mut [u8]) -> Answer;
+
+    /// `value`: the steps done, where the plan is what [`plan`] writes.
+    check_plan = kv_check_plan(
+        n: usize, steps: usize, reliabilities: &[u16], plan: &[u8]
+    ) -> Answer;
+
     /// `cost` and `bound` of the matrix.
     cost_and_bound = kv_cost_and_bound(n: usize, k: usize, matrix: &[u8]) -> Answer;
 
@@ -108,6 +116,12 @@ entries! {
     /// As [`list_of_multiplicities`] of the matrix that the reliabilities have at this level.
     list_of_reliabilities = kv_list_of_reliabilities(
         n: usize, k: usize, level: usize, limit: usize, reliabilities: &[u16],
+        rows: &mut [u8], scores: &mut [u16]
+    ) -> Answer;
+
+    /// As [`list_of_multiplicities`] of the plan, where it is what [`plan`] writes.
+    list_of_plan = kv_list_of_plan(
+        n: usize, k: usize, limit: usize, steps: usize, reliabilities: &[u16], plan: &[u8],
         rows: &mut [u8], scores: &mut [u16]
     ) -> Answer;
 
@@ -148,6 +162,15 @@ entries! {
     matrix_list = kv_matrix_list(
         n: usize, cost: usize, totals: &[u16], entries: &[u8], k: usize, limit: usize,
         rows: &mut [u8], scores: &mut [u16]
+    ) -> Answer;
+
+    matrix_check_plan = kv_matrix_check_plan(
+        n: usize, cost: usize, totals: &[u16], entries: &[u8], steps: usize, reliabilities: &[u16]
+    ) -> Answer;
+
+    matrix_list_of_plan = kv_matrix_list_of_plan(
+        n: usize, cost: usize, totals: &[u16], entries: &[u8], k: usize, limit: usize,
+        steps: usize, reliabilities: &[u16], rows: &mut [u8], scores: &mut [u16]
     ) -> Answer;
 
     /// `value` of the verdict on one list.

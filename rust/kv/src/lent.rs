@@ -16,9 +16,9 @@
 //! ```
 
 pub use crate::archive::{
-    cost_and_bound, encode, interpolate, inverse, judge, list_of_multiplicities,
-    list_of_reliabilities, matrix_fresh, matrix_of_bytes, multiplicities, open, product, roots,
-    sum, Answer, Judgement,
+    check_plan, cost_and_bound, encode, interpolate, inverse, judge, list_of_multiplicities,
+    list_of_plan, list_of_reliabilities, matrix_fresh, matrix_of_bytes, multiplicities, open, plan,
+    product, roots, sum, Answer, Judgement,
 };
 use crate::{archive, Photograph, Refusal};
 
@@ -129,4 +129,33 @@ pub fn matrix_list(
     scores: &mut [u16],
 ) -> Answer {
     archive::matrix_list(a.n, a.cost, a.totals, a.entries, k, limit, rows, scores)
+}
+
+/// As [`check_plan`] of the record's first 16n entries.
+pub fn matrix_check_plan(a: Record<'_>, steps: usize, reliabilities: &[u16]) -> Answer {
+    archive::matrix_check_plan(a.n, a.cost, a.totals, a.entries, steps, reliabilities)
+}
+
+/// As [`list_of_plan`] of the record's first 16n entries.
+pub fn matrix_list_of_plan(
+    a: Record<'_>,
+    k: usize,
+    limit: usize,
+    steps: usize,
+    reliabilities: &[u16],
+    rows: &mut [u8],
+    scores: &mut [u16],
+) -> Answer {
+    archive::matrix_list_of_plan(
+        a.n,
+        a.cost,
+        a.totals,
+        a.entries,
+        k,
+        limit,
+        steps,
+        reliabilities,
+        rows,
+        scores,
+    )
 }

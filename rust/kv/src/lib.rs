@@ -24,6 +24,9 @@
 //!
 //! A [`Matrix`] is one that is corrected by hand, and listed again: it keeps its cost as it changes.
 //!
+//! A [`plan`] is a matrix that is made of the reliabilities step by step. One that comes from outside
+//! is checked, and listed where it is right.
+//!
 //! Symbols are 0 to 15, polynomials over bits modulo x⁴ + x + 1; alpha is 2. A matrix or a list of
 //! reliabilities has the entry of position i, symbol b at 16i + b. Whatever numbers and slices come
 //! in, no call panics and every call returns: it answers, or says its [`Refusal`].
@@ -36,14 +39,16 @@ mod counter;
 pub mod lent;
 mod list;
 mod matrix;
+mod plan;
 mod polynomial;
 mod record;
 mod refusal;
 mod symbols;
 
 pub use counter::{judge, judge_both, open, open_both, Photograph, Verdict};
-pub use list::{list_of_multiplicities, list_of_reliabilities, Listed, Row};
+pub use list::{list_of_multiplicities, list_of_plan, list_of_reliabilities, Listed, Row};
 pub use matrix::{cost_and_bound, multiplicities, CostAndBound};
+pub use plan::{check_plan, plan, Plan};
 pub use polynomial::{interpolate, roots, Polynomial};
 pub use record::Matrix;
 pub use refusal::Refusal;
@@ -62,6 +67,8 @@ pub const WHOLE: u16 = 4096;
 pub const GREATEST_LEVEL: usize = 5;
 /// The greatest limit on the cost of a matrix.
 pub const GREATEST_LIMIT: usize = 225;
+/// The most steps that a plan is asked for.
+pub const GREATEST_STEPS: usize = 75;
 /// The most coefficients that an interpolated polynomial has.
 pub const COEFFICIENTS: usize = 246;
 /// The most coefficients that a polynomial has whose roots are asked for.

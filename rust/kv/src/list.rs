@@ -124,3 +124,40 @@ pub fn list_of_reliabilities(
         lent::list_of_reliabilities(n, k, level, limit, reliabilities, rows, scores)
     })
 }
+
+/// The list of a plan from outside, which is taken as [`check_plan`](crate::check_plan) takes it.
+///
+/// Refused with [`Refusal::Sizes`], [`Refusal::Setting`] where the limit is above
+/// [`GREATEST_LIMIT`](crate::GREATEST_LIMIT) or the steps above
+/// [`GREATEST_STEPS`](crate::GREATEST_STEPS), [`Refusal::Length`] where there are not 16n
+/// reliabilities and 16n entries, [`Refusal::Symbol`] where an entry is above
+/// [`GREATEST_LEVEL`](crate::GREATEST_LEVEL), [`Refusal::Column`] where the reliabilities of a
+/// position sum to more than 4096, [`Refusal::Cost`] where the plan costs more than the limit,
+/// [`Refusal::Plan`] where it is another plan.
+///
+/// ```
+/// use kv::{list_of_plan, plan, Refusal, Row, Sizes, GREATEST_LIMIT};
+///
+/// let mut reliabilities = [0; 48];
+/// for position in 0..3 {
+///     reliabilities[16 * position + 1] = 4000;
+/// }
+/// let sizes = Sizes { n: 3, k: 2 };
+/// let plan = plan(3, 3, &reliabilities)?.entries;
+/// let listed = list_of_plan(sizes, GREATEST_LIMIT, 3, &reliabilities, &plan)?;
+/// assert_eq!(listed.rows, [Row { score: 3, message: vec![1, 0] }]);
+/// let of_other_steps = list_of_plan(sizes, GREATEST_LIMIT, 4, &reliabilities, &plan);
+/// assert_eq!(of_other_steps, Err(Refusal::Plan));
+/// # Ok::<(), kv::Refusal>(())
+/// ```
+pub fn list_of_plan(
+    Sizes { n, k }: Sizes,
+    limit: usize,
+    steps: usize,
+    reliabilities: &[u16],
+    plan: &[u8],
+) -> Result<Listed, Refusal> {
+    listed(k, |rows, scores| {
+        lent::list_of_plan(n, k, limit, steps, reliabilities, plan, rows, scores)
+    })
+}

@@ -220,4 +220,56 @@ impl Matrix {
             lent::matrix_list(self.lent(), k, limit, rows, scores)
         })
     }
+
+    /// As [`check_plan`](crate::check_plan) of the first 16n entries.
+    ///
+    /// Refused with [`Refusal::Sizes`] unless 2 <= n <= 15, [`Refusal::Setting`] where the steps are
+    /// above [`GREATEST_STEPS`](crate::GREATEST_STEPS), [`Refusal::Length`] where there are not 16n
+    /// reliabilities or the matrix is not rightly held, [`Refusal::Symbol`] where an entry is above
+    /// [`GREATEST_LEVEL`](crate::GREATEST_LEVEL), [`Refusal::Column`] where the reliabilities of a
+    /// position sum to more than 4096, [`Refusal::Plan`] where it is another plan.
+    ///
+    /// ```
+    /// let mut reliabilities = [0; 32];
+    /// (reliabilities[3], reliabilities[16]) = (3000, 1500);
+    /// let plan = kv::plan(2, 3, &reliabilities)?;
+    /// let mut matrix = kv::Matrix::of_bytes(2, &plan.entries)?;
+    /// assert_eq!(matrix.check_plan(3, &reliabilities), Ok(3));
+    /// matrix.set_entry(1, 0, 2)?;
+    /// assert_eq!(matrix.check_plan(3, &reliabilities), Err(kv::Refusal::Plan));
+    /// # Ok::<(), kv::Refusal>(())
+    /// ```
+    pub fn check_plan(&self, steps: usize, reliabilities: &[u16]) -> Result<usize, Refusal> {
+        let answer = lent::matrix_check_plan(self.lent(), steps, reliabilities).accepted()?;
+        Ok(answer.value.into())
+    }
+
+    /// As [`list_of_plan`](crate::list_of_plan) of the first 16n entries.
+    ///
+    /// Refused as [`check_plan`](Matrix::check_plan) is, with [`Refusal::Sizes`] for k too, with
+    /// [`Refusal::Setting`] where the limit is above [`GREATEST_LIMIT`](crate::GREATEST_LIMIT), and
+    /// before [`Refusal::Plan`] with [`Refusal::Cost`] where the matrix costs more than the limit.
+    ///
+    /// ```
+    /// let mut reliabilities = [0; 48];
+    /// for position in 0..3 {
+    ///     reliabilities[16 * position + 1] = 4000;
+    /// }
+    /// let plan = kv::plan(3, 3, &reliabilities)?;
+    /// let matrix = kv::Matrix::of_bytes(3, &plan.entries)?;
+    /// let listed = matrix.list_of_plan(2, kv::GREATEST_LIMIT, 3, &reliabilities)?;
+    /// assert_eq!(listed, matrix.list(2, kv::GREATEST_LIMIT)?);
+    /// # Ok::<(), kv::Refusal>(())
+    /// ```
+    pub fn list_of_plan(
+        &self,
+        k: usize,
+        limit: usize,
+        steps: usize,
+        reliabilities: &[u16],
+    ) -> Result<Listed, Refusal> {
+        listed(k, |rows, scores| {
+            lent::matrix_list_of_plan(self.lent(), k, limit, steps, reliabilities, rows, scores)
+        })
+    }
 }

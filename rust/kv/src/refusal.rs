@@ -1,8 +1,8 @@
 use std::error::Error;
 use std::fmt::{Display, Formatter, Result};
 
-/// Why a call is refused: the lines of document 01's table, in the order in which they are tried.
-/// The first that holds is given.
+/// Why a call is refused: the lines of document 01's table, and of document 02, in the order in
+/// which they are tried. The first that holds is given.
 ///
 /// ```
 /// let refusal = kv::sum(3, 16).unwrap_err();
@@ -15,8 +15,8 @@ pub enum Refusal {
     /// 1: n or k is not among the sizes that the entry takes, a position or a symbol lies outside the
     /// matrix, or matrices of unequal n are added.
     Sizes,
-    /// 2: the level, the limit, the degree or the lead is not among those that the entry takes, or
-    /// two lists have unequal settings.
+    /// 2: the level, the limit, the steps, the degree or the lead is not among those that the entry
+    /// takes, or two lists have unequal settings.
     Setting,
     /// 3: the input has not the length that the sizes ask for, rows are not in list order or repeat a
     /// message, or a [`Matrix`](crate::Matrix) is not rightly held.
@@ -33,6 +33,8 @@ pub enum Refusal {
     Cost,
     /// 8: 0 has no inverse, and the polynomial 0 has every root.
     Zero,
+    /// 9: the plan is not the one for its reliabilities and steps.
+    Plan,
 }
 
 impl Refusal {
@@ -47,12 +49,13 @@ impl Refusal {
             5 => Some(Refusal::Symbol(place)),
             6 => Some(Refusal::Column(place)),
             7 => Some(Refusal::Cost),
+            8 => Some(Refusal::Zero),
             // The library gives no number above this one.
-            8.. => Some(Refusal::Zero),
+            9.. => Some(Refusal::Plan),
         }
     }
 
-    /// The number that document 01 has for it.
+    /// The number that the documents have for it.
     pub fn number(self) -> u16 {
         match self {
             Refusal::Sizes => 1,
@@ -63,6 +66,7 @@ impl Refusal {
             Refusal::Column(_) => 6,
             Refusal::Cost => 7,
             Refusal::Zero => 8,
+            Refusal::Plan => 9,
         }
     }
 

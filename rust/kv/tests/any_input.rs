@@ -2,8 +2,8 @@
 
 use kv::lent::{self, Answer, Edited, Judgement, Record};
 use kv::{
-    CostAndBound, Listed, Matrix, Photograph, Polynomial, Refusal, Row, Settings, Sizes, Verdict,
-    POSITIONS, SYMBOLS,
+    CostAndBound, Listed, Matrix, Photograph, Plan, Polynomial, Refusal, Row, Settings, Sizes,
+    Verdict, POSITIONS, SYMBOLS,
 };
 
 const NUMBERS: [usize; 10] = [0, 1, 2, 3, 5, 15, 16, 225, 1 << 32, usize::MAX];
@@ -150,6 +150,58 @@ fn reliabilities() {
     }
 }
 
+fn planned(answer: Answer, bytes: &[u8], scores: &[u16]) -> Plan {
+    Plan {
+        entries: first(answer, bytes, scores),
+        steps: answer.value.into(),
+    }
+}
+
+fn steps(answer: Answer, _: &[u8], _: &[u16]) -> usize {
+    answer.value.into()
+}
+
+/// The right one, where there is one, and others.
+fn plans(n: usize, steps: usize, reliabilities: &[u16]) -> Vec<Vec<u8>> {
+    let right = kv::plan(n, steps, reliabilities).map(|plan| plan.entries);
+    let others = [0, 1, 255].map(|entry| vec![entry; reliabilities.len()]);
+    right.into_iter().chain(others).collect()
+}
+
+#[test]
+fn plans_made_and_checked() {
+    for (n, number) in pairs() {
+        for input in inputs(&RELIABILITIES) {
+            let found = lent(|out, _| lent::plan(n, number, &input, out), planned);
+            assert_eq!(kv::plan(n, number, &input), found);
+            for plan in plans(n, number, &input).into_iter().chain(inputs(&ENTRIES)) {
+                let found = lent(|_, _| lent::check_plan(n, number, &input, &plan), steps);
+                assert_eq!(kv::check_plan(n, number, &input, &plan), found);
+            }
+        }
+    }
+}
+
+#[test]
+fn plans_listed() {
+    for ((n, k), (limit, steps)) in pairs().flat_map(|a| pairs().map(move |b| (a, b))) {
+        for input in inputs(&RELIABILITIES) {
+            for plan in plans(n, steps, &input) {
+                let found = lent(
+                    |rows, scores| {
+                        lent::list_of_plan(n, k, limit, steps, &input, &plan, rows, scores)
+                    },
+                    |answer, bytes, scores| listed(k, answer, bytes, scores),
+                );
+                assert_eq!(
+                    kv::list_of_plan(Sizes { n, k }, limit, steps, &input, &plan),
+                    found
+                );
+            }
+        }
+    }
+}
+
 /// What a call comes to that makes a matrix in lent memory.
 fn lent_matrix(
     n: usize,
@@ -291,6 +343,33 @@ fn matrices_read() {
                 |answer, bytes, scores| listed(k, answer, bytes, scores),
             );
             assert_eq!(matrix.list(k, limit), found);
+        }
+    }
+}
+
+fn matrix_planned(matrix: &Matrix, number: usize, input: &[u16]) {
+    let record = lent_whole(matrix);
+    let found = lent(|_, _| lent::matrix_check_plan(record, number, input), steps);
+    assert_eq!(matrix.check_plan(number, input), found);
+    for (k, limit) in pairs() {
+        let found = lent(
+            |rows, scores| lent::matrix_list_of_plan(record, k, limit, number, input, rows, scores),
+            |answer, bytes, scores| listed(k, answer, bytes, scores),
+        );
+        assert_eq!(matrix.list_of_plan(k, limit, number, input), found);
+    }
+}
+
+#[test]
+fn matrices_planned() {
+    for number in NUMBERS {
+        for input in inputs(&RELIABILITIES) {
+            let n = input.len() / SYMBOLS;
+            let plans = plans(n, number, &input).into_iter();
+            let right = plans.flat_map(|plan| Matrix::of_bytes(n, &plan));
+            for matrix in right.chain(matrices()) {
+                matrix_planned(&matrix, number, &input);
+            }
         }
     }
 }
