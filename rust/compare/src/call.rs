@@ -11,8 +11,9 @@ pub struct Call {
     pub k: usize,
     pub level: usize,
     pub limit: usize,
+    pub steps: usize,
     pub degree: usize,
-    /// Operands, a message, a matrix or coefficients.
+    /// Operands, a message, a matrix, a plan or coefficients.
     pub symbols: Vec<u8>,
     pub reliabilities: Vec<u16>,
     /// Lent for what is written.
@@ -41,6 +42,7 @@ impl Call {
             k,
             level: 0,
             limit: usize::MAX,
+            steps: 0,
             degree: 0,
             symbols: Vec::new(),
             reliabilities: Vec::new(),

@@ -12,6 +12,8 @@ use std::process::exit;
 use tags::Random;
 
 const MOST_SPARE_ROOM: usize = 20;
+/// So many in all, at least, where not every choice is made with every other.
+const NUMBERS_FAR: usize = 100;
 
 pub struct Comparison {
     entry: &'static Entry,
@@ -104,13 +106,13 @@ impl Comparison {
         &mut self,
         n: usize,
         k: usize,
-        reach: impl Fn(&Choice) -> Reach,
+        reach: impl FnMut(&Choice) -> Reach,
         contents: Contents,
     ) {
         let sizes = (!self.entry.sizes.allow((n, k))).then_some(Refusal::Sizes);
         let made = Made::new(Call::of_sizes(n, k)).with(sizes, |_| ());
-        let choices: Vec<(&Choice, Reach)> =
-            self.entry.choices.iter().map(|c| (c, reach(c))).collect();
+        let reaches: Vec<Reach> = self.entry.choices.iter().map(reach).collect();
+        let choices: Vec<(&Choice, Reach)> = self.entry.choices.iter().zip(reaches).collect();
         self.choose(&made, &choices, contents);
     }
 
@@ -131,11 +133,43 @@ impl Comparison {
         }
         for (n, k) in sizes.allowed() {
             for far in choices {
-                let reach = |choice: &Choice| match std::ptr::eq(choice, far) {
-                    true => Reach::Far,
-                    false => Reach::Right,
+                self.beyond(n, k, far, Reach::Far);
+            }
+            self.together(n, k, |_| Reach::Right, self.entry.input.each_place);
+        }
+    }
+
+    /// One choice far from the right number, the others being right.
+    fn beyond(&mut self, n: usize, k: usize, far: &Choice, out: Reach) {
+        let reach = |choice: &Choice| match std::ptr::eq(choice, far) {
+            true => out,
+            false => Reach::Right,
+        };
+        self.together(n, k, reach, self.entry.input.contents);
+    }
+
+    /// Faults as above, where there are too many choices for every one with every other: one number
+    /// of each choice, once for sizes that are refused and so many times for those that are allowed.
+    pub fn some_faults(&mut self, times: usize) {
+        let (sizes, choices) = (self.entry.sizes, self.entry.choices);
+        let contents = self.entry.input.contents;
+        let mut picks = Random::new(times as u64);
+        let mut pick = || picks.between(0, u16::MAX.into());
+        for pair in [sizes.small(), sizes.huge()].concat() {
+            let times = if sizes.allow(pair) { times } else { 1 };
+            for _ in 0..times {
+                let reach = |_: &Choice| match pick() % 2 {
+                    0 => Reach::Right,
+                    _ => Reach::OneAround(pick()),
                 };
-                self.together(n, k, reach, contents);
+                self.together(pair.0, pair.1, reach, contents);
+            }
+        }
+        let allowed = sizes.allowed();
+        for &(n, k) in &allowed {
+            for _ in 0..=NUMBERS_FAR / allowed.len() {
+                let far = &choices[pick() % choices.len()];
+                self.beyond(n, k, far, Reach::OneFar(pick()));
             }
             self.together(n, k, |_| Reach::Right, self.entry.input.each_place);
         }

@@ -8,7 +8,7 @@ use second::field::GREATEST_SYMBOL;
 use tags::{random_matrix, Random};
 
 const BAD_SYMBOLS: [u8; 3] = [GREATEST_SYMBOL + 1, 128, u8::MAX];
-const BAD_MULTIPLICITIES: [u8; 2] = [GREATEST_MULTIPLICITY + 1, u8::MAX];
+pub const BAD_MULTIPLICITIES: [u8; 2] = [GREATEST_MULTIPLICITY + 1, u8::MAX];
 /// Up to this length a second fault is put into every later place.
 const SHORT: usize = 16;
 
@@ -88,7 +88,7 @@ fn one_bad(made: &Made, content: &[u8], bads: &[u8], random: &mut Random) -> Opt
 }
 
 /// The content, and the same with an entry that is too great; both have the fault of the whole.
-fn good_and_bad(
+pub fn good_and_bad(
     made: &Made,
     content: Vec<u8>,
     bads: &[u8],
@@ -108,7 +108,7 @@ fn later_places(place: usize, length: usize, random: &mut Random) -> Vec<usize> 
     }
 }
 
-fn bad_places(
+pub fn bad_places(
     made: &Made,
     good: impl Fn(&mut Random) -> Vec<u8>,
     bads: &[u8],

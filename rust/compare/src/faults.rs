@@ -6,6 +6,7 @@ use crate::sizes::{huge_sizes, lengths_around, lengths_like, lengths_up_to, look
 use kv::Refusal;
 use second::bound::GREATEST_LIMIT;
 use second::list::MOST_ROWS;
+use second::plan::GREATEST_STEPS;
 use second::weights::{GREATEST_LEVEL, LEAST_LEVEL};
 use tags::Random;
 
@@ -15,6 +16,8 @@ pub struct Made {
     pub call: Call,
     /// Of the input that is to come.
     pub length: usize,
+    /// Of the plan that is to come with it.
+    pub plan_length: usize,
     pub faults: Vec<Refusal>,
 }
 
@@ -23,6 +26,7 @@ impl Made {
         Made {
             call,
             length: 0,
+            plan_length: 0,
             faults: Vec::new(),
         }
     }
@@ -69,6 +73,13 @@ pub enum Reach {
     Right,
     Around,
     Far,
+    /// One of those around or far, whichever the number picks.
+    OneAround(usize),
+    OneFar(usize),
+}
+
+fn picked(numbers: Vec<usize>, pick: usize) -> Vec<usize> {
+    vec![numbers[pick % numbers.len()]]
 }
 
 impl Choice {
@@ -78,6 +89,8 @@ impl Choice {
             Reach::Right => vec![right],
             Reach::Around => (self.around)(right),
             Reach::Far => (self.far)(right),
+            Reach::OneAround(pick) => picked((self.around)(right), pick),
+            Reach::OneFar(pick) => picked((self.far)(right), pick),
         };
         let with = |number: usize| {
             let fault = (!(self.allowed)(right, number)).then_some(self.fault);
@@ -103,6 +116,15 @@ pub const LEVEL: Choice = Choice {
     around: |greatest| vec![LEAST_LEVEL - 1, LEAST_LEVEL, greatest, greatest + 1],
     far: |_| huge_sizes(),
     put: |made, level| made.call.level = level,
+};
+
+pub const STEPS: Choice = Choice {
+    fault: Refusal::Setting,
+    right: |_| GREATEST_STEPS,
+    allowed: |greatest, steps| steps <= greatest,
+    around: |greatest| vec![0, 1, greatest - 1, greatest, greatest + 1],
+    far: |_| huge_sizes(),
+    put: |made, steps| made.call.steps = steps,
 };
 
 /// The room for what is written, where the sizes ask for so much.

@@ -1,10 +1,11 @@
-//! The limits of document 02, order 2, in its own numbers: what the second program takes for them
-//! is not asked.
+//! The limits of document 02, orders 2 and 7, in its own numbers: what the second program takes for
+//! them is not asked.
 
 use crate::call::Call;
 use crate::edges::{hold, Line};
 use crate::edited::{COST_AND_BOUND, INTERPOLATE, LIST};
 use crate::entry::{Entry, Program};
+use crate::planned::{CHECK_PLAN, LIST_OF_PLAN, MATRIX_CHECK_PLAN, MATRIX_LIST_OF_PLAN, PLAN};
 use crate::record::Record;
 use crate::{
     cost_and_bound, interpolation, list_of_multiplicities, list_of_reliabilities, multiplicities,
@@ -16,10 +17,12 @@ const N: usize = 15;
 const K: usize = 7;
 const LEVEL: usize = 5;
 const LIMIT: usize = 225;
+const STEPS: usize = 75;
 const COEFFICIENTS: usize = 246;
 const ROWS: usize = 20;
 
-/// Everything at its limit: a word whose entries cost just so much, and the rooms.
+/// Everything at its limit: a word whose entries cost just so much, the steps of a plan that come to
+/// it, and the rooms.
 fn at_limits() -> Call {
     let word = [1; N];
     let whole = |&entry: &u8| if entry > 0 { 4096 } else { 0 };
@@ -27,6 +30,7 @@ fn at_limits() -> Call {
     Call {
         level: LEVEL,
         limit: LIMIT,
+        steps: STEPS,
         reliabilities: matrix.iter().map(whole).collect(),
         records: vec![Record::of(N, &matrix)],
         symbols: matrix,
@@ -82,7 +86,40 @@ const ROOM_FOR_ROWS: &[Change] = &[
     ),
 ];
 
-const CHANGES: [(&Entry, &[&[Change]]); 8] = [
+const MORE_STEPS: &[Change] = &[("s 76", |call| call.steps = STEPS + 1, [2, 0])];
+const FEWER_STEPS: &[Change] = &[("s 74", |call| call.steps = STEPS - 1, [0, 0])];
+const ROOM_FOR_PLAN: &[Change] = &[
+    (
+        "room for 240 entries",
+        |call| call.room = SYMBOLS * N,
+        [0, 0],
+    ),
+    (
+        "room for 239 entries",
+        |call| call.room = SYMBOLS * N - 1,
+        [4, 0],
+    ),
+];
+const OTHER_PLANS: &[Change] = &[
+    (
+        "s 74 of a plan of 75",
+        |call| call.steps = STEPS - 1,
+        [9, 0],
+    ),
+    ("a plan with a 4 for a 5", |call| put(call, 1, 4), [9, 0]),
+    ("a plan with a 6 for a 5", |call| put(call, 1, 6), [5, 1]),
+];
+
+const OF_LISTED_PLANS: &[&[Change]] = &[
+    NOTHING,
+    MORE_STEPS,
+    OTHER_PLANS,
+    LIMITS,
+    COSTS,
+    ROOM_FOR_ROWS,
+];
+
+const CHANGES: [(&Entry, &[&[Change]]); 13] = [
     (&multiplicities::ENTRY, &[NOTHING, LEVELS]),
     (&cost_and_bound::ENTRY, &[NOTHING, ENTRIES]),
     (
@@ -103,6 +140,11 @@ const CHANGES: [(&Entry, &[&[Change]]); 8] = [
         &[NOTHING, LIMITS, ENTRIES, COSTS, ROOM_FOR_COEFFICIENTS],
     ),
     (&LIST, &[NOTHING, LIMITS, ENTRIES, COSTS, ROOM_FOR_ROWS]),
+    (&PLAN, &[NOTHING, MORE_STEPS, FEWER_STEPS, ROOM_FOR_PLAN]),
+    (&CHECK_PLAN, &[NOTHING, MORE_STEPS, OTHER_PLANS]),
+    (&MATRIX_CHECK_PLAN, &[NOTHING, MORE_STEPS, OTHER_PLANS]),
+    (&LIST_OF_PLAN, OF_LISTED_PLANS),
+    (&MATRIX_LIST_OF_PLAN, OF_LISTED_PLANS),
 ];
 
 fn lines(program: Program) -> Vec<Line> {

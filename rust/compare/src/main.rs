@@ -20,6 +20,7 @@ mod list_of_multiplicities;
 mod list_of_reliabilities;
 mod lists;
 mod multiplicities;
+mod planned;
 mod planted;
 mod record;
 mod roots;
@@ -39,4 +40,5 @@ fn main() {
     limits::compare();
     counter::compare();
     edited::compare();
+    planned::compare();
 }

@@ -2,12 +2,12 @@
 
 mod alike;
 mod entries;
-mod inputs;
+pub mod inputs;
 mod lines;
 mod pairs;
 mod sequences;
 mod single;
-mod wrongly_held;
+pub mod wrongly_held;
 
 pub use entries::{COST_AND_BOUND, INTERPOLATE, LIST};
 
