@@ -1,6 +1,7 @@
 /*
  * Says how much stack the calls of the library need, by what they overwrite of one that is filled
- * with a pattern, and fails where it is more than 64 KiB. The matrix costs as much as any may.
+ * with a pattern, and fails where it is more than 64 KiB. The matrix costs as much as any may, and is
+ * the plan for the reliabilities.
  */
 #include <pthread.h>
 #include <stdio.h>
@@ -10,7 +11,7 @@
 
 enum { N = KV_POSITIONS, MOST = 1 << 16, STACK = 1 << 20, PAGE = 1 << 16, PATTERN = 0xa5 };
 
-static uint8_t matrix[KV_SYMBOLS * N];
+static uint8_t matrix[KV_SYMBOLS * N], planned[KV_SYMBOLS * N];
 static uint16_t reliabilities[KV_SYMBOLS * N];
 static uint8_t coefficients[KV_COEFFICIENTS];
 static uint8_t rows[KV_ROWS * N];
@@ -47,6 +48,22 @@ static void *list_of_reliabilities(void *unused) {
     return unused;
 }
 
+static void *plan(void *unused) {
+    answer = kv_plan(N, KV_STEPS, reliabilities, KV_SYMBOLS * N, planned, sizeof planned);
+    return unused;
+}
+
+static void *check_plan(void *unused) {
+    answer = kv_check_plan(N, KV_STEPS, reliabilities, KV_SYMBOLS * N, matrix, sizeof matrix);
+    return unused;
+}
+
+static void *list_of_plan(void *unused) {
+    answer = kv_list_of_plan(N, k, KV_LIMIT, KV_STEPS, reliabilities, KV_SYMBOLS * N,
+                             matrix, sizeof matrix, rows, sizeof rows, scores, KV_ROWS);
+    return unused;
+}
+
 static void *matrix_add(void *unused) {
     answer = kv_matrix_add(N, cost, totals, KV_POSITIONS, entries, KV_ENTRIES,
                            N, 0, other_totals, KV_POSITIONS, other_entries, KV_ENTRIES);
@@ -62,6 +79,19 @@ static void *matrix_interpolate(void *unused) {
 static void *matrix_list(void *unused) {
     answer = kv_matrix_list(N, cost, totals, KV_POSITIONS, entries, KV_ENTRIES, k, KV_LIMIT, rows,
                             sizeof rows, scores, KV_ROWS);
+    return unused;
+}
+
+static void *matrix_check_plan(void *unused) {
+    answer = kv_matrix_check_plan(N, cost, totals, KV_POSITIONS, entries, KV_ENTRIES, KV_STEPS,
+                                  reliabilities, KV_SYMBOLS * N);
+    return unused;
+}
+
+static void *matrix_list_of_plan(void *unused) {
+    answer = kv_matrix_list_of_plan(N, cost, totals, KV_POSITIONS, entries, KV_ENTRIES, k, KV_LIMIT,
+                                    KV_STEPS, reliabilities, KV_SYMBOLS * N, rows, sizeof rows,
+                                    scores, KV_ROWS);
     return unused;
 }
 
@@ -126,9 +156,14 @@ int main(void) {
     measure("roots", roots);
     measure("list of multiplicities", list_of_multiplicities);
     measure("list of reliabilities", list_of_reliabilities);
+    measure("plan", plan);
+    measure("check plan", check_plan);
+    measure("list of plan", list_of_plan);
     measure("matrix add", matrix_add);
     measure("matrix interpolate", matrix_interpolate);
     measure("matrix list", matrix_list);
+    measure("matrix check plan", matrix_check_plan);
+    measure("matrix list of plan", matrix_list_of_plan);
     measure("judge both", judge_both);
     measure("open both", open_both);
     return 0;
