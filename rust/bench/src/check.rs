@@ -1,10 +1,11 @@
 //! The Rust programs against the second program.
 
 use crate::baseline;
-use crate::matrices::{worn_tag, wrong_word};
+use crate::matrices::{worn_tag, worn_weights, wrong_word};
 use crate::programs::{Polynomial, PACKED, PLAIN, ROW_AT_A_TIME, SECOND};
 use second::bound::{GREATEST_LIMIT, GREATEST_MULTIPLICITY};
 use second::code::{LEAST_SIZE, MOST_POSITIONS};
+use second::plan::{ruled, GREATEST_STEPS};
 use second::weights::{GREATEST_LEVEL, LEAST_LEVEL};
 use tags::{random_matrix, within_cost, Random};
 
@@ -41,9 +42,24 @@ fn matrices(random: &mut Random, n: usize, k: usize) -> Vec<Vec<u8>> {
     matrices
 }
 
+/// The plans of a worn tag, of every number of steps, by the plain Rust and the second program.
+/// Answers how many there are.
+fn compare_plans(random: &mut Random, n: usize, k: usize) -> usize {
+    let wrong = random.between(0, n - k);
+    let reliabilities = worn_weights(random, n, k, wrong);
+    for steps in 0..=GREATEST_STEPS {
+        let mut plan = vec![0; reliabilities.len()];
+        let done = baseline::plan(steps, &reliabilities, &mut plan);
+        let ruled = ruled(steps, &reliabilities);
+        let expected = (ruled.steps, ruled.entries);
+        PLAIN.found("plan", &expected.1, &expected, &(done, plan));
+    }
+    GREATEST_STEPS + 1
+}
+
 pub fn check() {
     let mut random = Random::new(SEED);
-    let mut cases = 0;
+    let (mut cases, mut plans) = (0, 0);
     for n in LEAST_SIZE..=MOST_POSITIONS {
         for k in LEAST_SIZE..=n {
             for _ in 0..MATRICES {
@@ -51,8 +67,9 @@ pub fn check() {
                     compare(k, &matrix);
                     cases += 1;
                 }
+                plans += compare_plans(&mut random, n, k);
             }
         }
     }
-    println!("checked: {cases} matrices, all Rust programs and the second program equal");
+    println!("checked: {cases} matrices and {plans} plans, all Rust programs and the second program equal");
 }

@@ -11,6 +11,7 @@ mod insertion;
 mod matrices;
 mod packed;
 mod parts;
+mod plans;
 mod programs;
 mod row_at_a_time;
 #[allow(unsafe_code)]

@@ -30,15 +30,19 @@ fn mark(random: &mut Random, seen: u8, right: u8) -> [u16; SYMBOLS] {
     column
 }
 
-/// The matrix of a random codeword's tag with so many wrong marks.
-pub fn worn_tag(random: &mut Random, n: usize, k: usize, level: usize, wrong: usize) -> Vec<u8> {
+/// The weights of a random codeword's tag with so many wrong marks.
+pub fn worn_weights(random: &mut Random, n: usize, k: usize, wrong: usize) -> Vec<u16> {
     let right = random_codeword(random, n, k);
     let seen = with_wrong_marks(random, &right, wrong);
     let marks = seen.iter().zip(&right);
-    let weights: Vec<u16> = marks
+    marks
         .flat_map(|(&seen, &right)| mark(random, seen, right))
-        .collect();
-    matrix_of(&weights, level)
+        .collect()
+}
+
+/// The matrix of such a tag.
+pub fn worn_tag(random: &mut Random, n: usize, k: usize, level: usize, wrong: usize) -> Vec<u8> {
+    matrix_of(&worn_weights(random, n, k, wrong), level)
 }
 
 /// The matrix with the level at each symbol of a codeword with so many wrong marks.

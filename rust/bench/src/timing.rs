@@ -2,6 +2,7 @@
 
 use crate::edits;
 use crate::parts::{plain_parts, proved_parts};
+use crate::plans;
 use crate::programs::{Program, PACKED, PLAIN, PROVED, ROW_AT_A_TIME};
 use crate::turns::{in_turns, timed, ROUNDS};
 use crate::workloads::{workloads, Workload, K, N};
@@ -66,4 +67,5 @@ pub fn time() {
         );
     }
     edits::print_times(&workloads);
+    plans::print_times();
 }

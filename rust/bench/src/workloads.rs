@@ -1,7 +1,8 @@
 //! The matrices that are timed.
 
-use crate::matrices::{worn_tag, wrong_word};
+use crate::matrices::{worn_tag, worn_weights, wrong_word};
 use second::bound::{bound, cost_of_entry};
+use second::weights::{GREATEST_LEVEL, WHOLE};
 use tags::Random;
 
 pub const N: usize = 15;
@@ -17,13 +18,18 @@ pub struct Workload {
     pub matrices: Vec<Vec<u8>>,
 }
 
-fn worn_tags(name: &'static str, level: usize) -> Workload {
+/// What is made of each tag, given how many of its marks are wrong.
+fn of_tags<T>(make: impl Fn(&mut Random, usize) -> T) -> Vec<T> {
     let mut random = Random::new(SEED);
-    let mut matrix = || {
+    let mut tag = || {
         let wrong = random.between(LEAST_WRONG, MOST_WRONG);
-        worn_tag(&mut random, N, K, level, wrong)
+        make(&mut random, wrong)
     };
-    let matrices = (0..TAGS).map(|_| matrix()).collect();
+    (0..TAGS).map(|_| tag()).collect()
+}
+
+fn worn_tags(name: &'static str, level: usize) -> Workload {
+    let matrices = of_tags(|random, wrong| worn_tag(random, N, K, level, wrong));
     Workload { name, matrices }
 }
 
@@ -40,6 +46,24 @@ fn hard_words(name: &'static str, level: usize) -> Workload {
     let mut matrix = || wrong_word(&mut random, N, K, level, wrong);
     let matrices = (0..HARD_WORDS).map(|_| matrix()).collect();
     Workload { name, matrices }
+}
+
+/// Reliabilities that are planned with: of worn tags, and of words whose marks are all clear.
+pub fn weights() -> [(&'static str, Vec<Vec<u16>>); 2] {
+    let clear = |&entry: &u8| u16::from(entry > 0) * WHOLE as u16;
+    let words = hard_words("hard words", GREATEST_LEVEL)
+        .matrices
+        .into_iter();
+    [
+        (
+            "worn tags",
+            of_tags(|random, wrong| worn_weights(random, N, K, wrong)),
+        ),
+        (
+            "hard words",
+            words.map(|word| word.iter().map(clear).collect()).collect(),
+        ),
+    ]
 }
 
 pub fn workloads() -> [Workload; 5] {
