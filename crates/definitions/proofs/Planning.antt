@@ -24,6 +24,14 @@ use Rattle.definitions.specs.Weights.{entryCost, cost}
 entry-cost-three : (m : ℕ) → m ≤ greatestLevel → entryCost m ≤ 3 * m
 entry-cost-three m h = let six : m * (m + 1) ≤ m * 6 = mul-le-mul-left m (omega arith) in omega arith
 
+-- a raise lowers no entry
+pub raise-grows : (m : List ℕ) (b : ℕ) → b < length m → (j : ℕ) → getD m j 0 ≤ getD (set m b (getD m b 0 + 1)) j 0
+raise-grows m b inside j =
+    elim (ℕ-discrete j b) [
+      | yes same ↦ rw same (rw (getD-set-same m b (getD m b 0 + 1) 0 inside) (omega arith))
+      | no other ↦ rw (getD-set-other m b j (getD m b 0 + 1) 0 other) (le-refl (getD m j 0))
+    ]
+
 module _ (r : List ℕ) where
   -- a best entry that does not stop the plan is one of the matrix, and does not stand at 5
   pub raised-within : (m : List ℕ) → stops r m ≡ false → (best r m < length r) × (getD m (best r m) 0 ≡ greatestLevel → ⊥)
@@ -48,14 +56,7 @@ module _ (r : List ℕ) where
   step-grows : (m : List ℕ) → length m ≡ length r → (j : ℕ) → getD m j 0 ≤ getD (step r m) j 0
   step-grows m full j =
       split (stops r m) (λ e. rw (stays m e) (le-refl (getD m j 0)))
-      (λ e.
-      let b = best r m in
-      rw (raises m e)
-      (elim (ℕ-discrete j b) [
-        | yes same ↦
-            rw same (rw (getD-set-same m b (getD m b 0 + 1) 0 (rw full (raised-within m e .0))) (omega arith))
-        | no other ↦ rw (getD-set-other m b j (getD m b 0 + 1) 0 other) (le-refl (getD m j 0))
-      ]))
+      (λ e. rw (raises m e) (raise-grows m (best r m) (rw full (raised-within m e .0)) j))
 
   length-step : (m : List ℕ) → length (step r m) ≡ length m
   length-step m =

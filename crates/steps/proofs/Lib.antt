@@ -1,2 +1,3 @@
+pub mod Expected
 pub mod Leading
 pub mod Stepping
