@@ -19,6 +19,4 @@ pub mod Sums
 pub mod Powers
 pub mod Held
 pub mod Editing
-pub mod Planning
-pub mod Plans
 pub mod Direct

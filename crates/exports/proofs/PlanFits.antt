@@ -6,8 +6,6 @@ use native.Mathlib.Omega.{arith}
 use lib.ListN.{length}
 use Rattle.crossing.specs.Crossing.{Narrow}
 use Rattle.definitions.proofs.Editing.{stored-means}
-use Rattle.definitions.proofs.Planning.{done-within}
-use Rattle.definitions.proofs.Plans.{steps-mean}
 use Rattle.definitions.proofs.Table.{last, or, sizes-mean, size-means, entries-mean}
 use Rattle.definitions.specs.Field.{sixteen}
 use Rattle.definitions.specs.Held.{Held, bytesOf}
@@ -15,6 +13,8 @@ use Rattle.definitions.specs.Limits.{greatestLevel}
 use Rattle.definitions.specs.Listing.{listOf}
 use Rattle.definitions.specs.Planning.{stepsDone, planned, planTable, planAnswer, checkTable, checkAnswer, planListTable, planListAnswer, heldCheckTable, heldCheckAnswer, heldPlanListTable, heldPlanListAnswer}
 use Rattle.exports.proofs.Fits.{counted-narrow, narrow, at-none, at-first, at-bad-column, Few, few-narrow}
+use Rattle.plans.proofs.Planning.{done-within}
+use Rattle.plans.proofs.Taken.{steps-mean}
 
 planned-narrow : (n s : ℕ) → n < 65536 → s < 65536 → Narrow (planned n s)
 planned-narrow n s h k = record { place = omega arith; count = h; value = k; cost = omega arith; bound = omega arith }

@@ -64,7 +64,7 @@ pub fn list_of_reliabilities(
         .length(reliabilities.len(), SYMBOLS, n)
         .room(rows.len(), GREATEST_ROWS, k)
         .or(scores.len() < GREATEST_ROWS, Refusal::Room);
-    let checked = weights::inside::columns_checked(settled, reliabilities, n);
+    let checked = columns::columns_checked(settled, reliabilities, n);
     if let Checked::Refused(r) = checked {
         return Counted::Refused(r);
     }

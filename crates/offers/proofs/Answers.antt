@@ -8,7 +8,6 @@ use native.Mathlib.Omega.{arith}
 use lib.ListN.{length}
 use Rattle.definitions.proofs.Editing.{stored-means}
 use Rattle.definitions.proofs.Held.{Rightly}
-use Rattle.definitions.proofs.Plans.{costAndPlanLeft, planStart, heldPlanStart}
 use Rattle.definitions.proofs.Table.{Accepts, next, end, both-accept, zero-accepts, gives, pass, stop, sizes-mean, limit-means, entries-mean, room-means}
 use Rattle.definitions.proofs.Tools.{split}
 use Rattle.definitions.specs.Answers.{Answer, refused}
@@ -22,6 +21,7 @@ use Rattle.listing.specs.Within.{Answered, Fit}
 use Rattle.planner.specs.Planned.{toldPlanned}
 use Rattle.planner.specs.declared.Planned.{Planned}
 use Rattle.planner.specs.declared.Planned.the-variants.{Of, Refused}
+use Rattle.plans.proofs.Taken.{costAndPlanLeft, planStart, heldPlanStart}
 use Rattle.refusals.proofs.Unique.{refusal-number}
 use Rattle.refusals.specs.Refusal.{toldRefusal}
 use Rattle.refusals.specs.declared.Refusal.{Refusal}

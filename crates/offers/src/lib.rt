@@ -71,7 +71,7 @@ pub fn list_of_plan(
         .room(rows.len(), GREATEST_ROWS, k)
         .or(scores.len() < GREATEST_ROWS, Refusal::Room)
         .symbols(GREATEST_ENTRY, plan);
-    let checked = weights::inside::columns_checked(settled, reliabilities, n);
+    let checked = columns::columns_checked(settled, reliabilities, n);
     if let Checked::Refused(r) = checked {
         return Counted::Refused(r);
     }
@@ -116,7 +116,7 @@ pub fn list_of_plan_of_parts(
         .room(rows.len(), GREATEST_ROWS, k)
         .or(scores.len() < GREATEST_ROWS, Refusal::Room)
         .symbols(GREATEST_ENTRY, entries);
-    let checked = weights::inside::columns_checked(settled, reliabilities, n);
+    let checked = columns::columns_checked(settled, reliabilities, n);
     if let Checked::Refused(r) = checked {
         return Counted::Refused(r);
     }

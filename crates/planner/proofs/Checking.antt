@@ -10,7 +10,6 @@ use lib.ListN.{length, getD, take, drop, List·getD-append}
 use lib.Seq.{getD-take}
 use Rattle.definitions.proofs.Every.{every-same}
 use Rattle.definitions.proofs.Held.{filled-front}
-use Rattle.definitions.proofs.Planning.{length-plan}
 use Rattle.definitions.proofs.Table.{stop, next, end, gives, accepts}
 use Rattle.definitions.specs.Answers.{Answer, refused}
 use Rattle.definitions.specs.Field.{Code}
@@ -18,6 +17,7 @@ use Rattle.definitions.specs.Held.{places, noEntries, filled}
 use Rattle.definitions.specs.Planning.{plan, stepsDone, isPlan, ruled, planned}
 use Rattle.definitions.specs.Refusals.{Line, tried}
 use Rattle.memory.specs.Same.{sameUpTo}
+use Rattle.plans.proofs.Planning.{length-plan}
 use Rattle.refusals.proofs.Chain.{Came, goes-on}
 use Rattle.refusals.specs.Checked.{toldChecked}
 use Rattle.refusals.specs.declared.Checked.{Checked}

@@ -27,7 +27,7 @@ pub fn plan(n: usize, steps: usize, reliabilities: &[u16], out: &mut [u8]) -> Pl
         .steps(steps)
         .length(reliabilities.len(), SYMBOLS, n)
         .room(out.len(), SYMBOLS, n);
-    let checked = weights::inside::columns_checked(settled, reliabilities, n);
+    let checked = columns::columns_checked(settled, reliabilities, n);
     if let Checked::Refused(r) = checked {
         return Planned::Refused(r);
     }
@@ -49,7 +49,7 @@ pub fn check_plan(n: usize, steps: usize, reliabilities: &[u16], plan: &[u8]) ->
         .length(reliabilities.len(), SYMBOLS, n)
         .length(plan.len(), SYMBOLS, n)
         .symbols(GREATEST_ENTRY, plan);
-    let checked = weights::inside::columns_checked(settled, reliabilities, n);
+    let checked = columns::columns_checked(settled, reliabilities, n);
     if let Checked::Refused(r) = checked {
         return Planned::Refused(r);
     }
@@ -74,7 +74,7 @@ pub fn check_plan_of_parts(
         .length(reliabilities.len(), SYMBOLS, n)
         .or(!matrix::rightly(n, cost, totals, entries), Refusal::Length)
         .symbols(GREATEST_ENTRY, entries);
-    let checked = weights::inside::columns_checked(settled, reliabilities, n);
+    let checked = columns::columns_checked(settled, reliabilities, n);
     if let Checked::Refused(r) = checked {
         return Planned::Refused(r);
     }

@@ -1,31 +1,22 @@
 -- The steps of the planner's loops, over plain numbers and lists.
 -- Assumes nothing.
-use mathlib.Core.Bool.{Bool, true, false, cond}
+use mathlib.Core.Bool.{Bool, true, false}
 use mathlib.Core.List.{List, _++_}
 use mathlib.Core.Path.{_≡_, refl, sym, _∙_, ap, ap₂}
-use Prim.Native.Nat.{ℕ, suc, _+_, _-_, _*_, _≤_, _<_}
+use Prim.Native.Nat.{ℕ, suc, _+_, _-_, _*_, _≤_}
 use native.Mathlib.Nat.{mul-le-mul-left}
 use native.Mathlib.Omega.{arith}
 use native.Mathlib.Numerals.{add-one}
-use borrow.Author.Tests.{lt-ltb, le-ltb, eq-eqb, ne-eqb}
+use borrow.Author.Tests.{eq-eqb, ne-eqb}
 use lib.ListN.{length, getD, take, drop, set, replicate, length-replicate}
 use lib.Seq.{ext-getD, getD-take, length-take-le}
-use Rattle.definitions.proofs.Planning.{stays, raises, plan-suc, length-plan, plan-stays, done-more, done-after}
 use Rattle.definitions.proofs.Zeros.{zero-at}
 use Rattle.definitions.specs.Field.{Code}
 use Rattle.definitions.specs.Held.{places, noEntries, filled}
 use Rattle.definitions.specs.Limits.{greatestLevel}
-use Rattle.definitions.specs.Planning.{beats, best, stops, step, plan, stepsDone}
+use Rattle.definitions.specs.Planning.{best, stops, step, plan, stepsDone}
+use Rattle.plans.proofs.Planning.{stays, raises, plan-suc, length-plan, plan-stays, done-more, done-after}
 use Rattle.steps.specs.Entries.{Weights, Columns}
-
--- of two places
-module _ (r m : List ℕ) (earlier later kept new : ℕ) (is-kept : kept ≡ getD r earlier 0 * (getD m later 0 + 1))
-    (is-new : new ≡ getD r later 0 * (getD m earlier 0 + 1)) where
-  pub later-wins : kept < new → later ≡ cond (beats r m later earlier) later earlier
-  later-wins h = rw (lt-ltb _ _ (rw (is-kept, is-new) at h))
-
-  pub earlier-wins : new ≤ kept → earlier ≡ cond (beats r m later earlier) later earlier
-  earlier-wins h = rw (le-ltb _ _ (rw (is-kept, is-new) at h))
 
 -- a step, whose best place is b
 module _ (r m : List ℕ) (b : ℕ) (is-best : b ≡ best r m) where

@@ -1,13 +1,12 @@
-// The steps of Algorithm 1: the best place, a step, and the plan of so many.
-ghost use mathlib.Core.Bool.{cond};
+// Algorithm 1: the best place, a step, and the plan of so many.
 ghost use mathlib.Core.Path.{_≡_};
-ghost use Prim.Native.Nat.{_+_, _*_, _≤_, _<_};
+ghost use Prim.Native.Nat.{_<_};
 ghost use lib.ListN.{length, replicate};
 ghost use Rattle.definitions.specs.Field.{sixteen};
 ghost use Rattle.definitions.specs.Held.{filled};
-ghost use Rattle.definitions.specs.Planning.{beats, best, stops, step, plan, stepsDone};
+ghost use Rattle.definitions.specs.Planning.{best, stops, step, plan, stepsDone};
+ghost use Rattle.plans.specs.Leads.{Led};
 ghost use Rattle.steps.specs.Entries.{Weights, Columns, Low};
-ghost use Rattle.steps.specs.Leads.{LeadsColumn, Led};
 use refusals::limits::ENTRIES;
 use refusals::limits::GREATEST_ENTRY;
 use refusals::limits::POSITIONS;
@@ -18,45 +17,13 @@ pub struct Plan {
     pub entries: [u8; ENTRIES],
 }
 
-// Two quotients are compared by these products: a reliability with the other's multiplicity and one.
-fn times(reliability: u16, multiplicity: u8) -> usize
-    ensures { λ r. ⌜ r ≡ reliability * (multiplicity + 1) ⌝ }
-{
-    weights::inside::wide(reliability) * (field::inside::wide(multiplicity) + 1)
-}
-
-// The place whose quotient is larger, the earlier one where they tie.
-fn better(reliabilities: &[u16], multiplicities: &[u8], earlier: usize, later: usize) -> usize
-    requires { ⌜ (earlier < length (now reliabilities)) × (later < length (now reliabilities)) × (length (now multiplicities) ≡ length (now reliabilities)) ⌝ }
-    ensures { λ r. ⌜ r ≡ cond (beats (now (reliabilities .entry)) (now (multiplicities .entry)) later earlier) later earlier ⌝ }
-{
-    let kept = times(reliabilities[earlier], multiplicities[later]);
-    let new = times(reliabilities[later], multiplicities[earlier]);
-    if kept < new { later } else { earlier }
-}
-
-// The best place of a position's sixteen.
-fn best_of_column(reliabilities: &[u16], multiplicities: &[u8], i: usize) -> usize
-    requires { ⌜ (i < sixteen .positions) × (sixteen .symbols * i + sixteen .symbols ≤ length (now reliabilities)) × (length (now multiplicities) ≡ length (now reliabilities)) ⌝ }
-    ensures { λ r. ⌜ LeadsColumn sixteen (now (reliabilities .entry)) (now (multiplicities .entry)) i r ⌝ }
-{
-    let first = SYMBOLS * i;
-    let mut leading = first;
-    let mut b = 1;
-    while b < SYMBOLS {
-        leading = better(reliabilities, multiplicities, leading, first + b);
-        b += 1;
-    }
-    leading
-}
-
 fn lay_leaders(n: usize, reliabilities: &[u16], multiplicities: &[u8], leaders: &mut [usize])
     requires { ⌜ Columns sixteen n (now reliabilities) (now multiplicities) × (length (now leaders) ≡ sixteen .positions) ⌝ }
     ensures { λ _. ⌜ Led sixteen (now (reliabilities .entry)) (now (multiplicities .entry)) n (now (leaders .exit)) ⌝ }
 {
     let mut i = 0;
     while i < n {
-        leaders[i] = best_of_column(reliabilities, multiplicities, i);
+        leaders[i] = shares::best_of_column(reliabilities, multiplicities, i);
         i += 1;
     }
 }
@@ -69,7 +36,7 @@ fn best(n: usize, reliabilities: &[u16], multiplicities: &[u8], leaders: &[usize
     let mut leading = leaders[0];
     let mut i = 1;
     while i < n {
-        leading = better(reliabilities, multiplicities, leading, leaders[i]);
+        leading = shares::better(reliabilities, multiplicities, leading, leaders[i]);
         i += 1;
     }
     leading
@@ -91,7 +58,7 @@ fn step(n: usize, reliabilities: &[u16], multiplicities: &mut [u8], leaders: &mu
     }
     multiplicities[b] += 1;
     let i = b / SYMBOLS;
-    leaders[i] = best_of_column(reliabilities, multiplicities, i);
+    leaders[i] = shares::best_of_column(reliabilities, multiplicities, i);
     false
 }
 

@@ -30,7 +30,7 @@ pub fn multiplicities(n: usize, level: usize, reliabilities: &[u16], out: &mut [
         .level(level)
         .length(reliabilities.len(), SYMBOLS, n)
         .room(out.len(), SYMBOLS, n);
-    let checked = inside::columns_checked(settled, reliabilities, n);
+    let checked = columns::columns_checked(settled, reliabilities, n);
     if let Checked::Refused(r) = checked {
         return Counted::Refused(r);
     }

@@ -5,7 +5,6 @@ use mathlib.Core.Path.{_≡_}
 use Prim.Native.Nat.{_*_}
 use native.Mathlib.Omega.{arith}
 use lib.ListN.{length}
-use Rattle.definitions.proofs.Plans.{costAndPlanLeft, planStart}
 use Rattle.definitions.specs.Field.{sixteen}
 use Rattle.definitions.specs.Refusals.{columns}
 use Rattle.listing.proofs.Answers.{refused-by-check, passed-on}
@@ -13,6 +12,7 @@ use Rattle.listing.specs.Within.{Fit}
 use Rattle.matrix.proofs.Columns.{turned-front, turned-priced}
 use Rattle.matrix.specs.Record.{heldBy}
 use Rattle.offers.proofs.Answers.{plan-fits}
+use Rattle.plans.proofs.Taken.{costAndPlanLeft, planStart}
 use Rattle.refusals.proofs.Chain.{Came, start, _▸_, further, accepts-front, accepted}
 use Rattle.refusals.specs.Checked.{toldChecked}
 use borrow.Author.Needs.{needs}

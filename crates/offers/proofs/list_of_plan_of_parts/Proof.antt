@@ -5,7 +5,6 @@ use Prim.Native.Nat.{_*_}
 use native.Mathlib.Omega.{arith}
 use lib.ListN.{length}
 use Rattle.definitions.proofs.Held.{Rightly}
-use Rattle.definitions.proofs.Plans.{costAndPlanLeft, heldPlanStart}
 use Rattle.definitions.specs.Field.{sixteen}
 use Rattle.definitions.specs.Held.{Held, held, bytesOf}
 use Rattle.definitions.specs.Refusals.{columns}
@@ -14,6 +13,7 @@ use Rattle.listing.specs.Within.{Fit}
 use Rattle.matrix.proofs.Columns.{rightly-priced}
 use Rattle.matrix.proofs.Record.{stored-tried}
 use Rattle.offers.proofs.Answers.{held-plan-fits}
+use Rattle.plans.proofs.Taken.{costAndPlanLeft, heldPlanStart}
 use Rattle.refusals.proofs.Chain.{Came, start, _▸_, further, accepts-front, accepted}
 use Rattle.refusals.specs.Checked.{toldChecked}
 use borrow.Author.Needs.{needs}

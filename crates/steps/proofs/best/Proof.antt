@@ -4,8 +4,8 @@ use Prim.Native.Nat.{ℕ, _-_, _*_, _≤_, _<_}
 use native.Mathlib.Omega.{arith}
 use lib.ListN.{length, getD}
 use Rattle.definitions.specs.Field.{sixteen}
-use Rattle.steps.proofs.Leading.{column-more, leads-all}
-use Rattle.steps.specs.Leads.{Leads}
+use Rattle.plans.proofs.Leads.{column-more, leads-all}
+use Rattle.plans.specs.Leads.{Leads}
 use Rattle.steps.proofs.best.Statement.{statement}
 use Rattle.steps.proofs.best.Tie as tie
 

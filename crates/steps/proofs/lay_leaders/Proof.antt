@@ -4,8 +4,8 @@ use Prim.Native.Nat.{ℕ, _-_, _≤_}
 use native.Mathlib.Nat.{not-suc-le-zero}
 use native.Mathlib.Omega.{arith}
 use Rattle.definitions.specs.Field.{sixteen}
-use Rattle.steps.proofs.Leading.{led-more}
-use Rattle.steps.specs.Leads.{Led}
+use Rattle.plans.proofs.Leads.{led-more}
+use Rattle.plans.specs.Leads.{Led}
 use Rattle.steps.proofs.lay_leaders.Statement.{statement}
 use Rattle.steps.proofs.lay_leaders.Tie as tie
 

@@ -4,11 +4,11 @@ use mathlib.Core.Path.{_≡_, refl, sym, _∙_, ap}
 use Prim.Native.Nat.{_-_, _≤_}
 use native.Mathlib.Omega.{arith}
 use borrow.Author.Needs.{needs}
-use Rattle.definitions.proofs.Planning.{plan-zero, plan-low, done-zero}
 use Rattle.definitions.specs.Field.{sixteen}
 use Rattle.definitions.specs.Planning.{plan, stepsDone}
+use Rattle.plans.proofs.Planning.{plan-zero, plan-low, done-zero}
+use Rattle.plans.specs.Leads.{Led}
 use Rattle.steps.proofs.Stepping.{beside-plan, plan-more, plan-stopped, as-long}
-use Rattle.steps.specs.Leads.{Led}
 use Rattle.steps.proofs.plan_into.Statement.{statement}
 use Rattle.steps.proofs.plan_into.Tie as tie
 

@@ -4,7 +4,7 @@ use Prim.Native.Nat.{_/_}
 use native.Mathlib.Omega.{arith}
 use lib.ListN.{length-set}
 use Rattle.definitions.specs.Field.{sixteen}
-use Rattle.steps.proofs.Leading.{led-again}
+use Rattle.plans.proofs.Leads.{led-again}
 use Rattle.steps.proofs.Stepping.{no-reliability, at-greatest, raised}
 use borrow.Author.Needs.{needs}
 use Rattle.steps.proofs.step.Statement.{statement}

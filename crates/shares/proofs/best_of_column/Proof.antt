@@ -3,10 +3,10 @@ use mathlib.Core.Path.{_≡_, subst}
 use Prim.Native.Nat.{ℕ, _+_, _-_, _*_, _≤_}
 use native.Mathlib.Omega.{arith}
 use Rattle.definitions.specs.Field.{sixteen}
-use Rattle.steps.proofs.Leading.{leads-itself, symbol-more}
-use Rattle.steps.specs.Leads.{Leads}
-use Rattle.steps.proofs.best_of_column.Statement.{statement}
-use Rattle.steps.proofs.best_of_column.Tie as tie
+use Rattle.plans.proofs.Leads.{leads-itself, symbol-more}
+use Rattle.plans.specs.Leads.{Leads}
+use Rattle.shares.proofs.best_of_column.Statement.{statement}
+use Rattle.shares.proofs.best_of_column.Tie as tie
 
 abbrev Inv-loop : tie.InvT-loop
 Inv-loop reliabilities multiplicities i first leading₀ b₀ leading b =

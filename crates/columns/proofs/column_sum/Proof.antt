@@ -7,8 +7,8 @@ use Rattle.definitions.specs.Tools.{sum}
 use Rattle.definitions.specs.Weights.{entry}
 use native.Mathlib.Omega.{arith}
 use borrow.Author.Needs.{needs}
-use Rattle.weights.proofs.inside.column_sum.Statement.{statement}
-use Rattle.weights.proofs.inside.column_sum.Tie as tie
+use Rattle.columns.proofs.column_sum.Statement.{statement}
+use Rattle.columns.proofs.column_sum.Tie as tie
 
 abbrev Inv-loop : tie.InvT-loop
 Inv-loop reliabilities i total₀ b₀ total b = (b ≤ sixteen .symbols) × (total ≡ sum b (entry sixteen reliabilities i)) × (total ≤ 65535 * b)

@@ -10,7 +10,6 @@ use native.Mathlib.Omega.{arith}
 use borrow.Author.Tests.{ltb-false}
 use lib.ListN.{length, getD, set}
 use lib.Seq.{getD-set-same, getD-set-other}
-use Rattle.definitions.proofs.Planning.{raise-grows, raised-within, stays, raises, plan-zero, plan-suc, length-plan}
 use Rattle.definitions.proofs.Sums.{sum-both, sum-times}
 use Rattle.definitions.proofs.Tools.{split, sum-zero, sum-le}
 use Rattle.definitions.proofs.Weights.{entry-cost-suc}
@@ -18,7 +17,8 @@ use Rattle.definitions.proofs.Zeros.{zero-at}
 use Rattle.definitions.specs.Planning.{best, stops, plan}
 use Rattle.definitions.specs.Tools.{sum}
 use Rattle.definitions.specs.Weights.{entryCost, cost}
-use Rattle.steps.proofs.Leading.{best-leads}
+use Rattle.plans.proofs.Leads.{best-leads}
+use Rattle.plans.proofs.Planning.{raise-grows, raised-within, stays, raises, plan-zero, plan-suc, length-plan}
 
 -- the m-th raise of an entry costs m
 module _ (c : ℕ → ℕ) (more : (m : ℕ) → c (suc m) ≡ c m + suc m) where

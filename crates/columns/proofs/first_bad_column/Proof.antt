@@ -3,12 +3,12 @@ use mathlib.Core.Bool.{false}
 use mathlib.Core.Path.{_≡_}
 use Prim.Native.Nat.{ℕ, _-_, _<_}
 use native.Mathlib.Nat.{not-suc-le-zero}
+use Rattle.columns.proofs.Passed.{column-found, column-passed, no-column}
 use Rattle.definitions.specs.Field.{sixteen}
 use Rattle.definitions.specs.Refusals.{badColumn}
-use Rattle.weights.proofs.Weighing.{column-found, column-passed, no-column}
 use native.Mathlib.Omega.{arith}
-use Rattle.weights.proofs.inside.first_bad_column.Statement.{statement}
-use Rattle.weights.proofs.inside.first_bad_column.Tie as tie
+use Rattle.columns.proofs.first_bad_column.Statement.{statement}
+use Rattle.columns.proofs.first_bad_column.Tie as tie
 
 abbrev Inv-loop : tie.InvT-loop
 Inv-loop reliabilities n position₀ position = (j : ℕ) → j < position → badColumn sixteen reliabilities j ≡ false

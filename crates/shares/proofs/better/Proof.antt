@@ -1,9 +1,9 @@
 -- The later place is answered exactly where its product is greater.
 use native.Mathlib.Omega.{arith}
-use Rattle.steps.proofs.Stepping.{later-wins, earlier-wins}
+use Rattle.plans.proofs.Leads.{later-wins, earlier-wins}
 use borrow.Author.Needs.{needs}
-use Rattle.steps.proofs.better.Statement.{statement}
-use Rattle.steps.proofs.better.Tie as tie
+use Rattle.shares.proofs.better.Statement.{statement}
+use Rattle.shares.proofs.better.Tie as tie
 
 returns : tie.Need-returns
 returns c =

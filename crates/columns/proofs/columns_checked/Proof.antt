@@ -4,8 +4,8 @@ use Rattle.definitions.specs.Refusals.{badColumn, columns}
 use Rattle.definitions.specs.Tools.{smallest}
 use Rattle.refusals.proofs.Lines.{refusal-kept, bad-found, none-found}
 use borrow.Author.Needs.{needs}
-use Rattle.weights.proofs.inside.columns_checked.Statement.{statement}
-use Rattle.weights.proofs.inside.columns_checked.Tie as tie
+use Rattle.columns.proofs.columns_checked.Statement.{statement}
+use Rattle.columns.proofs.columns_checked.Tie as tie
 
 first-bad-column-requires : tie.Need-first-bad-column-requires
 first-bad-column-requires c κs = c .before .before .before .pre (c .enum-told .given .1)

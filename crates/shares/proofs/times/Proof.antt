@@ -4,8 +4,8 @@ use Prim.Native.Nat.{ℕ, _+_, _*_}
 use native.Mathlib.Omega.{arith}
 use Rattle.bound.proofs.Powers.{product-fits}
 use borrow.Author.Needs.{needs}
-use Rattle.steps.proofs.times.Statement.{statement}
-use Rattle.steps.proofs.times.Tie as tie
+use Rattle.shares.proofs.times.Statement.{statement}
+use Rattle.shares.proofs.times.Tie as tie
 
 mul-result : tie.Need-mul-result
 mul-result c = product-fits _ _ (omega arith) (omega arith)

@@ -9,20 +9,20 @@ use native.Mathlib.Omega.{arith}
 use borrow.Author.Tests.{ltb-false, le-ltb, eq-eqb, not-false}
 use lib.ListN.{length, take, drop}
 use lib.Seq.{take-at, length-take-le}
 use Rattle.definitions.proofs.Editing.{stored-means}
 use Rattle.definitions.proofs.Held.{used-within}
-use Rattle.definitions.proofs.Planning.{length-plan, plan-low, done-within, plan-cost, is-plan, plan-is}
 use Rattle.definitions.proofs.Table.{Accepts, next, end, accepts, both-accept, without, passed-front, zero-accepts, sizes-mean, entries-mean, none-passes}
 use Rattle.definitions.proofs.Tools.{split}
 use Rattle.definitions.specs.Answers.{refused, counted, listAnswer, listRows, listScores}
 use Rattle.definitions.specs.Editing.{stored, heldListTable, heldListAnswer, heldListRows, heldListScores}
 use Rattle.definitions.specs.Field.{Code}
 use Rattle.definitions.specs.Held.{Held, bytesOf}
 use Rattle.definitions.specs.Limits.{greatestLevel, greatestLimit, greatestSteps, greatestRows}
 use Rattle.definitions.specs.Listing.{listOf}
 use Rattle.definitions.specs.Planning.{plan, stepsDone, isPlan, steps, ruled, planned, planTable, planAnswer, planOut, checkTable, checkAnswer, planListTable, planListAnswer, planListRows, planListScores, heldPlanListTable, heldPlanListAnswer, heldPlanListRows, heldPlanListScores}
 use Rattle.definitions.specs.Refusals.{Line, tried, sizes, limit, entries, room, entriesOf, columns, costWithin, listTable}
 use Rattle.definitions.specs.Weights.{cost}
+use Rattle.plans.proofs.Planning.{length-plan, plan-low, done-within, plan-cost, is-plan, plan-is}
 
 pub steps-mean : (s : ℕ) → steps s .given ≡ false → s ≤ greatestSteps
 steps-mean s e = ltb-false greatestSteps s e
@@ -57,21 +57,21 @@ module _ (C : Code) where
       (next (ap not (eq-eqb (length (plan r s)) (C .symbols * n) whole))
       (next (none-passes greatestLevel (plan r s) (plan-low r s)) (next columns (next (ap not (is-plan r s)) end))))))
 
-  -- and what is written for s steps is taken, as a plan of as many
-  pub written-taken : (n s : ℕ) (r out : List ℕ) → planAnswer C n s r out .number ≡ 0
-      → checkAnswer C n s r (take (C .symbols * n) (planOut C n s r out)) ≡ planned 0 (stepsDone r s)
-  written-taken n s r out zero =
-      let table = planTable C n s r (length out) in
-      let a = zero-accepts table (planned (C .symbols * n) (stepsDone r s)) refl zero in
-      let taken = plan-taken n s r (length out) a in
-      let full : length (plan r s) ≡ C .symbols * n = length-plan r s ∙ wide a in
-      let written : take (C .symbols * n) (planOut C n s r out) ≡ plan r s =
+  -- what is written in front is the plan
+  written : (n s : ℕ) (r out : List ℕ) → Accepts (planTable C n s r (length out)) → take (C .symbols * n) (planOut C n s r out) ≡ plan r s
+  written n s r out a =
       ap (take (C .symbols * n)) (sym (accepts (λ _ _. out) (plan r s ++ drop (C .symbols * n) out) a))
-      ∙ take-at (plan r s) (drop (C .symbols * n) out) (C .symbols * n) full in
-      ap (checkAnswer C n s r) written ∙ sym (accepts refused (planned 0 (stepsDone r s)) taken)
+      ∙ take-at (plan r s) (drop (C .symbols * n) out) (C .symbols * n) (length-plan r s ∙ wide a)
     where
       wide : Accepts (planTable C n s r (length out)) → length r ≡ C .symbols * n
       wide (next size (next few (next full rest))) = entries-mean (C .symbols * n) r full
+
+  -- so what is written for s steps is taken, as a plan of as many
+  pub written-taken : (n s : ℕ) (r out : List ℕ) → planAnswer C n s r out .number ≡ 0
+      → checkAnswer C n s r (take (C .symbols * n) (planOut C n s r out)) ≡ planned 0 (stepsDone r s)
+  written-taken n s r out zero =
+      let a = zero-accepts (planTable C n s r (length out)) (planned (C .symbols * n) (stepsDone r s)) refl zero in
+      ap (checkAnswer C n s r) (written n s r out a) ∙ sym (accepts refused (planned 0 (stepsDone r s)) (plan-taken n s r (length out) a))
 
   -- and nothing else is
   pub taken-is-plan : (n s : ℕ) (r m : List ℕ) → checkAnswer C n s r m .number ≡ 0 → m ≡ plan r s
@@ -151,3 +151,23 @@ module _ (C : Code) where
       cheap (next sized (next low (next few (next full (next held rest))))) =
           right-within (h .n) s r (bytesOf C h) right few full
           (length-take-le (C .symbols * h .n) (h .entries) (used-within C h (stored-means C h held) (sizes-mean C (h .n) k sized .2)))
+
+  -- so what is written for s steps is listed at the greatest limit, where k fits and there is room
+  pub written-listed : (n k s : ℕ) (r out rows scores : List ℕ) → planAnswer C n s r out .number ≡ 0
+      → Accepts (sizes C n k ∷ room (greatestRows * k) (length rows) ∷ room greatestRows (length scores) ∷ [])
+      → planListAnswer C n k greatestLimit s r (take (C .symbols * n) (planOut C n s r out)) rows scores ≡ counted (length (listOf C n k (plan r s)))
+  written-listed n k s r out rows scores zero fits =
+      let a = zero-accepts (planTable C n s r (length out)) (planned (C .symbols * n) (stepsDone r s)) refl zero in
+      ap (λ (m : List ℕ). planListAnswer C n k greatestLimit s r m rows scores) (written n s r out a)
+      ∙ sym (accepts refused (counted (length (listOf C n k (plan r s)))) (listed (plan-taken n s r (length out) a) fits))
+    where
+      listed : Accepts (checkTable C n s r (plan r s)) → Accepts (sizes C n k ∷ room (greatestRows * k) (length rows) ∷ room greatestRows (length scores) ∷ [])
+          → Accepts (planListTable C n k greatestLimit s r (plan r s) (length rows) (length scores))
+      listed (next size (next few (next full (next whole (next low (next columns (next right end))))))) (next sized (next rowed (next scored end))) =
+          next sized
+          (next refl
+          (next few
+          (next full
+          (next whole
+          (next rowed
+          (next scored (next low (next columns (next (le-ltb greatestLimit (cost (plan r s)) (plan-within r s (steps-mean s few))) (next right end))))))))))

@@ -18,7 +18,7 @@ use Rattle.definitions.proofs.Tools.{split, smallest-is}
 use Rattle.definitions.specs.Field.{Code}
 use Rattle.definitions.specs.Planning.{beats, best}
 use Rattle.definitions.specs.Tools.{every}
-use Rattle.steps.specs.Leads.{Leads, LeadsColumn, Led}
+use Rattle.plans.specs.Leads.{Leads, LeadsColumn, Led}
 
 -- a/p ≤ b/q < c/s, in products
 quotients : (a b c p q s : ℕ) → 0 < p → a * q ≤ b * p → b * s < c * q → a * s < c * p
@@ -26,6 +26,15 @@ quotients a b c p q s some h g =
     lt-of-mul-lt-mul-right q
     (lt-of-le-of-lt (le-trans (le-of-eq (mul-right-comm a s q)) (le-trans (mul-le-mul-right s h) (le-of-eq (mul-right-comm b p s))))
     (lt-of-lt-of-le (mul-lt-mul-of-pos-right {k = p} g some) (le-of-eq (mul-right-comm c q p))))
+
+-- of two places
+module _ (r m : List ℕ) (earlier later kept new : ℕ) (is-kept : kept ≡ getD r earlier 0 * (getD m later 0 + 1))
+    (is-new : new ≡ getD r later 0 * (getD m earlier 0 + 1)) where
+  pub later-wins : kept < new → later ≡ cond (beats r m later earlier) later earlier
+  later-wins h = rw (lt-ltb _ _ (rw (is-kept, is-new) at h))
+
+  pub earlier-wins : new ≤ kept → earlier ≡ cond (beats r m later earlier) later earlier
+  earlier-wins h = rw (le-ltb _ _ (rw (is-kept, is-new) at h))
 
 module _ (r m : List ℕ) where
   -- the reliability of i, times the multiplicity of j and one

@@ -1,0 +1,4 @@
+pub mod Planning
+pub mod Taken
+pub mod Leads
+pub mod Expected
