@@ -1,12 +1,9 @@
--- The promises of the counter determine the verdict, and where the part lies with what it holds. (A reference has besides a name in the logic,
--- which no program sees.)
+-- The promises of the counter determine the verdict.
 -- Assumes nothing.
 use mathlib.Core.List.{List, [], _∷_}
-use mathlib.Core.Path.{_≡_, refl, sym, _∙_, ap}
+use mathlib.Core.Path.{_≡_, refl}
 use Prim.Native.Nat.{ℕ}
-use denote.Ref.{RefT}
 use lib.ListN.{getD}
-use Rattle.counter.specs.Handing.{Part, partAt, opened, bothOpened}
 use Rattle.counter.specs.Judging.{judgeAnswer, bothAnswer}
 use Rattle.counter.specs.Verdict.{toldVerdict}
 use Rattle.counter.specs.declared.Settings.{Settings}
@@ -29,13 +26,6 @@ verdict-back (Refused r) = refused-back (λ a. getD (Nothing ∷ Open ∷ Ask �
 one-verdict : {x y : Verdict} {a : Answer} → toldVerdict x ≡ a → toldVerdict y ≡ a → x ≡ y
 one-verdict = same-told toldVerdict verdictOf verdict-back
 
--- one place and one content
-abbrev SamePart : RefT (List ℕ) → RefT (List ℕ) → Type 0
-SamePart x y = (x .ptr ≡ y .ptr) × (x .now ≡ y .now)
-
-one-part : (x y : RefT (List ℕ)) (p : Part) → partAt x ≡ p → partAt y ≡ p → SamePart x y
-one-part x y p e f = (ap (λ (p : Part). p .0) (e ∙ sym f), ap (λ (p : Part). p .1) (e ∙ sym f))
-
 module _ (C : Code) where
   pub judge-unique : (k : ℕ) (rows scores : List ℕ) (g : ℕ) (x y : Verdict)
       → toldVerdict x ≡ judgeAnswer C k rows scores g → toldVerdict y ≡ judgeAnswer C k rows scores g → x ≡ y
@@ -44,12 +34,3 @@ module _ (C : Code) where
   pub judge-both-unique : (s : Settings) (rows scores : List ℕ) (t : Settings) (others otherScores : List ℕ) (g : ℕ) (x y : Verdict)
       → toldVerdict x ≡ bothAnswer C s rows scores t others otherScores g → toldVerdict y ≡ bothAnswer C s rows scores t others otherScores g → x ≡ y
   judge-both-unique s rows scores t others otherScores g x y = one-verdict
-
-  pub opened-unique : (k : ℕ) (rows : RefT (List ℕ)) (scores : List ℕ) (g : ℕ) (x y : RefT (List ℕ))
-      → partAt x ≡ opened C k rows scores g → partAt y ≡ opened C k rows scores g → SamePart x y
-  opened-unique k rows scores g x y = one-part x y (opened C k rows scores g)
-
-  pub opened-both-unique : (s : Settings) (rows : RefT (List ℕ)) (scores : List ℕ) (t : Settings) (others : RefT (List ℕ)) (otherScores : List ℕ) (g : ℕ)
-      (x y : RefT (List ℕ))
-      → partAt x ≡ bothOpened C s rows scores t others otherScores g → partAt y ≡ bothOpened C s rows scores t others otherScores g → SamePart x y
-  opened-both-unique s rows scores t others otherScores g x y = one-part x y (bothOpened C s rows scores t others otherScores g)

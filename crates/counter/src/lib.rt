@@ -2,7 +2,6 @@
 ghost use mathlib.Core.Path.{_≡_};
 ghost use Prim.Native.Nat.{_*_, _≤_};
 ghost use lib.ListN.{length};
-ghost use Rattle.counter.specs.Handing.{partAt, opened, bothOpened};
 ghost use Rattle.counter.specs.Judging.{judged, sameSettings, apart, bothJudged, judgeAnswer, bothAnswer};
 ghost use Rattle.counter.specs.Verdict.{toldVerdict};
 ghost use Rattle.definitions.specs.Answers.{valued};
@@ -61,16 +60,6 @@ pub fn judge(k: usize, rows: &[u8], scores: &[u16], lead: usize) -> Verdict
         return Verdict::Refused(r);
     }
     judged(scores, lead)
-}
-
-// The row that is opened, where it lies; an empty part where none is.
-pub fn opened<'a, 's>(k: usize, rows: &'a [u8], scores: &'s [u16], lead: usize) -> &'a [u8]
-    ensures { λ r. ⌜ partAt r ≡ opened sixteen k (rows .entry) (now (scores .entry)) lead ⌝ }
-{
-    if let Verdict::Open = judge(k, rows, scores, lead) {
-        return rows::row(k, rows, 0);
-    }
-    &rows[0..0]
 }
 
 fn same_settings(first: Settings, second: Settings) -> bool
@@ -144,26 +133,4 @@ pub fn judge_both(
         return Verdict::Refused(r);
     }
     both_judged(first.k, rows, scores, others, other_scores, lead)
-}
-
-// The row that is opened, in the list that is judged; an empty part of the first where none is.
-pub fn opened_both<'a, 's, 't>(
-    first: Settings,
-    rows: &'a [u8],
-    scores: &'s [u16],
-    second: Settings,
-    others: &'a [u8],
-    other_scores: &'t [u16],
-    lead: usize,
-) -> &'a [u8]
-    ensures { λ r. ⌜ partAt r ≡ bothOpened sixteen first (rows .entry) (now (scores .entry)) second (others .entry) (now («other_scores» .entry)) lead ⌝ }
-{
-    let k = first.k;
-    if let Verdict::Open = judge_both(first, rows, scores, second, others, other_scores, lead) {
-        if scores.len() == 0 {
-            return rows::row(k, others, 0);
-        }
-        return rows::row(k, rows, 0);
-    }
-    &rows[0..0]
 }

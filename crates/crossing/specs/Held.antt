@@ -3,11 +3,11 @@
 use mathlib.Core.Bool.{cond}
 use mathlib.Core.List.{List}
 use Prim.Native.Nat.{ℕ}
-use Rattle.counter.specs.Handing.{isOpen}
 use Rattle.counter.specs.Judging.{ofJudged}
 use Rattle.counter.specs.declared.Settings.{Settings}
 use Rattle.definitions.specs.Answers.{Answer}
 use Rattle.crossing.specs.declared.judging.Judgement as crossing
+use Rattle.opening.specs.Handing.{isOpen}
 
 -- field by field
 abbrev pub judgementOf : crossing.Judgement → Answer

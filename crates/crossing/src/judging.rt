@@ -2,10 +2,10 @@
 ghost use mathlib.Core.Bool.{true};
 ghost use mathlib.Core.Path.{_≡_};
 ghost use Prim.Native.Nat.{_<_};
-ghost use Rattle.counter.specs.Handing.{isOpen};
 ghost use Rattle.counter.specs.Verdict.{toldVerdict};
 ghost use Rattle.crossing.specs.Held.{judgementOf, holder, heldAnswer};
 ghost use Rattle.definitions.specs.Answers.{valued};
+ghost use Rattle.opening.specs.Handing.{isOpen};
 ghost use Rattle.refusals.specs.Refusal.{toldRefusal};
 use counter::Verdict;
 use refusals::Refusal;

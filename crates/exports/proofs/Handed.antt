@@ -7,7 +7,6 @@ use Prim.Native.Nat.{ℕ}
 use denote.Ref.{RefT}
 use lib.Dec.{eqb}
 use lib.ListN.{length}
-use Rattle.counter.specs.Handing.{isOpen, front, opened, bothOpened}
 use Rattle.counter.specs.Judging.{judgeAnswer, bothAnswer}
 use Rattle.counter.specs.declared.Settings.{Settings}
 use Rattle.crossing.specs.Held.{judgementOf, holder, heldAnswer}
@@ -15,6 +14,7 @@ use Rattle.crossing.specs.declared.judging.Judgement as crossing
 use Rattle.definitions.proofs.Tools.{split}
 use Rattle.definitions.specs.Answers.{Answer}
 use Rattle.definitions.specs.Field.{Code}
+use Rattle.opening.specs.Handing.{isOpen, front, opened, bothOpened}
 
 -- list 2 is the second, any other number the first
 abbrev numbered : RefT (List ℕ) → RefT (List ℕ) → ℕ → RefT (List ℕ)

@@ -2,11 +2,11 @@
 use mathlib.Core.Path.{sym, _∙_, ap}
 use native.Mathlib.Omega.{arith}
 use borrow.Author.Needs.{needs}
-use Rattle.counter.proofs.Opening.{open-sized}
-use Rattle.counter.specs.Handing.{isOpen}
 use Rattle.crossing.specs.Held.{heldAnswer}
 use Rattle.definitions.specs.Answers.{Answer}
 use Rattle.definitions.specs.Field.{sixteen}
+use Rattle.opening.proofs.Opening.{open-sized}
+use Rattle.opening.specs.Handing.{isOpen}
 use Rattle.exports.proofs.judging.kv_open.Statement.{statement}
 use Rattle.exports.proofs.judging.kv_open.Tie as tie
 

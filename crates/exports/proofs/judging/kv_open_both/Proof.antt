@@ -3,11 +3,11 @@ use mathlib.Core.Path.{sym, _∙_, ap, ap₂}
 use Prim.Native.Nat.{ℕ}
 use native.Mathlib.Omega.{arith}
 use borrow.Author.Needs.{needs}
-use Rattle.counter.proofs.Opening.{both-open-sized}
-use Rattle.counter.specs.Handing.{isOpen}
 use Rattle.crossing.specs.Held.{settingsOf, heldAnswer}
 use Rattle.definitions.specs.Answers.{Answer}
 use Rattle.definitions.specs.Field.{sixteen}
+use Rattle.opening.proofs.Opening.{both-open-sized}
+use Rattle.opening.specs.Handing.{isOpen}
 use Rattle.exports.proofs.judging.kv_open_both.Statement.{statement}
 use Rattle.exports.proofs.judging.kv_open_both.Tie as tie
 

@@ -3,13 +3,13 @@ use mathlib.Core.Bool.{Bool, true, false, cond}
 use mathlib.Core.Path.{_≡_, sym, _∙_, ap}
 use lib.ListN.{length}
 use borrow.Author.Needs.{needs}
-use Rattle.counter.proofs.Opening.{front-row, empty-front, first-row-fits, other-verdict, row-there}
-use Rattle.counter.specs.Handing.{Part, front, isOpen}
+use Rattle.opening.proofs.Opening.{front-row, empty-front, first-row-fits, other-verdict, row-there}
+use Rattle.opening.specs.Handing.{Part, front, isOpen}
 use Rattle.counter.specs.Judging.{judgeAnswer}
 use Rattle.counter.specs.Verdict.{toldVerdict}
 use Rattle.definitions.specs.Field.{sixteen}
-use Rattle.counter.proofs.opened.Statement.{statement}
-use Rattle.counter.proofs.opened.Tie as tie
+use Rattle.opening.proofs.opened.Statement.{statement}
+use Rattle.opening.proofs.opened.Tie as tie
 
 -- what is handed back, by whether it is opened
 abbrev handed : tie.Start → Bool → Part

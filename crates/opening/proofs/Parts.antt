@@ -9,10 +9,10 @@ use denote.Ref.{RefT}
 use lib.Dec.{eqb}
 use lib.ListN.{length}
 use lib.Seq.{length-take-le}
-use Rattle.counter.proofs.Opening.{row-there, row-in-judged, open-sized, both-open-sized}
-use Rattle.counter.specs.Handing.{isOpen, opened, bothOpened}
+use Rattle.opening.proofs.Opening.{row-there, row-in-judged, open-sized, both-open-sized}
+use Rattle.opening.specs.Handing.{isOpen, opened, bothOpened}
 use Rattle.counter.specs.Judging.{judgeAnswer, bothAnswer}
 use Rattle.counter.specs.declared.Settings.{Settings}
 use Rattle.definitions.proofs.Tools.{split}
 use Rattle.definitions.specs.Field.{Code}
 

@@ -12,15 +12,15 @@ use denote.Ref.{RefT}
 use types.Run.{OneOf}
 use borrow.Author.Tests.{eqb-true, eq-eqb, ne-eqb}
 use lib.ListN.{length, take, drop}
 use Rattle.counter.proofs.Both.{both-full}
 use Rattle.counter.proofs.Verdict.{the-type}
 use Rattle.counter.proofs.Judging.{open-some}
-use Rattle.counter.specs.Handing.{partAt, front, isOpen}
+use Rattle.opening.specs.Handing.{partAt, front, isOpen}
 use Rattle.counter.specs.Judging.{toOpen, judged, apart, ofJudged, bothJudged, judgeTable, bothTable, judgeAnswer, bothAnswer}
 use Rattle.counter.specs.Verdict.{toldVerdict}
 use Rattle.counter.specs.declared.Settings.{Settings}
 use Rattle.counter.specs.declared.Verdict.{Verdict}
 use Rattle.counter.specs.declared.Verdict.the-variants.{Open, Ask, Nothing, Refused}
 use Rattle.definitions.proofs.Table.{Accepts, next, end, size-means, sizes-mean}
 use Rattle.definitions.proofs.Tools.{split}
 use Rattle.definitions.specs.Answers.{refused, valued}

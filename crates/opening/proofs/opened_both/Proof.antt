@@ -6,13 +6,13 @@ use lib.Dec.{eqb}
 use lib.ListN.{length}
 use borrow.Author.Needs.{needs}
 use borrow.Author.Tests.{eq-eqb, ne-eqb}
-use Rattle.counter.proofs.Opening.{front-row, empty-front, first-row-fits, other-verdict, row-in-judged}
-use Rattle.counter.specs.Handing.{Part, front, isOpen}
+use Rattle.opening.proofs.Opening.{front-row, empty-front, first-row-fits, other-verdict, row-in-judged}
+use Rattle.opening.specs.Handing.{Part, front, isOpen}
 use Rattle.counter.specs.Judging.{bothAnswer}
 use Rattle.counter.specs.Verdict.{toldVerdict}
 use Rattle.definitions.specs.Field.{sixteen}
-use Rattle.counter.proofs.opened_both.Statement.{statement}
-use Rattle.counter.proofs.opened_both.Tie as tie
+use Rattle.opening.proofs.opened_both.Statement.{statement}
+use Rattle.opening.proofs.opened_both.Tie as tie
 
 abbrev entry : tie.After-judge-both → tie.Start
 entry c = c .before .before .before .before .before
