@@ -25,11 +25,11 @@ use Rattle.definitions.specs.Polynomial.{Through}
 use Rattle.definitions.specs.Roots.{isRoot, rootsOf}
 use Rattle.definitions.specs.Tools.{select}
 use Rattle.definitions.specs.Weights.{score}
+use Rattle.levels.proofs.Written.{Sized}
 use Rattle.listing.specs.Within.{Lists, Rooted, rootsAbove}
 use Rattle.ranking.proofs.Levels.{all-ranked}
 use Rattle.ranking.proofs.Memory.{rows-read}
 use Rattle.ranking.proofs.Same.{ranked-same, map-same}
-use Rattle.ranking.proofs.Written.{Sized}
 use Rattle.ranking.specs.Rows.{rowsOf, ranked, scoresOf}
 use Rattle.scores.proofs.Scores.{matrix-score}
 use Rattle.scores.specs.Scores.{matrixScore}

@@ -23,11 +23,11 @@ use Rattle.definitions.specs.Refusals.{Line, tried, line, readTable}
 use Rattle.definitions.specs.Tools.{below}
 use Rattle.definitions.specs.Weights.{matrix, cost, score}
 use Rattle.instances.proofs.Codes.{sixteen-field}
+use Rattle.levels.proofs.Written.{Sized}
 use Rattle.refusals.proofs.Unique.{refusal-number}
 use Rattle.refusals.specs.Refusal.{toldRefusal}
 use Rattle.refusals.specs.declared.Refusal.{Refusal}
 use Rattle.ranking.proofs.Memory.{rows-read}
-use Rattle.ranking.proofs.Written.{Sized}
 use Rattle.output.specs.Program.{listText, symbolsOfRows, answerTo, answerText, Holds}
 use Rattle.text.proofs.Putting.{none-lines, more-lines}
 use Rattle.text.specs.Text.{listedLine, rowLine, lineOf, rowLines, refusedLine}
