@@ -5,6 +5,7 @@ use crate::call::Call;
 use crate::columns::{columns, GREATEST_SUM};
 use crate::entry::{Entry, Program};
 use crate::{cost_and_bound, encode, field, multiplicities};
+use kv::lent::Answer;
 use second::bound::GREATEST_LIMIT;
 use second::field::{ALPHA, SYMBOLS};
 use second::list::MOST_ROWS;
@@ -58,6 +59,22 @@ pub struct Line {
     pub text: String,
     pub written: Vec<u16>,
     pub answered: Vec<u16>,
+}
+
+/// A call, by the number and the place of its refusal and by what else it is to tell.
+pub fn told_line(
+    program: Program,
+    entry: &Entry,
+    call: &Call,
+    written: [u16; 3],
+    told: fn(&Answer) -> u16,
+) -> Line {
+    let answer = entry.outcome(program, call).answer;
+    Line {
+        text: format!("{} of {call:?}", entry.name),
+        written: written.to_vec(),
+        answered: vec![answer.number, answer.place, told(&answer)],
+    }
 }
 
 fn field_lines(program: Program) -> Vec<Line> {

@@ -1,7 +1,7 @@
 //! What document 02, order 5, says of single records, written out.
 
 use crate::call::{Call, Edit};
-use crate::edges::{hold, Line};
+use crate::edges::{hold, told_line, Line};
 use crate::edited::entries::{
     ADD, CLEAR_COLUMN, COST_AND_BOUND, FRESH, INTERPOLATE, LIST, OF_BYTES, SET_ENTRY,
 };
@@ -126,12 +126,7 @@ fn call(n: usize, records: Vec<Record>, edit: Edit) -> Call {
 }
 
 fn line(program: Program, entry: &Entry, call: &Call, written: Answers) -> Line {
-    let answer = entry.outcome(program, call).answer;
-    Line {
-        text: format!("{} of {call:?}", entry.name),
-        written: written.to_vec(),
-        answered: vec![answer.number, answer.place, answer.cost],
-    }
+    told_line(program, entry, call, written, |answer| answer.cost)
 }
 
 fn made_lines(program: Program) -> Vec<Line> {

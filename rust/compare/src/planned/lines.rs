@@ -1,7 +1,7 @@
 //! What document 02, order 7, says of single plans, written out.
 
 use crate::call::Call;
-use crate::edges::{hold, sum_lines, Line};
+use crate::edges::{hold, sum_lines, told_line, Line};
 use crate::entry::{Entry, Program};
 use crate::lists;
 use crate::planned::entries::{
@@ -126,12 +126,7 @@ fn plan_line(program: Program, (weights, steps, done, plan): (Weights, usize, u1
 }
 
 fn stated_line(program: Program, entry: &Entry, call: &Call, written: Answers) -> Line {
-    let answer = entry.outcome(program, call).answer;
-    Line {
-        text: format!("{} of {call:?}", entry.name),
-        written: written.to_vec(),
-        answered: vec![answer.number, answer.place, answer.value],
-    }
+    told_line(program, entry, call, written, |answer| answer.value)
 }
 
 /// The entries that check a plan tell its steps, those that list it do not.
