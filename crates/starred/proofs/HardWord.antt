@@ -19,7 +19,7 @@ use Rattle.definitions.specs.Polynomial.{Interpolates, Through, binomial, modul
 use Rattle.definitions.specs.Tools.{below, sum}
 use Rattle.definitions.specs.Weights.{entry}
 use Rattle.linear.proofs.Leading.{zero-after}
-use Rattle.starred.specs.Starred.{hardWord}
+use Rattle.starred.specs.Single.{single, hardWord}
 
 abbrev word : List ℕ
 word = hardWord (1 ∷ 1 ∷ 1 ∷ [])
@@ -35,7 +35,7 @@ passesAt : ℕ → ℕ → Bool
 passesAt i b = leb (entry sixteen word i b) 1 && (eqb (entry sixteen word i b) 0 || eqb (valueAt answer (point sixteen i) b) 0)
 
 passing : T (every 3 (λ i. every (sixteen .symbols) (λ b. passesAt i b)))
-unfolding passesAt valueAt hardWord every hasse terms derivative modulo2 binomial power sumOf double shifted below flatMap
+unfolding passesAt valueAt single every hasse terms derivative modulo2 binomial power sumOf double shifted below flatMap
 passing = tt
 
 -- of two coefficients only zeros pass through two of the points
@@ -90,11 +90,11 @@ shape p e h = ext-getD 0 p (getD p 0 0 ∷ getD p 1 0 ∷ 0 ∷ 0 ∷ 0 ∷ 0 �
     at (suc (suc (suc (suc (suc (suc i)))))) l = let z : ⊥ = omega arith in absurd z
 
 first-point : (p : List ℕ) → Through sixteen 3 1 2 word p → valueAt p 1 1 ≡ 0
-unfolding valueAt hardWord below power sumOf double shifted
+unfolding valueAt single below power sumOf double shifted
 first-point p h = h 0 1 (omega arith) (omega arith) 0 0 (omega arith)
 
 second-point : (p : List ℕ) → Through sixteen 3 1 2 word p → valueAt p 2 1 ≡ 0
-unfolding valueAt hardWord below power sumOf double shifted
+unfolding valueAt single below power sumOf double shifted
 second-point p h = h 1 1 (omega arith) (omega arith) 0 0 (omega arith)
 
 none-earlier : (p : List ℕ) → length p ≡ 6 → Symbols sixteen p → Through sixteen 3 1 2 word p → leading p < 2 → isZero p ≡ true

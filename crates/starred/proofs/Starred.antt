@@ -9,18 +9,19 @@ use Rattle.definitions.specs.Polynomial.{terms, isZero}
 use Rattle.definitions.specs.Roots.{rootsOf, plus, scaled, times, powers, compose}
 use Rattle.definitions.specs.Tools.{below, sum, smallest, select}
 use Rattle.starred.proofs.HardWord.{hard-word}
-use Rattle.starred.specs.Starred.{Starred, hardWord, best}
+use Rattle.starred.specs.Single.{single, hardWord}
+use Rattle.starred.specs.Starred.{Starred, best}
 
 best-of-112 : best 3 (hardWord (1 ∷ 1 ∷ 2 ∷ [])) (messages sixteen 2) ≡ 2
-unfolding hardWord best messages flatMap power value sumOf double shifted below sum
+unfolding single best messages flatMap power value sumOf double shifted below sum
 best-of-112 = refl
 
 list-of-112 : listOf sixteen 3 2 (hardWord (1 ∷ 1 ∷ 2 ∷ [])) ≡ []
-unfolding hardWord messages flatMap power value sumOf double shifted below sum smallest select fallingOnto
+unfolding single messages flatMap power value sumOf double shifted below sum smallest select fallingOnto
 list-of-112 = refl
 
 list-of-1112 : listOf sixteen 4 2 (hardWord (1 ∷ 1 ∷ 1 ∷ 2 ∷ [])) ≡ (1 ∷ 0 ∷ []) ∷ []
-unfolding hardWord messages flatMap power value sumOf double shifted below sum smallest select placed fallingOnto
+unfolding single messages flatMap power value sumOf double shifted below sum smallest select placed fallingOnto
 list-of-1112 = refl
 
 two-roots : rootsOf sixteen 2 2 (0 ∷ 0 ∷ 0 ∷ 0 ∷ 1 ∷ 1 ∷ []) ≡ (0 ∷ 0 ∷ []) ∷ (0 ∷ 1 ∷ []) ∷ []
@@ -32,7 +33,7 @@ unfolding messages flatMap sumOf double shifted below select isZero terms plus s
 root-once = refl
 
 pub starred : Starred
-unfolding hardWord power value sumOf double shifted below sum smallest
+unfolding single power value sumOf double shifted below sum smallest
 starred = record {
   product = refl;
   inverse-of-2 = refl;
@@ -59,5 +60,5 @@ starred = record {
 
 -- an empty list, or one that never changes, is none: of two hard words the first has a row and the second has not
 pub lists-differ : (listOf sixteen 3 2 (hardWord (1 ∷ 1 ∷ 1 ∷ [])) ≡ (1 ∷ 0 ∷ []) ∷ []) × (listOf sixteen 3 2 (hardWord (1 ∷ 1 ∷ 2 ∷ [])) ≡ [])
-unfolding hardWord messages flatMap power value sumOf double shifted below sum smallest select placed fallingOnto
+unfolding single messages flatMap power value sumOf double shifted below sum smallest select placed fallingOnto
 lists-differ = (refl, list-of-112)

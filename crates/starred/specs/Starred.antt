@@ -1,23 +1,18 @@
 -- The starred lines of document 01, as one statement of the definitions.
 -- Assumes nothing.
 use mathlib.Core.Bool.{cond}
-use mathlib.Core.List.{List, [], _∷_, _++_, map}
+use mathlib.Core.List.{List, [], _∷_}
 use mathlib.Core.Path.{_≡_}
 use Prim.Native.Nat.{ℕ}
-use lib.Dec.{eqb, ltb}
+use lib.Dec.{ltb}
 use Rattle.definitions.specs.Bound.{count, bound}
 use Rattle.definitions.specs.Code.{codeword, messages}
 use Rattle.definitions.specs.Field.{sixteen, inverseOf}
 use Rattle.definitions.specs.Listing.{listOf}
 use Rattle.definitions.specs.Polynomial.{Interpolates}
 use Rattle.definitions.specs.Roots.{rootsOf}
-use Rattle.definitions.specs.Tools.{below}
 use Rattle.definitions.specs.Weights.{multiplicity, cost, score}
-
--- "Single symbols with L = 1 are called hard words"
-unfoldable pub hardWord : List ℕ → List ℕ
-hardWord [] = []
-hardWord (s ∷ l) = map (λ (b : ℕ). cond (eqb b s) 1 0) (below (sixteen .symbols)) ++ hardWord l
+use Rattle.starred.specs.Single.{hardWord}
 
 -- the greatest of the messages' scores
 unfoldable pub best : ℕ → List ℕ → List (List ℕ) → ℕ
