@@ -3,4 +3,13 @@ pub mod Agreement
 pub mod Nearest
 pub mod Added
 pub mod Accepted
+pub mod Marks
+pub mod Distance
+pub mod Clean
+pub mod Few
+pub mod Smallest
+pub mod Quotient
+pub mod Coefficients
+pub mod Factors
 pub mod Laws
+pub mod Desk

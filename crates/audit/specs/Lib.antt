@@ -1,2 +1,5 @@
 pub mod Words
+pub mod Marks
+pub mod Factors
 pub mod Laws
+pub mod Desk
