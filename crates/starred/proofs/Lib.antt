@@ -1,2 +1,3 @@
+pub mod Single
 pub mod HardWord
 pub mod Starred
