@@ -2,7 +2,7 @@
 -- Assumes nothing.
 use mathlib.Core.Bool.{Bool, cond}
 use mathlib.Core.List.{List, [], _∷_, _++_}
-use mathlib.Core.Path.{_≡_, sym, _∙_, ap, subst}
+use mathlib.Core.Path.{_≡_, refl, sym, _∙_, ap, subst}
 use Prim.Native.Nat.{ℕ, zero, suc, _+_, _*_, _-_, _/_, _%_, _^_, _≤_, _<_}
 use native.Mathlib.Omega.{arith}
 use native.Mathlib.Nat.{pow-suc}
@@ -13,11 +13,15 @@ use Rattle.text.specs.Rooms.{greatestDigits}
 use Rattle.text.specs.Text.{decimalWithin, decimal, Puts}
 
 -- the clauses of the decimal text
-within-one : (w x : ℕ) → x < 10 → decimalWithin (suc w) x ≡ ((48 + x) ∷ [])
+pub within-none : (x : ℕ) → decimalWithin zero x ≡ []
+unfolding decimalWithin
+within-none x = refl
+
+pub within-one : (w x : ℕ) → x < 10 → decimalWithin (suc w) x ≡ ((48 + x) ∷ [])
 unfolding decimalWithin
 within-one w x h = ap (λ (b : Bool). cond b ((48 + x) ∷ []) (decimalWithin w (x / 10) ++ ((48 + x % 10) ∷ []))) (lt-ltb x 10 h)
 
-within-more : (w x : ℕ) → 10 ≤ x → decimalWithin (suc w) x ≡ decimalWithin w (x / 10) ++ ((48 + x % 10) ∷ [])
+pub within-more : (w x : ℕ) → 10 ≤ x → decimalWithin (suc w) x ≡ decimalWithin w (x / 10) ++ ((48 + x % 10) ∷ [])
 unfolding decimalWithin
 within-more w x h = ap (λ (b : Bool). cond b ((48 + x) ∷ []) (decimalWithin w (x / 10) ++ ((48 + x % 10) ∷ []))) (le-ltb x 10 h)
 

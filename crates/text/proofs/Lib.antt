@@ -1,2 +1,3 @@
 pub mod Putting
 pub mod Decimal
+pub mod Reading

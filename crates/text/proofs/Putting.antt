@@ -6,10 +6,10 @@ use Prim.Native.Nat.{ℕ, suc, _+_, _*_, _-_, _≤_, _<_}
 use native.Mathlib.Numerals.{add-one}
 use native.Mathlib.Omega.{arith}
 use lib.ListN.{length, take, drop, getD, set, length-append, length-drop, length-map}
-use lib.Seq.{length-take-le, take-all}
+use lib.Seq.{length-take-le, take-all, take-at}
 use Rattle.definitions.proofs.Tools.{map-at}
 use Rattle.definitions.specs.Field.{sixteen}
-use Rattle.memory.proofs.Laid.{length-laid, laid-none, laid-turned, laid-behind, laid-within}
+use Rattle.memory.proofs.Laid.{length-laid, laid-none, laid-turned, laid-behind, laid-within, laid-front}
 use Rattle.memory.specs.Laid.{laid}
 use Rattle.text.specs.Rooms.{rowRoom, longestRowRoom}
 use Rattle.text.specs.Text.{Puts, hexDigit, rowLine, lineOf, rowLines}
@@ -84,3 +84,12 @@ puts-within out after w at end h p =
     let size : length after ≡ length (laid out at w) = ap length (p .2) in
     let fits : end ≤ length after = omega arith in
     (fits, sym (length-take-le end after fits))
+
+-- what is put in front of a memory: it begins with the words, and what lies behind them stays
+pub puts-front : (out after w : List ℕ) (end : ℕ) → Puts out 0 w end after → (end ≡ length w) × (after ≡ w ++ drop (length w) out)
+puts-front out after w end p = let size : end ≡ length w = omega arith in (size, p .2 ∙ laid-front out w (length w) refl)
+
+pub puts-words : (out after w : List ℕ) (end : ℕ) → Puts out 0 w end after → take end after ≡ w
+puts-words out after w end p =
+    let (size, front) = puts-front out after w end p in
+    ap (take end) front ∙ take-at w (drop (length w) out) end (sym size)
