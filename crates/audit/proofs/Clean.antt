@@ -16,6 +16,7 @@ use Rattle.algebra.specs.FieldOf.{FieldOf}
 use Rattle.audit.proofs.Agreement.{agree-at-most}
 use Rattle.audit.proofs.Distance.{stands-first}
 use Rattle.audit.proofs.Marks.{twice-entry-cost, sum-of-one, sum-of-ones, read, read-and-erased, marks-counted, cost-of-marks, score-of-marks, codeword-symbol}
+use Rattle.audit.specs.Desk.{Sizes}
 use Rattle.audit.specs.Marks.{weightsOf, matrixOf, erased, wrong}
 use Rattle.audit.specs.Words.{Message, agreeing}
 use Rattle.definitions.proofs.Above.{above-in-order}
@@ -76,7 +77,7 @@ module _ (v : ℕ) (pos : 1 ≤ v) where
       let low = bound-above (n * entryCost (suc j)) (v * suc j - 1) (omega arith) in
       omega arith
 
-module _ (C : Code) (F : FieldOf C) (n k L : ℕ) (f : List ℕ) (sizes : (2 ≤ k) × (k ≤ n) × (n ≤ C .positions)) (level : 1 ≤ L) (mf : Message C k f) where
+module _ (C : Code) (F : FieldOf C) (n k L : ℕ) (f : List ℕ) (sizes : Sizes C n k) (level : 1 ≤ L) (mf : Message C k f) where
   abbrev c : List ℕ
   c = codeword C n f
 
@@ -127,7 +128,7 @@ module _ (C : Code) (F : FieldOf C) (n k L : ℕ) (f : List ℕ) (sizes : (2 ≤
   clean-alone =
       let none = none-worn in
       let first = stands-first C F n k L f c sizes level mf (length-codeword C f n) (omega arith) in
-      alone-of (first .0) (first .1) (first .2)
+      alone-of (first .rest) (first .first) (first .leads)
 
 -- ---- the table
 
@@ -157,7 +158,7 @@ module _ (C : Code) (n : ℕ) (word : List ℕ) (size : length word ≡ n) where
       ]
 
   -- so only the cost can refuse it
-  pub word-taken : (k L G rows scores : ℕ) → (2 ≤ k) × (k ≤ n) × (n ≤ C .positions) → (1 ≤ L) × (L ≤ greatestLevel) → G ≤ greatestLimit
+  pub word-taken : (k L G rows scores : ℕ) → Sizes C n k → (1 ≤ L) × (L ≤ greatestLevel) → G ≤ greatestLimit
       → greatestRows * k ≤ rows → greatestRows ≤ scores → cost (matrixOf C L word) ≤ G → Accepts (readTable C n k L G (weightsOf C word) rows scores)
   word-taken k L G rows scores sizes level limit rowsRoom scoresRoom price =
       let fits : sizesLine C n k .given ≡ false = rw (le-leb 2 k (sizes .0), le-leb k n (sizes .1), le-leb n (C .positions) (sizes .2)) refl in

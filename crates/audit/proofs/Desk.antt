@@ -3,8 +3,8 @@
 use mathlib.Core.Bool.{cond}
 use mathlib.Core.List.{List, [], _∷_, _++_}
 use mathlib.Core.Logic.{⊎-elim}
-use mathlib.Core.Path.{_≡_, refl, sym, _∙_, ap, ap₂}
-use Prim.Native.Nat.{ℕ, zero, suc, _+_, _-_, _*_, _/_, _≤_, _<_}
+use mathlib.Core.Path.{_≡_, refl, sym, _∙_, ap, ap₂, subst}
+use Prim.Native.Nat.{ℕ, zero, suc, _+_, _-_, _*_, _≤_, _<_}
 use native.Mathlib.Nat.{le-of-suc-le-suc, not-suc-le-zero, mul-le-mul}
 use native.Mathlib.Omega.{arith}
 use borrow.Author.Tests.{lt-ltb}
@@ -19,7 +19,7 @@ use Rattle.audit.proofs.Factors.{root-is-factor, factor-is-root}
 use Rattle.audit.proofs.Few.{few-above, few-rows}
 use Rattle.audit.proofs.Marks.{read, read-and-erased, cost-of-marks}
 use Rattle.audit.proofs.Smallest.{monomials-begin, smallest-of-all}
-use Rattle.audit.specs.Desk.{Sizes, Earlier, Exactly, Clean, First, Answered, Desk, DeskOfSixteen}
+use Rattle.audit.specs.Desk.{Sizes, Earlier, Exactly, Clean, Answered, Desk, DeskOfSixteen}
 use Rattle.audit.specs.Marks.{weightsOf, matrixOf, erased, wrong}
 use Rattle.audit.specs.Words.{Message, differing}
 use Rattle.definitions.proofs.Above.{Precedes, above-in-order}
@@ -31,11 +31,11 @@ use Rattle.definitions.proofs.Ordered.{ordered-at}
 use Rattle.definitions.proofs.Sums.{sum-of-zeros}
 use Rattle.definitions.proofs.Table.{Accepts, accepts}
 use Rattle.definitions.proofs.Tools.{sum-ext}
-use Rattle.definitions.specs.Answers.{refused, counted, rowsOnto, scoresOnto, readAnswer, readRows, readScores}
+use Rattle.definitions.specs.Answers.{refused, counted, rowsOnto, scoresOnto}
 use Rattle.definitions.specs.Bound.{bound}
-use Rattle.definitions.specs.Code.{codeword}
+use Rattle.definitions.specs.Code.{Symbols, codeword}
 use Rattle.definitions.specs.Field.{Code, sixteen}
-use Rattle.definitions.specs.Limits.{greatestLevel, greatestLimit, greatestRows}
+use Rattle.definitions.specs.Limits.{greatestLevel, greatestLimit}
 use Rattle.definitions.specs.Listing.{listOf}
 use Rattle.definitions.specs.Refusals.{readTable}
 use Rattle.definitions.specs.Weights.{entryCost, cost, score}
@@ -80,58 +80,52 @@ module _ (C : Code) (F : FieldOf C) where
   clean n k L f sizes level mf =
       record { alone = clean-alone C F n k L f sizes level mf; full = clean-score C F n k L f sizes level mf; price = clean-cost C F n k L f sizes level mf }
 
-  worn : (n k L : ℕ) (f word : List ℕ) → Sizes C n k → 1 ≤ L → Message C k f → length word ≡ n
-      → 2 * wrong C n word (codeword C n f) + erased C n word ≤ n - k → First C n k L f word
-  worn n k L f word sizes level mf size few =
-      let first = stands-first C F n k L f word sizes level mf size few in
-      record { rest = first .0; first = first .1; leads = first .2 }
-
   -- where every mark is read, those that differ are wrong, and none is erased
-  half : (n k L : ℕ) (f word : List ℕ) → Sizes C n k → 1 ≤ L → Message C k f → Message C n word → differing n word (codeword C n f) ≤ (n - k) / 2 → First C n k L f word
-  half n k L f word sizes level mf mw few =
-      let c = codeword C n f in
-      let differ = sum-ext n (λ (i : ℕ). cond (ltb (getD word i 0) (C .symbols)) (cond (eqb (getD word i 0) (getD c i 0)) 0 1) 0)
-      (λ (i : ℕ). cond (eqb (getD word i 0) (getD c i 0)) 0 1) (λ i _. rw (lt-ltb (getD word i 0) (C .symbols) (mw .1 i)) refl) in
-      let none = sum-of-zeros n (λ (i : ℕ). cond (ltb (getD word i 0) (C .symbols)) 0 1) (λ i. rw (lt-ltb (getD word i 0) (C .symbols) (mw .1 i)) refl) in
-      worn n k L f word sizes level mf (mw .0) (omega arith)
+  all-read : (n : ℕ) (c word : List ℕ) → Symbols C word → (wrong C n word c ≡ differing n word c) × (erased C n word ≡ 0)
+  all-read n c word symbols = (
+    sum-ext n (λ (i : ℕ). cond (ltb (getD word i 0) (C .symbols)) (cond (eqb (getD word i 0) (getD c i 0)) 0 1) 0)
+        (λ (i : ℕ). cond (eqb (getD word i 0) (getD c i 0)) 0 1) (λ i _. rw (lt-ltb (getD word i 0) (C .symbols) (symbols i)) refl),
+    sum-of-zeros n (λ (i : ℕ). cond (ltb (getD word i 0) (C .symbols)) 0 1) (λ i. rw (lt-ltb (getD word i 0) (C .symbols) (symbols i)) refl),
+  )
 
-  answered : (n k L G : ℕ) (word rows scores : List ℕ) → Sizes C n k → (1 ≤ L) × (L ≤ greatestLevel) → G ≤ greatestLimit → length word ≡ n
-      → greatestRows * k ≤ length rows → greatestRows ≤ length scores → cost (matrixOf C L word) ≤ G
-      → Answered C n k L G word rows scores (listOf C n k (matrixOf C L word))
-  answered n k L G word rows scores sizes level limit size rowsRoom scoresRoom price =
-      let m = matrixOf C L word in
-      let taken : Accepts (readTable C n k L G (weightsOf C word) (length rows) (length scores)) =
-      word-taken C n word size k L G (length rows) (length scores) sizes level limit rowsRoom scoresRoom price in
-      record {
-        answer = sym (accepts refused (counted (length (listOf C n k m))) taken);
-        rows-are = sym (accepts (λ _ _. rows) (rowsOnto k (listOf C n k m) rows) taken);
-        scores-are = sym (accepts (λ _ _. scores) (scoresOnto C n m (listOf C n k m) scores) taken);
-      }
+  -- what the lines of the table say of a tag that reads one word
+  module _ (n k L G : ℕ) (word rows scores : List ℕ) where
+    abbrev m : List ℕ
+    m = matrixOf C L word
 
-  clean-answered : (n k L G : ℕ) (f rows scores : List ℕ) → Sizes C n k → (1 ≤ L) × (L ≤ greatestLevel) → G ≤ greatestLimit → Message C k f
-      → greatestRows * k ≤ length rows → greatestRows ≤ length scores → n * entryCost L ≤ G
-      → (readAnswer C n k L G (weightsOf C (codeword C n f)) rows scores ≡ counted 1)
-      × (readRows C n k L G (weightsOf C (codeword C n f)) rows scores ≡ f ++ drop k rows)
-      × (readScores C n k L G (weightsOf C (codeword C n f)) rows scores ≡ n * L ∷ drop 1 scores)
-  clean-answered n k L G f rows scores sizes level limit mf rowsRoom scoresRoom price =
-      let c = codeword C n f in
-      let its = clean n k L f sizes (level .0) mf in
-      let within = its .price in
-      let told = answered n k L G c rows scores sizes level limit (length-codeword C f n) rowsRoom scoresRoom (omega arith) in
-      let one : k * 1 ≡ k = omega arith in (
-        told .answer ∙ ap (λ (l : List (List ℕ)). counted (length l)) (its .alone),
-        told .rows-are ∙ ap (λ (l : List (List ℕ)). rowsOnto k l rows) (its .alone) ∙ ap₂ (λ (l : List ℕ) (j : ℕ). l ++ drop j rows) (flatten-one f) one,
-        told .scores-are ∙ ap (λ (l : List (List ℕ)). scoresOnto C n (matrixOf C L c) l scores) (its .alone) ∙ ap (λ (s : ℕ). s ∷ drop 1 scores) (its .full),
-      )
+    answered : Accepts (readTable C n k L G (weightsOf C word) (length rows) (length scores)) → Answered C n k L G word rows scores (listOf C n k m)
+    answered taken = record {
+      answer = sym (accepts refused (counted (length (listOf C n k m))) taken);
+      rows-are = sym (accepts (λ _ _. rows) (rowsOnto k (listOf C n k m) rows) taken);
+      scores-are = sym (accepts (λ _ _. scores) (scoresOnto C n m (listOf C n k m) scores) taken);
+    }
+
+    answered-alone : (f : List ℕ) → listOf C n k m ≡ f ∷ [] → Answered C n k L G word rows scores (listOf C n k m) → Answered C n k L G word rows scores (f ∷ [])
+    answered-alone f alone = subst (Answered C n k L G word rows scores) alone
 
   pub desk : Desk C
   desk = record {
     exactly = exactly;
     clean = clean;
-    half = half;
-    worn = worn;
-    answered = answered;
-    clean-answered = clean-answered;
+    worn = λ n k L f word sizes level mf size few. stands-first C F n k L f word sizes level mf size few;
+    half = λ n k L f word sizes level mf mw few.
+        (let marks = all-read n (codeword C n f) word (mw .1) in
+        let wrongs = marks .0 in
+        let none = marks .1 in
+        stands-first C F n k L f word sizes level mf (mw .0) (omega arith));
+    answered = λ n k L G word rows scores sizes level limit size rowsRoom scoresRoom price.
+        answered n k L G word rows scores (word-taken C n word size k L G (length rows) (length scores) sizes level limit rowsRoom scoresRoom price);
+    clean-answered = λ n k L G f rows scores sizes level limit mf rowsRoom scoresRoom price.
+        (let its = clean n k L f sizes (level .0) mf in
+        let c = codeword C n f in
+        let within = its .price in
+        let one : k * 1 ≡ k = omega arith in
+        let told = answered-alone n k L G c rows scores f (its .alone)
+        (answered n k L G c rows scores (word-taken C n c (length-codeword C f n) k L G (length rows) (length scores) sizes level limit rowsRoom scoresRoom (omega arith))) in (
+          told .answer,
+          told .rows-are ∙ ap₂ (λ (l : List ℕ) (j : ℕ). l ++ drop j rows) (flatten-one f) one,
+          told .scores-are ∙ ap (λ (s : ℕ). s ∷ drop 1 scores) (its .full),
+        ));
     root-is-factor = root-is-factor C F;
     factor-is-root = factor-is-root C F;
     begins = λ v D E pos h. monomials-begin v pos D E h;

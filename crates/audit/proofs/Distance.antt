@@ -13,6 +13,7 @@ use Rattle.algebra.proofs.Elements.{zero-symbol}
 use Rattle.algebra.specs.FieldOf.{FieldOf}
 use Rattle.audit.proofs.Agreement.{agree-at-most}
 use Rattle.audit.proofs.Marks.{twice-entry-cost, read, read-and-erased, marks-counted, shared-marks, cost-of-marks, score-of-marks, codeword-symbol}
+use Rattle.audit.specs.Desk.{Sizes, First}
 use Rattle.audit.specs.Marks.{matrixOf, erased, wrong}
 use Rattle.audit.specs.Words.{Message, agreeing}
 use Rattle.definitions.proofs.Above.{Precedes, AllAbove, above-in-order}
@@ -90,7 +91,7 @@ module _ (v : ℕ) (pos : 1 ≤ v) where
 
 -- ---- the list
 
-module _ (C : Code) (F : FieldOf C) (n k L : ℕ) (f word : List ℕ) (sizes : (2 ≤ k) × (k ≤ n) × (n ≤ C .positions)) (level : 1 ≤ L)
+module _ (C : Code) (F : FieldOf C) (n k L : ℕ) (f word : List ℕ) (sizes : Sizes C n k) (level : 1 ≤ L)
     (mf : Message C k f) (size : length word ≡ n) (few : 2 * wrong C n word (codeword C n f) + erased C n word ≤ n - k) where
   abbrev m : List ℕ
   m = matrixOf C L word
@@ -134,5 +135,7 @@ module _ (C : Code) (F : FieldOf C) (n k L : ℕ) (f word : List ℕ) (sizes : (
       apart : (x y : List ℕ) → Precedes (score C n m) x y → x ≡ y → ⊥
       apart x y p same = before-irreflexive y (subst (λ (z : List ℕ). Before z y) same (p .1 (ap (score C n m) same)))
 
-  pub stands-first : (rest : List (List ℕ)) × (listOf C n k m ≡ f ∷ rest) × ((g : List ℕ) → List·Memᴰ g rest → score C n m g + L ≤ score C n m f)
-  stands-first = first-of (listOf C n k m) (list .ordered) (λ g h. (list .sized g h, list .symbols g h)) (list .each f (mf .0) (mf .1) true-above)
+  pub stands-first : First C n k L f word
+  stands-first =
+      let first = first-of (listOf C n k m) (list .ordered) (λ g h. (list .sized g h, list .symbols g h)) (list .each f (mf .0) (mf .1) true-above) in
+      record { rest = first .0; first = first .1; leads = first .2 }
