@@ -19,6 +19,7 @@ usage: marks COMMAND FILE...
   bytes   the program's bytes, of one file
   text    the text in its canonical form, of one file
   list    the list in the program's words, by the proved library
+  help    this page
 
 A file that ends in .tag holds the program's bytes. One that ends in .marks holds a text:
 
@@ -30,7 +31,7 @@ A file that ends in .tag holds the program's bytes. One that ends in .marks hold
 
 In the picture each symbol of a mark is as wide as its weight. A mark is worn where its
 strongest symbol has less than 3072, three quarters of 4096, and over where its weights
-sum to more than 4096. The last columns are the tickets of the list, one each.
+sum to more than 4096. Each of the last columns is a ticket of the list.
 
 The status is 0, or 1 where a file has a fault, or 2 where this page should be read.
 ";
@@ -81,6 +82,9 @@ fn main() -> ExitCode {
     let word = words.next().unwrap_or_default();
     let word = word.to_string_lossy();
     let files: Vec<PathBuf> = words.map(PathBuf::from).collect();
+    if matches!(&*word, "help" | "--help") {
+        return ExitCode::from(u8::from(stdout().write_all(HELP.as_bytes()).is_err()));
+    }
     if let Some(why) = misuse(&word, &files) {
         eprint!("marks: {why}\n\n{HELP}");
         return ExitCode::from(2);

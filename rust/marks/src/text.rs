@@ -127,7 +127,6 @@ impl Reader {
     }
 
     fn take(&mut self, text: &str) {
-        self.line += 1;
         let said = text.split('#').next().unwrap_or_default();
         let Some((name, weights)) = said.split_once(':') else {
             for word in said.split_whitespace() {
@@ -142,7 +141,6 @@ impl Reader {
 
     /// What only the end of the text tells.
     fn end(&mut self) {
-        self.line = self.line.max(1);
         for (index, name) in NAMES.into_iter().enumerate() {
             if self.reading.line_of(Item::Setting(index)).is_none() {
                 self.fault(format!("the text ends, and {name} is not set"));
@@ -162,8 +160,16 @@ impl Reader {
 pub fn read(text: &str) -> Reading {
     let mut reader = Reader::default();
     reader.reading.tag.settings = LENIENT;
+    reader.line = 1;
+    if text.contains('\0') {
+        reader.fault("this is no text: the program's bytes belong in a .tag".to_string());
+        return reader.reading;
+    }
     let text = text.trim_start_matches('\u{feff}');
-    text.lines().for_each(|line| reader.take(line));
+    for (index, line) in text.lines().enumerate() {
+        reader.line = index + 1;
+        reader.take(line);
+    }
     reader.end();
     reader.reading
 }

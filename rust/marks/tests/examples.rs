@@ -15,6 +15,7 @@ const RUNS: &str = "\
 1 show examples/none.tag | examples/none.tag: No such file
 2  | marks: \"\" is no command
 2 draw examples/worn.tag | marks: \"draw\" is no command
+0 help |
 2 show | marks: show takes a file
 2 bytes examples/worn.marks examples/worn.marks | marks: bytes takes one file
 2 show examples/worn.txt | marks: examples/worn.txt is no .tag or .marks

@@ -62,6 +62,8 @@ fn texts_are_refused_by_line_and_reason() {
     assert_eq!(faults(&dear.replace("1000", "1000 d")), why);
     let why = "line 4: the text ends, and mark 2 is missing\n";
     assert_eq!(faults(&TAG.replace("n=2", "n=3")), why);
+    let why = "line 1: this is no text: the program's bytes belong in a .tag\n";
+    assert_eq!(faults("\u{2}\u{2}\0"), why);
     let not_set = |name| format!("line 1: the text ends, and {name} is not set\n");
     assert_eq!(faults(""), ["n", "k", "L", "G"].map(not_set).concat());
 }

@@ -62,6 +62,27 @@ fn tags_come_back_and_are_checked_as_the_library_refuses() -> Result<(), String>
 }
 
 #[test]
+fn texts_with_other_bytes_in_them_are_read_or_refused() {
+    let mut random = Random::new(SEED);
+    let mut seen = BTreeSet::new();
+    for _ in 0..TAGS {
+        let tag = bytes::read(&tag(&mut random)).unwrap_or_default();
+        let mut other = text::write(&tag).into_bytes();
+        for _ in 0..random.between(1, 3) {
+            let place = random.between(0, other.len() - 1);
+            other[place] = random.between(0, u8::MAX.into()) as u8;
+        }
+        let read = text::read(&String::from_utf8_lossy(&other)).tag();
+        seen.insert(read.is_ok());
+        if let Ok(tag) = read {
+            let again = text::read(&text::write(&tag)).tag();
+            assert_eq!(again.ok(), Some(tag));
+        }
+    }
+    assert_eq!(seen.len(), 2);
+}
+
+#[test]
 fn a_text_is_brought_into_its_canonical_form() -> Result<(), usize> {
     let free = "\u{feff}G=150 L=1\r\n# two marks\r\nn=02 k=2\r\n0 : C=5 1=70 b=5 2=0\r\n1:4=0";
     let canonical = "n=2     # marks on the tag\nk=2     # symbols of a ticket's message\n\
