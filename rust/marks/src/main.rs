@@ -23,11 +23,11 @@ usage: marks COMMAND FILE...
 
 A file that ends in .tag holds the program's bytes. One that ends in .marks holds a text:
 
-  n=4 k=2 L=1 G=150  # marks, symbols of a message, level, limit on the cost
+  n=4 k=2 L=4 G=150  # marks, symbols of a message, level, limit on the cost
   0: 1=4096          # a line for each mark: symbols, 0 to f, and their weights
   1: 1=2148 c=1948   # at most 4096 together; what is not named has none
   2: erased          # cannot be read
-  3: 2=4096
+  3: 1=4000
 
 In the picture each symbol of a mark is as wide as its weight. A mark is worn where its
 strongest symbol has less than 3072, three quarters of 4096, and over where its weights

@@ -1,5 +1,7 @@
 //! The command, on the tags of examples/.
 
+use marks::list::{list, program_words};
+use marks::text;
 use std::fs;
 use std::path::Path;
 use std::process::{Command, Output};
@@ -65,6 +67,18 @@ fn the_readme_shows_what_is_written() {
     for line in shown {
         assert!(written.lines().any(|other| other == line), "{line}");
     }
+}
+
+#[test]
+fn the_text_that_is_explained_is_listed() {
+    let readme = String::from_utf8_lossy(&kept("examples/README.md")).into_owned();
+    let from = readme.find("    n=4 ").unwrap_or_default();
+    let lines = readme[from..]
+        .lines()
+        .take_while(|line| !line.starts_with("Ticket"));
+    let tag = text::read(&lines.collect::<Vec<_>>().join("\n")).tag();
+    let listed = program_words(&list(&tag.unwrap_or_default()));
+    assert_eq!(listed, "listed 1\nscore 9 message 10\n");
 }
 
 #[test]
