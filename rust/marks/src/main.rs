@@ -51,11 +51,18 @@ fn output(word: &str, name: &str, reading: Reading) -> Result<Vec<u8>, Vec<Fault
     })
 }
 
+/// Whether it could be written, and if not says so.
+fn written(output: &[u8]) -> bool {
+    let outcome = stdout().write_all(output).and_then(|()| stdout().flush());
+    let told = outcome.map_err(|why| eprintln!("marks: this cannot be written: {why}"));
+    told.is_ok()
+}
+
 /// Whether the file had no fault, and what was made of it could be written.
 fn run(word: &str, path: &Path) -> bool {
     let name = path.display().to_string();
     match open(path).and_then(|reading| output(word, &name, reading)) {
-        Ok(output) => stdout().write_all(&output).is_ok(),
+        Ok(output) => written(&output),
         Err(faults) => {
             faults.iter().for_each(|fault| eprintln!("{name}: {fault}"));
             false
@@ -83,7 +90,7 @@ fn main() -> ExitCode {
     let word = word.to_string_lossy();
     let files: Vec<PathBuf> = words.map(PathBuf::from).collect();
     if matches!(&*word, "help" | "--help") {
-        return ExitCode::from(u8::from(stdout().write_all(HELP.as_bytes()).is_err()));
+        return ExitCode::from(u8::from(!written(HELP.as_bytes())));
     }
     if let Some(why) = misuse(&word, &files) {
         eprint!("marks: {why}\n\n{HELP}");
