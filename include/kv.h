@@ -1,17 +1,21 @@
 /*
- * The proved Reed-Solomon library, archive libexports.a.
+ * The proved Reed-Solomon library, archive libkv.a.
  *
  * Symbols are 0 to 15, polynomials over bits modulo x^4 + x + 1; alpha is 2. n is the number of
  * positions, k the number of message symbols. Any number may come in: every call ends.
  *
  * What the caller owes: a pointer and its length are memory that is there, aligned for its type and
- * not changed by others during the call; lent output overlaps no input. Where a length is 0 nothing
- * is read or written.
+ * not changed by others during the call; lent output overlaps no input and no other output. Where a
+ * length is 0 nothing is read or written.
  *
  * Inputs are never changed, but for a record that is edited. A refused call changes no lent memory:
  * it answers its number, its place, and 0 in every other field. The place is 0 unless an entry below
  * says otherwise. Refusals are tried in the order in which they are listed, and the first that holds
  * is given.
+ *
+ * Calls may run side by side in several threads, each with output of its own. A call's working
+ * memory is its own, on the stack: 64 KiB are enough for an interpolation and for a list, 24 KiB for
+ * kv_roots and 4 KiB for every other call, on x86-64 and on 64-bit Arm.
  */
 #ifndef KV_H
 #define KV_H

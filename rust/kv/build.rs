@@ -14,18 +14,18 @@ fn folder() -> PathBuf {
 
 fn main() {
     let folder = folder();
-    let archive = folder.join("libexports.a");
+    let archive = folder.join("libkv.a");
     println!("cargo:rerun-if-env-changed=KV_ARCHIVE");
     println!("cargo:rerun-if-changed={}", archive.display());
     if !archive.is_file() {
         eprintln!(
-            "kv: there is no {}. Make the archive with \
-             `tools/native-staticlib exports target/native/libexports.a` from the repository's \
-             root, or name the folder that has it in the environment variable KV_ARCHIVE.",
+            "kv: there is no {}. Prove and build it with `tools/install PREFIX` from the \
+             repository's root, or name the folder that has it in the environment variable \
+             KV_ARCHIVE.",
             archive.display()
         );
         exit(1);
     }
     println!("cargo:rustc-link-search=native={}", folder.display());
-    println!("cargo:rustc-link-lib=static=exports");
+    println!("cargo:rustc-link-lib=static=kv");
 }

@@ -67,12 +67,13 @@ impl Comparison {
         }
     }
 
-    /// What the reader writes, unless it could not be run or did not end by itself.
+    /// What the reader writes, unless it could not be run, did not end by itself, or complained.
     fn read(&self, input: &[u8]) -> Result<String, String> {
         let mut child = Command::new(&self.command[0])
             .args(&self.command[1..])
             .stdin(Stdio::piped())
             .stdout(Stdio::piped())
+            .stderr(Stdio::piped())
             .spawn()
             .map_err(|error| error.to_string())?;
         let pipe = child.stdin.take().expect("the input is a pipe");
@@ -84,9 +85,11 @@ impl Comparison {
         let ended = child
             .wait_with_output()
             .map_err(|error| error.to_string())?;
-        match ended.status.code() {
-            Some(_) => Ok(String::from_utf8_lossy(&ended.stdout).into_owned()),
-            None => Err(ended.status.to_string()),
+        let text = |bytes: &[u8]| String::from_utf8_lossy(bytes).into_owned();
+        match (ended.status.code(), ended.stderr.is_empty()) {
+            (Some(_), true) => Ok(text(&ended.stdout)),
+            (Some(_), false) => Err(text(&ended.stderr)),
+            (None, _) => Err(ended.status.to_string()),
         }
     }
 

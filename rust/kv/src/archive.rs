@@ -39,9 +39,10 @@ pub struct Judgement {
 /// Declares each entry, and its call: a slice is a pointer and its length.
 ///
 /// The archive asks of a caller that each pointer and its length are memory that is there, aligned
-/// and not changed by others during the call, and that lent output overlaps no input. Here both
-/// come from one slice that is borrowed for the call, and `&mut` is borrowed alone. Everything else
-/// the library checks: any number, length and content may come in, and every call returns.
+/// and not changed by others during the call, and that lent output overlaps no input and no other
+/// output. Here pointer and length come from one slice that is borrowed for the call, and `&mut` is
+/// borrowed alone. Everything else the library checks: any number, length and content may come in,
+/// and every call returns.
 macro_rules! entries {
     ($(
         $(#[$about:meta])*

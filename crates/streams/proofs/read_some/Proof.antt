@@ -1,0 +1,31 @@
+-- Each turn leaves one try fewer.
+use mathlib.Core.Path.{_≡_}
+use lib.ListN.{length}
+use native.Mathlib.Omega.{arith}
+use borrow.Author.Needs.{needs}
+use Rattle.streams.proofs.read_some.Statement.{statement}
+use Rattle.streams.proofs.read_some.Tie as tie
+
+abbrev Inv-loop : tie.InvT-loop
+Inv-loop fd buf₀ left₀ buf left = length buf ≡ length buf₀
+
+abbrev μ-loop : tie.MeasureT-loop
+μ-loop fd buf₀ left₀ buf left = left
+
+pub read-some-spec : {M : Type 1} → statement M
+read-some-spec =
+    tie.close
+    (tie.spec
+    Inv-loop
+    μ-loop
+    (λ c. search needs)
+    (λ c κs. search needs)
+    (λ c κs. search needs)
+    (λ c κs. search needs)
+    (λ c. search needs)
+    (λ c. c .told .ensures)
+    (λ c. omega arith)
+    (λ c. omega arith)
+    (λ c. search needs)
+    (λ c. search needs)
+    (λ c. tt))
