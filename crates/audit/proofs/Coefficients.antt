@@ -2,31 +2,31 @@
 -- Q(x, f(x)) is zero if and only if y + f(x) times some polynomial has the coefficients of Q.
 -- Assumes nothing.
 use mathlib.Core.Bool.{cond, _&&_}
-use mathlib.Core.List.{List, [], _∷_, map}
+use mathlib.Core.List.{List, [], _∷_}
 use mathlib.Core.Logic.{_≢_}
 use mathlib.Core.Path.{_≡_, refl, sym, _∙_, ap, ap₂, fun-ext}
 use Prim.Native.Nat.{ℕ, zero, suc}
 use native.Mathlib.Decide.{ℕ-discrete}
 use borrow.Author.Tests.{eq-eqb, ne-eqb}
 use lib.Dec.{eqb}
-use lib.ListN.{getD, List·getD-map}
+use lib.ListN.{getD}
 use Rattle.algebra.proofs.Binomials.{derivative-in-series}
 use Rattle.algebra.proofs.Carry.{carry-power}
 use Rattle.algebra.proofs.Composition.{valueAt, evaluate-compose}
 use Rattle.algebra.proofs.Evaluation.{evaluate}
 use Rattle.algebra.proofs.Hasse.{around, value-around, inSeries, hasse-is-coefficient}
-use Rattle.algebra.proofs.Polynomials.{value-plus, coefficient-plus}
-use Rattle.algebra.proofs.RingLaws.{ring, plus-zero, zero-plus, plus-self, times-one, times-zero, zero-times, equal-of-sum}
+use Rattle.algebra.proofs.RingLaws.{ring, plus-zero, zero-plus, plus-self, times-one, times-zero, zero-times}
 use Rattle.algebra.proofs.RootCounting.{Zero}
-use Rattle.algebra.proofs.Series.{Series, series, mulS, constant, constants, linear, addS-at, zeroS-at, constant-o, constant-add, constant-times, constant-zero, constant-suc, constant-mul, linear-mul-zero, linear-mul-suc}
+use Rattle.algebra.proofs.Series.{Series, mulS, constant, constants, linear, addS-at, zeroS-at, constant-o, constant-add, constant-times, constant-zero, constant-suc, constant-mul, linear-mul-zero, linear-mul-suc}
 use Rattle.algebra.proofs.Taylor.{taylor}
 use Rattle.algebra.specs.Ring.{Ring, Hom}
 use Rattle.audit.proofs.Quotient.{at, at-factor, quotientBy, at-quotient}
 use Rattle.audit.specs.Factors.{coefficient, timesFactor}
-use Rattle.definitions.proofs.Codeword.{power-zero, power-suc, value-nil, value-cons}
+use Rattle.definitions.proofs.Codeword.{power-zero, power-suc}
 use Rattle.definitions.specs.Field.{Ops, power, value}
 use Rattle.definitions.specs.Polynomial.{Term, derivative, hasse}
-use Rattle.definitions.specs.Roots.{plus, compose}
+use Rattle.definitions.specs.Roots.{compose}
+use Rattle.root_tree.proofs.Values.{value-zeros, series-coefficient, value-same}
 
 module _ (R : Ring) where
   open Ops (R .ops) using (K, o, i, add as _⊕_, mul as _⊗_)
@@ -89,31 +89,6 @@ module _ (R : Ring) where
       (derivative-same (m .2) t) (derivative-other (m .2) t))
       (coefficient-is-hasse q s t)
       ∙ sym (coefficient-cons m q s t)
-
-  -- ---- values of lists that are zero, or equal
-
-  value-zero : (x : K) (p : List K) → Zero (R .ops) p → value (R .ops) x p ≡ o
-  value-zero x [] z = value-nil (R .ops) x
-  value-zero x (c ∷ p) z =
-      value-cons (R .ops) x c p ∙ ap₂ (λ (a b : K). a ⊕ x ⊗ b) (z zero) (value-zero x p (λ t. z (suc t))) ∙ simp ring
-
-  value-equal : (x : K) (p q : List K) → ((t : ℕ) → getD p t o ≡ getD q t o) → value (R .ops) x p ≡ value (R .ops) x q
-  value-equal x p q same =
-      equal-of-sum R (value (R .ops) x p) (value (R .ops) x q)
-      (sym (value-plus R x p q)
-      ∙ value-zero x (plus (R .ops) p q) (λ t. coefficient-plus R p q t ∙ ap (λ (c : K). c ⊕ getD q t o) (same t) ∙ plus-self R (getD q t o)))
-
-  -- the Taylor shift by zero changes nothing
-  taylor-at-zero : (p : List K) (t : ℕ) → taylor R o p t ≡ getD p t o
-  unfolding taylor
-  taylor-at-zero [] t = ap (λ (s : ℕ → K). s t) (value-nil (Series R .ops) (linear R o)) ∙ zeroS-at R t
-  taylor-at-zero (c ∷ p) zero =
-      ap (λ (s : ℕ → K). s zero) (value-cons (Series R .ops) (linear R o) (constant R c) (map (constant R) p)) ∙ simp (series, ring)
-  taylor-at-zero (c ∷ p) (suc t) =
-      let rest = value (Series R .ops) (linear R o) (map (constant R) p) in
-      ap (λ (s : ℕ → K). s (suc t)) (value-cons (Series R .ops) (linear R o) (constant R c) (map (constant R) p))
-      ∙ addS-at R (constant R c) (mulS R (linear R o) rest) (suc t) ∙ ap₂ _⊕_ (constant-suc R c t) (linear-mul-suc R o rest t)
-      ∙ ap (λ (z : K). o ⊕ (o ⊗ rest (suc t) ⊕ z)) (taylor-at-zero p t) ∙ simp ring
 
 module _ (A : Ring) where
   open Ops (A .ops) using (K, o, i, add as _⊕_, mul as _⊗_)
@@ -178,10 +153,6 @@ module _ (A : Ring) where
       ap (λ (w : ℕ → K). w s) (addS-at (Series A) u (at A T twofold X Y q) t) ∙ addS-at A (u t) (at A T twofold X Y q t) s
       ∙ ap₂ _⊕_ (term-coefficient (m .0) (m .1) (m .2) s t) (at-is-coefficient q s t) ∙ sym (coefficient-cons A m q s t)
 
-  -- zeros, carried
-  zero-carried : (R : Ring) (h : Hom (A .ops) (R .ops)) (p : List K) → Zero (A .ops) p → Zero (R .ops) (map (h .φ) p)
-  zero-carried R h p z t = ap (getD (map (h .φ) p) t) (sym (h .φ-zero)) ∙ List·getD-map (h .φ) p t o ∙ ap (h .φ) (z t) ∙ h .φ-zero
-
   module _ (f : List K) (q : List (Term (A .ops))) where
     -- where Q(x, f(x)) is zero, y + f(x) times the quotient is Q
     pub root-divides : Zero (A .ops) (compose (A .ops) f q)
@@ -190,7 +161,7 @@ module _ (A : Ring) where
         let whole : at A T twofold X Y (timesFactor (A .ops) f (quotientBy (A .ops) f q)) ≡ at A T twofold X Y q =
         at-factor A T twofold X Y f (quotientBy (A .ops) f q) ∙ at-quotient A T twofold X Y f q
         ∙ ap (T .ops .add (at A T twofold X Y q))
-        (sym (evaluate-compose A T twofold X f q) ∙ value-zero T X (map (twofold .φ) (compose (A .ops) f q)) (zero-carried T twofold (compose (A .ops) f q) z))
+        (sym (evaluate-compose A T twofold X f q) ∙ value-zeros A T twofold X (compose (A .ops) f q) z)
         ∙ plus-zero T (at A T twofold X Y q) in
         sym (at-is-coefficient q a b) ∙ ap (λ (u : ℕ → ℕ → K). u b a) (sym whole) ∙ at-is-coefficient (timesFactor (A .ops) f (quotientBy (A .ops) f q)) a b
 
@@ -210,7 +181,7 @@ module _ (A : Ring) where
         let at-place : (w : List (Term (A .ops))) (t s : ℕ) → getD (around (Series A) (linear A o) (constant A o) (inSeries A w)) t (Series A .ops .o) s ≡ coefficient (A .ops) w s t =
         λ w t s. hasse-is-coefficient A o o w s t ∙ coefficient-is-hasse A w s t in
         sym (zeroth p)
-        ∙ value-equal (Series A) F (around (Series A) (linear A o) (constant A o) (inSeries A p)) (around (Series A) (linear A o) (constant A o) (inSeries A r))
+        ∙ value-same (Series A) F (around (Series A) (linear A o) (constant A o) (inSeries A p)) (around (Series A) (linear A o) (constant A o) (inSeries A r))
         (λ t. fun-ext (λ s. at-place p t s ∙ same s t ∙ sym (at-place r t s)))
         ∙ zeroth r
 
@@ -223,5 +194,5 @@ module _ (A : Ring) where
         at-factor A (Series A) (constants A) (linear A o) F f r
         ∙ ap (λ (z : ℕ → K). Series A .ops .mul z (at A (Series A) (constants A) (linear A o) F r)) (plus-self (Series A) F)
         ∙ zero-times (Series A) (at A (Series A) (constants A) (linear A o) F r) in
-        sym (taylor-at-zero A (compose (A .ops) f q) t)
+        sym (series-coefficient A (compose (A .ops) f q) t)
         ∙ ap (λ (u : ℕ → K). u t) (evaluate-compose A (Series A) (constants A) (linear A o) f q ∙ put-equal q (timesFactor (A .ops) f r) same ∙ none) ∙ zeroS-at A t

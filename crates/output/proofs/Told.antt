@@ -103,8 +103,8 @@ same-text a b e =
     let (tb, mb) = output-tells b in
     text-told (told a) (told b) ma mb (sym ta ∙ e ∙ tb)
 
-pub same-told : (a b : List ℕ) → told a ≡ told b → output a ≡ output b
-same-told a b e = output-tells a .0 ∙ ap textOf e ∙ sym (output-tells b .0)
+pub same-bytes : (a b : List ℕ) → told a ≡ told b → output a ≡ output b
+same-bytes a b e = output-tells a .0 ∙ ap textOf e ∙ sym (output-tells b .0)
 
 -- lists that differ are answered by different bytes
 pub lists-apart : (a b : List ℕ) (l m : List (ℕ × List ℕ)) → told a ≡ list l → told b ≡ list m → (l ≡ m → ⊥) → output a ≡ output b → ⊥
