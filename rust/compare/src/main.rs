@@ -27,18 +27,40 @@ mod roots;
 mod sizes;
 mod tally;
 
+use std::sync::atomic::{AtomicUsize, Ordering};
+use std::thread;
+
+const COMPARISONS: [fn(); 13] = [
+    field::compare,
+    encode::compare,
+    multiplicities::compare,
+    cost_and_bound::compare,
+    interpolation::compare,
+    roots::compare,
+    list_of_multiplicities::compare,
+    list_of_reliabilities::compare,
+    edges::compare,
+    limits::compare,
+    counter::compare,
+    edited::compare,
+    planned::compare,
+];
+
+/// Takes the next comparison, until there is none.
+fn work(taken: &AtomicUsize) {
+    let next = || COMPARISONS.get(taken.fetch_add(1, Ordering::Relaxed));
+    while let Some(compare) = next() {
+        compare();
+    }
+}
+
+/// Comparisons run side by side, as many as the machine can: calls may, from several threads.
 fn main() {
-    field::compare();
-    encode::compare();
-    multiplicities::compare();
-    cost_and_bound::compare();
-    interpolation::compare();
-    roots::compare();
-    list_of_multiplicities::compare();
-    list_of_reliabilities::compare();
-    edges::compare();
-    limits::compare();
-    counter::compare();
-    edited::compare();
-    planned::compare();
+    let at_once = thread::available_parallelism().map_or(1, usize::from);
+    let taken = AtomicUsize::new(0);
+    thread::scope(|threads| {
+        for _ in 0..at_once {
+            threads.spawn(|| work(&taken));
+        }
+    });
 }
