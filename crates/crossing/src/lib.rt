@@ -1,6 +1,5 @@
 // How an answer crosses to C: by value, in one struct.
 ghost use mathlib.Core.Path.{_≡_};
-ghost use Prim.Native.Nat.{_<_};
 ghost use Rattle.crossing.specs.Crossing.{answerOf, Narrow};
 ghost use Rattle.edits.specs.Priced.{toldPriced};
 ghost use Rattle.field.specs.Element.{toldElement};
@@ -9,12 +8,10 @@ ghost use Rattle.planner.specs.Planned.{toldPlanned};
 ghost use Rattle.refusals.specs.Counted.{toldCounted};
 ghost use Rattle.refusals.specs.Refusal.{toldRefusal};
 ghost use Rattle.weights.specs.Costed.{toldCosted};
-
-pub mod judging;
-
 use edits::Priced;
 use field::Element;
 use interpolation::Interpolated;
+use numbers::narrow;
 use planner::Planned;
 use refusals::Counted;
 use refusals::Refusal;
@@ -28,13 +25,6 @@ pub struct Answer {
     pub value: u16,
     pub cost: u16,
     pub bound: u16,
-}
-
-fn narrow(x: usize) -> u16
-    requires { ⌜ x < 65536 ⌝ }
-    ensures { λ r. ⌜ r ≡ x ⌝ }
-{
-    x as u16
 }
 
 fn refused(r: Refusal) -> Answer

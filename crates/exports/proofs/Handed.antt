@@ -9,11 +9,11 @@ use lib.Dec.{eqb}
 use lib.ListN.{length}
 use Rattle.counter.specs.Judging.{judgeAnswer, bothAnswer}
 use Rattle.counter.specs.declared.Settings.{Settings}
-use Rattle.crossing.specs.Held.{judgementOf, holder, heldAnswer}
-use Rattle.crossing.specs.declared.judging.Judgement as crossing
 use Rattle.definitions.proofs.Tools.{split}
 use Rattle.definitions.specs.Answers.{Answer}
 use Rattle.definitions.specs.Field.{Code}
+use Rattle.judgements.specs.Held.{judgementOf, holder, heldAnswer}
+use Rattle.judgements.specs.declared.Judgement as crossing
 use Rattle.opening.specs.Handing.{isOpen, front, opened, bothOpened}
 
 -- list 2 is the second, any other number the first

@@ -1,23 +1,23 @@
 // The counter's entries for C: no reference is handed back.
 ghost use mathlib.Core.Path.{_≡_};
 ghost use Rattle.counter.specs.Judging.{judgeAnswer, bothAnswer};
-ghost use Rattle.crossing.specs.Held.{judgementOf, settingsOf, holder, heldAnswer};
+ghost use Rattle.judgements.specs.Held.{judgementOf, settingsOf, holder, heldAnswer};
 ghost use Rattle.definitions.specs.Field.{sixteen};
 use counter::Settings;
-use crossing::judging::Judgement;
+use judgements::Judgement;
 
 #[no_mangle]
 pub extern "C" fn kv_judge(k: usize, rows: &[u8], scores: &[u16], lead: usize) -> Judgement
     ensures { λ r. ⌜ judgementOf r ≡ judgeAnswer sixteen k (now (rows .entry)) (now (scores .entry)) lead ⌝ }
 {
-    crossing::judging::judged(counter::judge(k, rows, scores, lead))
+    judgements::judged(counter::judge(k, rows, scores, lead))
 }
 
 #[no_mangle]
 pub extern "C" fn kv_open(k: usize, rows: &[u8], scores: &[u16], lead: usize) -> Judgement
     ensures { λ r. ⌜ judgementOf r ≡ heldAnswer (judgeAnswer sixteen k (now (rows .entry)) (now (scores .entry)) lead) 1 k ⌝ }
 {
-    crossing::judging::held(kv_judge(k, rows, scores, lead), 1, k)
+    judgements::opened(k, rows, scores, lead)
 }
 
 #[no_mangle]
@@ -42,15 +42,7 @@ pub extern "C" fn kv_judge_both(
         k: other_k,
         level: other_level,
     };
-    crossing::judging::judged(counter::judge_both(
-        first,
-        rows,
-        scores,
-        second,
-        others,
-        other_scores,
-        lead,
-    ))
+    judgements::judged(counter::judge_both(first, rows, scores, second, others, other_scores, lead))
 }
 
 #[no_mangle]
@@ -69,18 +61,11 @@ pub extern "C" fn kv_open_both(
 ) -> Judgement
     ensures { λ r. ⌜ judgementOf r ≡ heldAnswer (bothAnswer sixteen (settingsOf n k level) (now (rows .entry)) (now (scores .entry)) (settingsOf «other_n» «other_k» «other_level») (now (others .entry)) (now («other_scores» .entry)) lead) (holder (now (scores .entry))) k ⌝ }
 {
-    let verdict = kv_judge_both(
-        n,
-        k,
-        level,
-        rows,
-        scores,
-        other_n,
-        other_k,
-        other_level,
-        others,
-        other_scores,
-        lead,
-    );
-    crossing::judging::held(verdict, crossing::judging::holder(scores), k)
+    let first = Settings { n, k, level };
+    let second = Settings {
+        n: other_n,
+        k: other_k,
+        level: other_level,
+    };
+    judgements::opened_both(first, rows, scores, second, others, other_scores, lead)
 }

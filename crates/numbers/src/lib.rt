@@ -1,7 +1,7 @@
-// Numbers of sixteen bits from bytes, low byte first.
+// Numbers of sixteen bits: from bytes, low byte first, and of a word.
 ghost use mathlib.Core.List.{_++_};
 ghost use mathlib.Core.Path.{_≡_};
-ghost use Prim.Native.Nat.{_+_, _*_, _≤_};
+ghost use Prim.Native.Nat.{_+_, _*_, _≤_, _<_};
 ghost use lib.ListN.{length, drop};
 ghost use Rattle.numbers.specs.Numbers.{numbersOf};
 
@@ -27,4 +27,11 @@ pub fn read(bytes: &[u8], out: &mut [u16]) -> usize
         i += 1;
     }
     count
+}
+
+pub fn narrow(x: usize) -> u16
+    requires { ⌜ x < 65536 ⌝ }
+    ensures { λ r. ⌜ r ≡ x ⌝ }
+{
+    x as u16
 }

@@ -1,7 +1,7 @@
 -- On Open the list and its k cross, and otherwise two zeros.
 use borrow.Author.Tests.{eq-eqb, ne-eqb}
-use Rattle.crossing.proofs.judging.held.Statement.{statement}
-use Rattle.crossing.proofs.judging.held.Tie as tie
+use Rattle.judgements.proofs.held.Statement.{statement}
+use Rattle.judgements.proofs.held.Tie as tie
 
 narrow-requires : tie.Need-narrow-requires
 narrow-requires c κs = c .before .before .pre (eq-eqb _ _ (c .if1 .taken))

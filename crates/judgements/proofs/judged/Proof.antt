@@ -2,8 +2,8 @@
 use mathlib.Core.Path.{sym, _∙_, ap}
 use Rattle.counter.specs.Verdict.{toldVerdict}
 use borrow.Author.Needs.{needs}
-use Rattle.crossing.proofs.judging.judged.Statement.{statement}
-use Rattle.crossing.proofs.judging.judged.Tie as tie
+use Rattle.judgements.proofs.judged.Statement.{statement}
+use Rattle.judgements.proofs.judged.Tie as tie
 
 returns : tie.Need-returns
 returns c = c .valued .ensures ∙ sym (ap toldVerdict (c .before .enum-told .given .1))

@@ -6,7 +6,7 @@ use Prim.Native.Nat.{ℕ}
 use Rattle.counter.specs.Judging.{ofJudged}
 use Rattle.counter.specs.declared.Settings.{Settings}
 use Rattle.definitions.specs.Answers.{Answer}
-use Rattle.crossing.specs.declared.judging.Judgement as crossing
+use Rattle.judgements.specs.declared.Judgement as crossing
 use Rattle.opening.specs.Handing.{isOpen}
 
 -- field by field

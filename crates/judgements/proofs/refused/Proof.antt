@@ -3,8 +3,8 @@ use mathlib.Core.Path.{sym, _∙_, ap₂}
 use Rattle.definitions.specs.Answers.{refused}
 use Rattle.refusals.proofs.Chain.{told-is}
 use borrow.Author.Needs.{needs}
-use Rattle.crossing.proofs.judging.refused.Statement.{statement}
-use Rattle.crossing.proofs.judging.refused.Tie as tie
+use Rattle.judgements.proofs.refused.Statement.{statement}
+use Rattle.judgements.proofs.refused.Tie as tie
 
 returns : tie.Need-returns
 returns c =

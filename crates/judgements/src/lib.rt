@@ -2,11 +2,14 @@
 ghost use mathlib.Core.Bool.{true};
 ghost use mathlib.Core.Path.{_≡_};
 ghost use Prim.Native.Nat.{_<_};
+ghost use Rattle.counter.specs.Judging.{judgeAnswer, bothAnswer};
 ghost use Rattle.counter.specs.Verdict.{toldVerdict};
-ghost use Rattle.crossing.specs.Held.{judgementOf, holder, heldAnswer};
+ghost use Rattle.judgements.specs.Held.{judgementOf, holder, heldAnswer};
 ghost use Rattle.definitions.specs.Answers.{valued};
+ghost use Rattle.definitions.specs.Field.{sixteen};
 ghost use Rattle.opening.specs.Handing.{isOpen};
 ghost use Rattle.refusals.specs.Refusal.{toldRefusal};
+use counter::Settings;
 use counter::Verdict;
 use refusals::Refusal;
 
@@ -23,7 +26,7 @@ fn refused(r: Refusal) -> Judgement
 {
     Judgement {
         place: r.place() as u64,
-        number: crate::narrow(r.number()),
+        number: numbers::narrow(r.number()),
         value: 0,
         count: 0,
     }
@@ -52,7 +55,7 @@ pub fn judged(v: Verdict) -> Judgement
 }
 
 // In place of the part: the list that holds the row, and its count of symbols.
-pub fn held(verdict: Judgement, list: u16, k: usize) -> Judgement
+fn held(verdict: Judgement, list: u16, k: usize) -> Judgement
     requires { ⌜ (isOpen (judgementOf verdict) ≡ true → k < 65536) ⌝ }
     ensures { λ j. ⌜ judgementOf j ≡ heldAnswer (judgementOf verdict) list k ⌝ }
 {
@@ -61,7 +64,7 @@ pub fn held(verdict: Judgement, list: u16, k: usize) -> Judgement
             place: verdict.place,
             number: verdict.number,
             value: list,
-            count: crate::narrow(k),
+            count: numbers::narrow(k),
         };
     }
     Judgement {
@@ -72,11 +75,41 @@ pub fn held(verdict: Judgement, list: u16, k: usize) -> Judgement
     }
 }
 
-pub fn holder(scores: &[u16]) -> u16
+fn holder(scores: &[u16]) -> u16
     ensures { λ r. ⌜ r ≡ holder (now (scores .entry)) ⌝ }
 {
     if scores.len() == 0 {
         return 2;
     }
     1
+}
+
+pub fn opened(k: usize, rows: &[u8], scores: &[u16], lead: usize) -> Judgement
+    ensures { λ r. ⌜ judgementOf r ≡ heldAnswer (judgeAnswer sixteen k (now (rows .entry)) (now (scores .entry)) lead) 1 k ⌝ }
+{
+    held(judged(counter::judge(k, rows, scores, lead)), 1, k)
+}
+
+pub fn opened_both(
+    first: Settings,
+    rows: &[u8],
+    scores: &[u16],
+    second: Settings,
+    others: &[u8],
+    other_scores: &[u16],
+    lead: usize,
+) -> Judgement
+    ensures { λ r. ⌜ judgementOf r ≡ heldAnswer (bothAnswer sixteen first (now (rows .entry)) (now (scores .entry)) second (now (others .entry)) (now («other_scores» .entry)) lead) (holder (now (scores .entry))) (first .k) ⌝ }
+{
+    let k = first.k;
+    let verdict = judged(counter::judge_both(
+        first,
+        rows,
+        scores,
+        second,
+        others,
+        other_scores,
+        lead,
+    ));
+    held(verdict, holder(scores), k)
 }

@@ -1,7 +1,7 @@
 -- The first list, or the second where the first has no rows.
 use borrow.Author.Tests.{eq-eqb, ne-eqb}
-use Rattle.crossing.proofs.judging.holder.Statement.{statement}
-use Rattle.crossing.proofs.judging.holder.Tie as tie
+use Rattle.judgements.proofs.holder.Statement.{statement}
+use Rattle.judgements.proofs.holder.Tie as tie
 
 returns : tie.Need-returns
 returns c = rw (eq-eqb _ _ (c .if1 .taken))

@@ -1,0 +1,25 @@
+-- On Open k fits sixteen bits, for it is at most fifteen.
+use mathlib.Core.Path.{sym, _∙_, ap}
+use native.Mathlib.Omega.{arith}
+use borrow.Author.Needs.{needs}
+use Rattle.definitions.specs.Answers.{Answer}
+use Rattle.definitions.specs.Field.{sixteen}
+use Rattle.judgements.proofs.opened.Statement.{statement}
+use Rattle.judgements.proofs.opened.Tie as tie
+use Rattle.judgements.specs.Held.{heldAnswer}
+use Rattle.opening.proofs.Opening.{open-sized}
+use Rattle.opening.specs.Handing.{isOpen}
+
+held-requires : tie.Need-held-requires
+held-requires c κs opens =
+    let a = c .before .before .before .before .args in
+    let sized = open-sized sixteen (a .k) (a .rows .now) (a .scores .now) (a .lead) (sym (ap isOpen (c .judged .ensures ∙ c .before .judge .ensures)) ∙ opens) in
+    omega arith
+
+returns : tie.Need-returns
+returns c =
+    let j = c .before in
+    c .held .ensures ∙ ap (λ (verdict : Answer). heldAnswer verdict 1 (j .before .before .before .before .args .k)) (j .judged .ensures ∙ j .before .judge .ensures)
+
+pub opened-spec : {M : Type 1} → statement M
+opened-spec = tie.close (tie.spec (λ c κs. search needs) (λ c κs. search needs) held-requires returns)
