@@ -5,24 +5,20 @@ use mathlib.Core.List.{List, [], _∷_}
 use mathlib.Core.Path.{_≡_, sym, ap}
 use Prim.Native.Nat.{ℕ, _+_, _≤_}
 use native.Mathlib.Omega.{arith}
-use borrow.Author.Tests.{le-leb, le-ltb, eq-eqb}
+use borrow.Author.Tests.{le-ltb, eq-eqb}
 use lib.ListN.{getD}
 use Rattle.audit.specs.Words.{Accepted}
 use Rattle.definitions.proofs.Editing.{sum-passed, none-found}
 use Rattle.definitions.proofs.Held.{rightly-means}
-use Rattle.definitions.proofs.Table.{Accepts, next, end, accepts}
+use Rattle.definitions.proofs.Table.{Accepts, next, end, accepts, size-passes}
 use Rattle.definitions.specs.Answers.{Answer, refused, costed}
 use Rattle.definitions.specs.Editing.{sameSize, stored, lowestAbove, inOrOut, addTable}
 use Rattle.definitions.specs.Field.{Code}
 use Rattle.definitions.specs.Held.{Held, places, heldOf, withAdded, rightly}
 use Rattle.definitions.specs.Limits.{greatestLevel}
-use Rattle.definitions.specs.Refusals.{size}
 
 module _ (C : Code) (h o : Held) (some : 2 ≤ h .n) (few : h .n ≤ C .positions) (same : h .n ≡ o .n) (rh : rightly C h ≡ true) (ro : rightly C o ≡ true)
     (low : (j : ℕ) → getD (h .entries) j 0 + getD (o .entries) j 0 ≤ greatestLevel) where
-  size-passed : size C (h .n) .given ≡ false
-  size-passed = rw (le-leb 2 (h .n) some, le-leb (h .n) (C .positions) few)
-
   same-passed : sameSize (h .n) (o .n) .given ≡ false
   same-passed = rw (eq-eqb (h .n) (o .n) same)
 
@@ -40,7 +36,7 @@ module _ (C : Code) (h o : Held) (some : 2 ≤ h .n) (few : h .n ≤ C .position
       le-ltb (lowestAbove C three) (places C) (omega arith)
 
   lines : Accepts (addTable C h o)
-  lines = next size-passed (next same-passed (next (stored-passed h rh) (next (stored-passed o ro) (next entries-passed end))))
+  lines = next (size-passes C (h .n) some few) (next same-passed (next (stored-passed h rh) (next (stored-passed o ro) (next entries-passed end))))
 
   pub accepted : Accepted C h o
   accepted = ap (λ (a : Answer). a .number) (sym (accepts refused (costed (heldOf C (h .n) (withAdded (h .entries) (o .entries)) .cost) 0) lines))

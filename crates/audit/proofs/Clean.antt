@@ -5,10 +5,10 @@ use mathlib.Core.List.{List, [], _∷_, List·Memᴰ, List·Memᴰ·head, List·
 use mathlib.Core.Logic.{_≢_}
 use mathlib.Core.Path.{_≡_, refl, sym, _∙_, ap, ap₂}
 use Prim.Native.Nat.{ℕ, zero, suc, _+_, _-_, _*_, _/_, _≤_, _<_}
-use native.Mathlib.Decide.{decLt, ℕ-discrete}
+use native.Mathlib.Decide.{decLt}
 use native.Mathlib.Nat.{not-suc-le-zero, mul-comm, mul-suc, mul-add, mul-left-comm, mul-le-mul-right, div-eq-of-lt-le}
 use native.Mathlib.Omega.{arith}
-use borrow.Author.Tests.{eq-eqb, le-leb, le-ltb, ltb-true}
+use borrow.Author.Tests.{eq-eqb, le-ltb, ltb-true}
 use lib.Dec.{eqb, ltb}
 use lib.ListN.{length, getD}
 use Rattle.algebra.proofs.Elements.{zero-symbol}
@@ -20,17 +20,17 @@ use Rattle.audit.specs.Desk.{Sizes}
 use Rattle.audit.specs.Marks.{weightsOf, matrixOf, erased, wrong}
 use Rattle.audit.specs.Words.{Message, agreeing}
 use Rattle.definitions.proofs.Above.{above-in-order}
-use Rattle.definitions.proofs.Bound.{count-grows, bound-is-least}
+use Rattle.definitions.proofs.Bound.{bound-above}
 use Rattle.definitions.proofs.Codeword.{length-codeword}
 use Rattle.definitions.proofs.Powers.{count-closed}
-use Rattle.definitions.proofs.Table.{Accepts, next, end}
+use Rattle.definitions.proofs.Table.{Accepts, next, end, sizes-pass, level-passes}
 use Rattle.definitions.proofs.Tools.{sum-ext, smallest-passes}
 use Rattle.definitions.specs.Bound.{count, bound}
 use Rattle.definitions.specs.Code.{codeword}
 use Rattle.definitions.specs.Field.{Code}
 use Rattle.definitions.specs.Limits.{greatestSum, greatestLevel, greatestLimit, greatestRows}
 use Rattle.definitions.specs.Listing.{listOf}
-use Rattle.definitions.specs.Refusals.{sizes as sizesLine, level as levelLine, entries, badColumn, columns, readTable}
+use Rattle.definitions.specs.Refusals.{entries, badColumn, columns, readTable}
 use Rattle.definitions.specs.Tools.{smallest}
 use Rattle.definitions.specs.Weights.{entry, sumOfColumn, entryCost, cost, score}
 use Rattle.starred.proofs.Single.{length-single, single-entry}
@@ -56,25 +56,13 @@ module _ (v : ℕ) (pos : 1 ≤ v) where
       let two = mul-left-comm v 2 (suc j * suc j) in
       omega arith
 
-  bound-above : (C D : ℕ) → count v D ≤ C → D < bound v C
-  bound-above C D h =
-      let most = bound-is-least v pos C .0 in
-      elim (decLt D (bound v C)) [
-        | yes l ↦ l
-        | no g ↦
-            elim (ℕ-discrete (bound v C) D) [
-              | yes e ↦ (let same = ap (count v) e in let z : ⊥ = omega arith in absurd z)
-              | no e ↦ (let more = count-grows v pos (bound v C) D (omega arith) in let z : ⊥ = omega arith in absurd z)
-            ]
-      ]
-
   -- of n marks, each with L, the bound is at least v L
   pub bound-of-marks : (n L : ℕ) → 1 ≤ L → v ≤ n → v * L ≤ bound v (n * entryCost L)
   bound-of-marks n zero level h = absurd (not-suc-le-zero level)
   bound-of-marks n (suc j) level h =
       let few = count-of-multiple j in
       let more : v * entryCost (suc j) ≤ n * entryCost (suc j) = mul-le-mul-right (entryCost (suc j)) h in
-      let low = bound-above (n * entryCost (suc j)) (v * suc j - 1) (omega arith) in
+      let low = bound-above v pos (n * entryCost (suc j)) (v * suc j - 1) (omega arith) in
       omega arith
 
 module _ (C : Code) (F : FieldOf C) (n k L : ℕ) (f : List ℕ) (sizes : Sizes C n k) (level : 1 ≤ L) (mf : Message C k f) where
@@ -161,12 +149,10 @@ module _ (C : Code) (n : ℕ) (word : List ℕ) (size : length word ≡ n) where
   pub word-taken : (k L G rows scores : ℕ) → Sizes C n k → (1 ≤ L) × (L ≤ greatestLevel) → G ≤ greatestLimit
       → greatestRows * k ≤ rows → greatestRows ≤ scores → cost (matrixOf C L word) ≤ G → Accepts (readTable C n k L G (weightsOf C word) rows scores)
   word-taken k L G rows scores sizes level limit rowsRoom scoresRoom price =
-      let fits : sizesLine C n k .given ≡ false = rw (le-leb 2 k (sizes .0), le-leb k n (sizes .1), le-leb n (C .positions) (sizes .2)) refl in
-      let fine : levelLine L .given ≡ false = rw (le-leb 1 L (level .0), le-leb L greatestLevel (level .1)) refl in
       let long : entries (C .symbols * n) (weightsOf C word) .given ≡ false =
       rw (eq-eqb (length (weightsOf C word)) (C .symbols * n) (length-single C greatestSum word ∙ ap (λ (x : ℕ). C .symbols * x) size)) refl in
-      next fits
-      (next fine
+      next (sizes-pass C n k (sizes .0) (sizes .1) (sizes .2))
+      (next (level-passes L (level .0) (level .1))
       (next (le-ltb greatestLimit G limit)
       (next long
       (next (le-ltb rows (greatestRows * k) rowsRoom)

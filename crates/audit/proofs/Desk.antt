@@ -16,7 +16,7 @@ use Rattle.algebra.specs.FieldOf.{FieldOf}
 use Rattle.audit.proofs.Clean.{clean-alone, clean-score, clean-cost, word-taken}
 use Rattle.audit.proofs.Distance.{stands-first}
 use Rattle.audit.proofs.Factors.{root-is-factor, factor-is-root}
-use Rattle.audit.proofs.Few.{few-above, few-rows}
+use Rattle.audit.proofs.Few.{few-above, few-listed}
 use Rattle.audit.proofs.Marks.{read, read-and-erased, cost-of-marks}
 use Rattle.audit.proofs.Smallest.{monomials-begin, smallest-of-all}
 use Rattle.audit.specs.Desk.{Sizes, Earlier, Exactly, Clean, Answered, Desk, DeskOfSixteen}
@@ -71,7 +71,7 @@ module _ (C : Code) (F : FieldOf C) where
         ties = λ i j h l e. earlier (getD (listOf C n k m) i []) (getD (listOf C n k m) j [])
             (ordered-at (Precedes (score C n m)) (listOf C n k m) (all .ordered) [] i j h l .1 e);
         few = few-above C F n k (sizes .2) m size t (bound-is-least (k - 1) (omega arith) (cost m) .0);
-        room = few-rows C F n k (sizes .2) m size (sizes .0);
+        room = few-listed C F n k (sizes .2) m size (sizes .0);
         roots = λ f row D q within sq through. score-above-degree-is-root C F n (k - 1) D m q f (sizes .2) sq through (all .symbols f row)
             (let e = all .sized f row in omega arith) (let h = all .greater f row in omega arith);
       }

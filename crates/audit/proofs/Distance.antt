@@ -3,7 +3,7 @@
 -- Assumes nothing.
 use mathlib.Core.List.{List, [], _∷_, List·Memᴰ, List·Memᴰ·head, List·Memᴰ·tail, List·Memᴰ·cases-cons, List·Memᴰ·not-nil}
 use mathlib.Core.Logic.{_≢_, ⊎-elim}
-use mathlib.Core.Path.{_≡_, refl, sym, _∙_, ap, subst}
+use mathlib.Core.Path.{_≡_, refl, sym, _∙_, ap}
 use Prim.Native.Nat.{ℕ, zero, suc, _+_, _-_, _*_, _/_, _≤_, _<_}
 use native.Mathlib.Decide.{decLt}
 use native.Mathlib.Nat.{add-mul, mul-assoc, mul-left-comm, suc-mul, mul-le-mul, mul-le-mul-left, mul-le-mul-right, lt-mul-div-succ}
@@ -16,9 +16,8 @@ use Rattle.audit.proofs.Marks.{twice-entry-cost, read, read-and-erased,
 use Rattle.audit.specs.Desk.{Sizes, First}
 use Rattle.audit.specs.Marks.{matrixOf, erased, wrong}
 use Rattle.audit.specs.Words.{Message, agreeing}
-use Rattle.definitions.proofs.Above.{Precedes, AllAbove, above-in-order}
-use Rattle.definitions.proofs.Bound.{bound-is-least}
-use Rattle.definitions.proofs.Messages.{Before, before-irreflexive}
+use Rattle.definitions.proofs.Above.{Precedes, AllAbove, precedes-apart, above-in-order}
+use Rattle.definitions.proofs.Bound.{bound-at-most}
 use Rattle.definitions.proofs.Ordered.{Ordered}
 use Rattle.definitions.proofs.Sums.{sum-append, sum-tail, next-product}
 use Rattle.definitions.proofs.Tools.{sum-one, sum-suc}
@@ -62,13 +61,6 @@ module _ (v : ℕ) (pos : 1 ≤ v) where
   pub count-at-least : (D j : ℕ) → 2 * (suc j * (D + 1)) ≤ 2 * count v D + v * (suc j * j)
   count-at-least D j = let a = falling-at-least v (D + 1) j in let b = powers-counted D j in omega arith
 
-  pub bound-at-most : (C D : ℕ) → C < count v D → bound v C ≤ D
-  bound-at-most C D h =
-      elim (decLt D (bound v C)) [
-        | yes l ↦ let few = bound-is-least v pos C .1 D l in let z : ⊥ = omega arith in absurd z
-        | no g ↦ omega arith
-      ]
-
   -- r marks of multiplicity L each: the bound is below the score of a of them, where 2 a is more than r + v
   pub bound-below : (r a L : ℕ) → 1 ≤ L → r + v < 2 * a → bound v (r * entryCost L) < a * L
   bound-below r a L level many =
@@ -86,7 +78,7 @@ module _ (v : ℕ) (pos : 1 ≤ v) where
       let one = add-mul (r + v) 1 P in
       let both = add-mul r v P in
       let double = mul-assoc 2 a P in
-      let low = bound-at-most (r * entryCost L) D (omega arith) in
+      let low = bound-at-most v pos (r * entryCost L) D (omega arith) in
       omega arith
 
 -- ---- the list
@@ -128,12 +120,9 @@ module _ (C : Code) (F : FieldOf C) (n k L : ℕ) (f word : List ℕ) (sizes : S
       → (rest : List (List ℕ)) × (l ≡ f ∷ rest) × ((g : List ℕ) → List·Memᴰ g rest → score C n m g + L ≤ score C n m f)
   first-of [] o messages here = absurd (List·Memᴰ·not-nil here)
   first-of (x ∷ l) o messages here = ⊎-elim
-      (λ e. (l, ap (λ (y : List ℕ). y ∷ l) (sym e), λ g h. others-below g (messages g (List·Memᴰ·tail h)) (λ same. apart x g (o .0 g h) (sym (same ∙ e)))))
-      (λ h. let low = others-below x (messages x (List·Memᴰ·head refl)) (λ same. apart x f (o .0 f h) same) in let high = o .0 f h .0 in let z : ⊥ = omega arith in absurd z)
+      (λ e. (l, ap (λ (y : List ℕ). y ∷ l) (sym e), λ g h. others-below g (messages g (List·Memᴰ·tail h)) (λ same. precedes-apart (score C n m) x g (o .0 g h) (sym (same ∙ e)))))
+      (λ h. let low = others-below x (messages x (List·Memᴰ·head refl)) (precedes-apart (score C n m) x f (o .0 f h)) in let high = o .0 f h .0 in let z : ⊥ = omega arith in absurd z)
       (List·Memᴰ·cases-cons here)
-    where
-      apart : (x y : List ℕ) → Precedes (score C n m) x y → x ≡ y → ⊥
-      apart x y p same = before-irreflexive y (subst (λ (z : List ℕ). Before z y) same (p .1 (ap (score C n m) same)))
 
   pub stands-first : First C n k L f word
   stands-first =

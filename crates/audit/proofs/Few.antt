@@ -4,7 +4,7 @@
 use mathlib.Core.Bool.{cond}
 use mathlib.Core.List.{List, [], _∷_, List·Memᴰ, List·Memᴰ·head, List·Memᴰ·tail}
 use mathlib.Core.Logic.{_≢_}
-use mathlib.Core.Path.{_≡_, refl, sym, _∙_, ap, subst}
+use mathlib.Core.Path.{_≡_, refl, sym, _∙_, ap}
 use Prim.Native.Nat.{ℕ, zero, suc, _+_, _-_, _*_, _/_, _≤_, _<_}
 use native.Mathlib.Decide.{decLt, ℕ-discrete}
 use native.Mathlib.Nat.{add-zero, mul-suc}
@@ -17,9 +17,8 @@ use Rattle.algebra.specs.FieldOf.{FieldOf}
 use Rattle.audit.proofs.Agreement.{agree-at-most}
 use Rattle.audit.proofs.Marks.{codeword-symbol}
 use Rattle.audit.specs.Words.{Message, agreeing}
-use Rattle.definitions.proofs.Above.{Precedes, above-in-order}
+use Rattle.definitions.proofs.Above.{Precedes, precedes-apart, above-in-order}
 use Rattle.definitions.proofs.Bound.{bound-is-least}
-use Rattle.definitions.proofs.Messages.{Before, before-irreflexive}
 use Rattle.definitions.proofs.Ordered.{Ordered}
 use Rattle.definitions.proofs.Powers.{powers-of-y}
 use Rattle.definitions.proofs.Sums.{sum-append, sum-blocks, sum-both, sum-but}
@@ -132,14 +131,13 @@ module _ (C : Code) (F : FieldOf C) (n k : ℕ) (small : n ≤ C .positions) whe
           | no few ↦ omega arith
         ]
       where
-        -- a row that comes before another is not the same
         apart : (l : List (List ℕ)) → Ordered (Precedes (score C n m)) l → Ordered (λ (f g : List ℕ). f ≢ g) l
         apart [] o = tt
-        apart (f ∷ l) o = (λ g h e. before-irreflexive g (subst (λ (x : List ℕ). Before x g) e (o .0 g h .1 (ap (score C n m) e))), apart l (o .1))
+        apart (f ∷ l) o = (λ g h. precedes-apart (score C n m) f g (o .0 g h), apart l (o .1))
 
     -- within the greatest limit there are no more than the greatest number of rows
-    pub few-rows : 2 ≤ k → cost m ≤ greatestLimit → length (listOf C n k m) ≤ greatestRows
-    few-rows some cheap =
+    pub few-listed : 2 ≤ k → cost m ≤ greatestLimit → length (listOf C n k m) ≤ greatestRows
+    few-listed some cheap =
         let few = few-above (bound v (cost m)) (bound-is-least v (omega arith) (cost m) .0) in
         let low = powers-of-y v (omega arith) (cost m) cheap in
         omega arith

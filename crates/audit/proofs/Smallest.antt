@@ -5,7 +5,7 @@ use mathlib.Core.Bool.{false}
 use mathlib.Core.List.{List, [], _++_, map, flatMap, append-assoc, append-nil}
 use mathlib.Core.Path.{_≡_, refl, sym, _∙_, ap, subst}
 use Prim.Native.Nat.{ℕ, zero, suc, _+_, _-_, _≤_, _<_}
-use native.Mathlib.Decide.{decLt, ℕ-discrete}
+use native.Mathlib.Decide.{decLt}
 use native.Mathlib.Omega.{arith}
 use lib.ListN.{length, getD, take, List·getD-eq-default, List·getD-map}
 use lib.Seq.{getD-take, take-at}
@@ -16,7 +16,7 @@ use Rattle.algebra.proofs.Passing.{pointElement, elements-pass, numbers-pass}
 use Rattle.algebra.proofs.RingLaws.{plus-zero, times-zero}
 use Rattle.algebra.specs.Dot.{dot}
 use Rattle.algebra.specs.FieldOf.{FieldOf}
-use Rattle.definitions.proofs.Bound.{count-grows}
+use Rattle.definitions.proofs.Bound.{count-no-less}
 use Rattle.definitions.proofs.Joined.{join-below}
 use Rattle.definitions.proofs.Monomials.{monomials-in-order}
 use Rattle.definitions.proofs.Tools.{length-map-below, map-below-at}
@@ -55,13 +55,6 @@ module _ (v : ℕ) where
     pub same-place : (D E k : ℕ) → D ≤ E → k < count v D → getD (monomials v E) k (0, 0) ≡ getD (monomials v D) k (0, 0)
     same-place D E k h l =
         sym (getD-take (count v D) (monomials v E) k (0, 0) l) ∙ ap (λ (x : List (ℕ × ℕ)). getD x k (0, 0)) (monomials-begin D E h)
-
-    pub count-no-less : (D E : ℕ) → D ≤ E → count v D ≤ count v E
-    count-no-less D E h =
-        elim (ℕ-discrete D E) [
-          | yes e ↦ (let same = ap (count v) e in omega arith)
-          | no n ↦ (let more = count-grows v pos D E (omega arith) in omega arith)
-        ]
 
 -- the first N coefficients, zero where there are none
 abbrev resized : ℕ → List ℕ → List ℕ

@@ -6,12 +6,12 @@ use mathlib.Core.Path.{_≡_, refl, sym, ap}
 use Prim.Native.Nat.{ℕ, suc, _*_, _-_}
 use native.Mathlib.Nat.{mul-zero, zero-add, suc-ne-zero}
 use native.Mathlib.Omega.{arith}
-use borrow.Author.Tests.{le-leb, eq-eqb, ne-eqb}
+use borrow.Author.Tests.{eq-eqb, ne-eqb}
 use lib.Dec.{eqb}
 use lib.ListN.{length}
 use Rattle.counter.specs.Judging.{judged, lead, settings, apart, bothJudged, judgeAnswer, bothAnswer}
 use Rattle.counter.specs.declared.Settings.{Settings}
-use Rattle.definitions.proofs.Table.{sizes-mean}
+use Rattle.definitions.proofs.Table.{sizes-mean, size-passes}
 use Rattle.definitions.specs.Answers.{refused, valued}
 use Rattle.definitions.specs.Field.{Code}
 use Rattle.definitions.specs.Listing.{rowAt}
@@ -64,7 +64,7 @@ module _ (C : Code) (s : Settings) (fits : sizes C (s .n) (s .k) .given ≡ fals
   k-fits : size C (s .k) .given ≡ false
   k-fits =
       let h = sizes-mean C (s .n) (s .k) fits in
-      rw (le-leb 2 (s .k) (h .0), le-leb (s .k) (C .positions) (omega arith))
+      size-passes C (s .k) (h .0) (omega arith)
 
   pub equal-settings : settings s s .given ≡ false
   equal-settings = rw (eq-eqb (s .n) (s .n) refl, eq-eqb (s .k) (s .k) refl, eq-eqb (s .level) (s .level) refl)

@@ -2,7 +2,8 @@
 -- Assumes nothing.
 use mathlib.Core.Bool.{Bool}
 use mathlib.Core.List.{List, [], _∷_, List·Memᴰ}
-use mathlib.Core.Path.{_≡_, refl, sym}
+use mathlib.Core.Logic.{_≢_}
+use mathlib.Core.Path.{_≡_, refl, sym, ap, subst}
 use Prim.Native.Nat.{ℕ, _≤_, _<_}
 use borrow.Author.Tests.{ltb-true, lt-ltb, eq-eqb}
 use lib.Dec.{ltb}
@@ -20,6 +21,10 @@ use Rattle.definitions.proofs.Tools.{split, select-yes, select-no, sele
 -- "highest score first, equal scores by message" (demand 3)
 abbrev pub Precedes : (List ℕ → ℕ) → List ℕ → List ℕ → Type 0
 Precedes scoreOf f g = (scoreOf g ≤ scoreOf f) × (scoreOf f ≡ scoreOf g → Before f g)
+
+-- so no row that precedes another is the same
+pub precedes-apart : (scoreOf : List ℕ → ℕ) (f g : List ℕ) → Precedes scoreOf f g → f ≢ g
+precedes-apart scoreOf f g p same = before-irreflexive g (subst (λ (h : List ℕ). Before h g) same (p .1 (ap scoreOf same)))
 
 pub record AllAbove (C : Code) (n k : ℕ) (m : List ℕ) (t : ℕ) : Type 0 where
   -- each is a message of k symbols

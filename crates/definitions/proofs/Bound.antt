@@ -67,6 +67,13 @@ module _ (v : ℕ) (pos : 1 ≤ v) where
         | no n ↦ let e : D ≡ E = omega arith in rw e (omega arith)
       ]
 
+  pub count-no-less : (D E : ℕ) → D ≤ E → count v D ≤ count v E
+  count-no-less D E h =
+      elim (decLt D E) [
+        | yes l ↦ let more = count-grows D E l in omega arith
+        | no n ↦ let e : D ≡ E = omega arith in rw e (omega arith)
+      ]
+
   -- there are more than D monomials up to degree D: one for each power of x
   pub count-above : (D : ℕ) → D < count v D
   count-above zero = rw count-zero (omega arith)
@@ -85,3 +92,19 @@ module _ (v : ℕ) (pos : 1 ≤ v) where
     ],
     λ D l. ltb-false C (count v D) (smallest-fails _ C D l),
   )
+
+  -- so it is at most D where N(D) is above C
+  pub bound-at-most : (C D : ℕ) → C < count v D → bound v C ≤ D
+  bound-at-most C D h =
+      elim (decLt D (bound v C)) [
+        | yes l ↦ let few = bound-is-least C .1 D l in let z : ⊥ = omega arith in absurd z
+        | no n ↦ omega arith
+      ]
+
+  -- and above D where it is not
+  pub bound-above : (C D : ℕ) → count v D ≤ C → D < bound v C
+  bound-above C D h =
+      elim (decLt D (bound v C)) [
+        | yes l ↦ l
+        | no n ↦ let most = bound-is-least C .0 in let less = count-no-less (bound v C) D (omega arith) in let z : ⊥ = omega arith in absurd z
+      ]

@@ -5,7 +5,7 @@ use mathlib.Core.Bool.{Bool, true, false, not, _&&_}
 use mathlib.Core.List.{List, [], _∷_, _++_, append-nil}
 use mathlib.Core.Path.{_≡_, refl, sym, _∙_}
 use Prim.Native.Nat.{ℕ, _-_, _≤_, _<_}
-use borrow.Author.Tests.{leb-true, ltb-true, ltb-false, eqb-true, eqb-false, not-true, not-false}
+use borrow.Author.Tests.{le-leb, leb-true, ltb-true, ltb-false, eqb-true, eqb-false, not-true, not-false}
 use native.Mathlib.Omega.{arith}
 use lib.Dec.{eqb, leb, ltb}
 use lib.ListN.{length, getD}
@@ -75,6 +75,16 @@ pub size-means : (C : Code) (n : ℕ) → size C n .given ≡ false → (2 ≤ n
 size-means C n e =
     let b = both (leb 2 n) (leb n (C .positions)) (not-false (sizeFits C n) e) in
     (leb-true 2 n (b .0), leb-true n (C .positions) (b .1))
+
+-- and sizes like these pass
+pub sizes-pass : (C : Code) (n k : ℕ) → 2 ≤ k → k ≤ n → n ≤ C .positions → sizes C n k .given ≡ false
+sizes-pass C n k some fits few = rw (le-leb 2 k some, le-leb k n fits, le-leb n (C .positions) few) refl
+
+pub size-passes : (C : Code) (n : ℕ) → 2 ≤ n → n ≤ C .positions → size C n .given ≡ false
+size-passes C n some few = rw (le-leb 2 n some, le-leb n (C .positions) few) refl
+
+pub level-passes : (L : ℕ) → 1 ≤ L → L ≤ greatestLevel → level L .given ≡ false
+level-passes L some few = rw (le-leb 1 L some, le-leb L greatestLevel few) refl
 
 pub level-means : (L : ℕ) → level L .given ≡ false → (1 ≤ L) × (L ≤ greatestLevel)
 level-means L e =

@@ -22,11 +22,11 @@ use Rattle.counter.proofs.Lists.{list-judged, lists-judged}
 use Rattle.counter.specs.Judging.{toOpen, toAsk, judged, apart, ofJudged, bothJudged, judgeAnswer, bothAnswer}
 use Rattle.counter.specs.declared.Settings.{Settings}
 use Rattle.definitions.proofs.Above.{above-in-order}
+use Rattle.definitions.proofs.Table.{sizes-pass, size-passes, level-passes}
 use Rattle.definitions.proofs.Tools.{split}
 use Rattle.definitions.specs.Answers.{Answer, valued}
 use Rattle.definitions.specs.Bound.{bound}
 use Rattle.definitions.specs.Field.{Code, sixteen}
-use Rattle.definitions.specs.Limits.{greatestLevel}
 use Rattle.definitions.specs.Listing.{listOf, rowAt}
 use Rattle.definitions.specs.Refusals.{size, sizes, level}
 use Rattle.definitions.specs.Weights.{cost, score}
@@ -97,13 +97,13 @@ module _ (C : Code) (F : FieldOf C) (s : Settings) (G : ℕ) (f word rows scores
   some-row = ne-eqb (length (scoresListed C s G word rows scores)) 0 (λ e. let many = ap length scores-told in let z : ⊥ = omega arith in z)
 
   fits : size C k .given ≡ false
-  fits = let sizes = p .sizes in rw (le-leb 2 k (sizes .0), le-leb k (C .positions) (omega arith)) refl
+  fits = let sizes = p .sizes in size-passes C k (sizes .0) (omega arith)
 
   sizes-fit : sizes C n k .given ≡ false
-  sizes-fit = rw (le-leb 2 k (p .sizes .0), le-leb k n (p .sizes .1), le-leb n (C .positions) (p .sizes .2)) refl
+  sizes-fit = sizes-pass C n k (p .sizes .0) (p .sizes .1) (p .sizes .2)
 
   level-fits : level L .given ≡ false
-  level-fits = rw (le-leb 1 L (p .level .0), le-leb L greatestLevel (p .level .1)) refl
+  level-fits = level-passes L (p .level .0) (p .level .1)
 
   module _ (g : ℕ) (some : 1 ≤ g) where
     verdict-told : judgeAnswer C k (rowsListed C s G word rows scores) (scoresListed C s G word rows scores) g ≡ valued (judged g (scoresListed C s G word rows scores))

@@ -7,13 +7,14 @@ use Prim.Native.Nat.{ℕ, _*_, _≤_}
 use native.Mathlib.Omega.{arith}
 use borrow.Author.Tests.{le-ltb, eq-eqb}
 use lib.ListN.{length, drop}
+use Rattle.audit.proofs.Clean.{word-taken}
 use Rattle.definitions.proofs.Table.{Accepts, end, next, accepts}
 use Rattle.definitions.specs.Answers.{refused, counted, rowsOnto, scoresOnto}
 use Rattle.definitions.specs.Field.{sixteen, power, value, sumOf, double, shifted}
 use Rattle.definitions.specs.Limits.{greatestSum, greatestLimit, greatestRows}
 use Rattle.definitions.specs.Listing.{listOf}
-use Rattle.definitions.specs.Refusals.{Line, tried, entriesOf, firstAbove, columns, listTable, readTable}
-use Rattle.definitions.specs.Tools.{below, sum, smallest}
+use Rattle.definitions.specs.Refusals.{Line, tried, entriesOf, firstAbove, listTable, readTable}
+use Rattle.definitions.specs.Tools.{below, sum}
 use Rattle.definitions.specs.Weights.{matrix, cost}
 use Rattle.output.specs.HardWords.{Left, Both, HardWords}
 use Rattle.starred.proofs.Single.{length-single, single-matrix}
@@ -38,11 +39,9 @@ module _ (n k : ℕ) (rows scores : List ℕ) where
       rw (sym (accepts refused (counted (length all)) a), sym (accepts (λ _ _. rows) (rowsOnto k all rows) a), sym (accepts (λ _ _. scores) (scoresOnto sixteen n m all scores) a))
       (ap (leftOf m) known)
 
--- a word of three symbols with weights, multiplicities and cost that no line of a table refuses
+-- a word of three symbols with multiplicities and cost that no line of a table refuses
 abbrev Within : List ℕ → Type 0
-Within word =
-    (length word ≡ 3) × (columns sixteen 3 (single sixteen greatestSum word) .given ≡ false) × (entriesOf (hardWord word) .given ≡ false)
-    × (cost (hardWord word) ≡ 3)
+Within word = (length word ≡ 3) × (entriesOf (hardWord word) .given ≡ false) × (cost (hardWord word) ≡ 3)
 
 module _ (word : List ℕ) (within : Within word) where
   stated : (w : ℕ) → length (single sixteen w word) ≡ sixteen .symbols * 3
@@ -52,18 +51,15 @@ module _ (word : List ℕ) (within : Within word) where
   module _ (G rows scores : ℕ) (least : 3 ≤ G) (most : G ≤ greatestLimit) (room : greatestRows * 2 ≤ rows) (marks : greatestRows ≤ scores) where
     pub read-accepts : Accepts (readTable sixteen 3 2 1 G (single sixteen greatestSum word) rows scores)
     read-accepts =
-        let price : cost (matrix 1 (single sixteen greatestSum word)) ≡ 3 = ap cost (single-matrix sixteen 1 word) ∙ within .3 in
-        next refl (next refl (next (le-ltb greatestLimit G most)
-        (next (ap not (eq-eqb (length (single sixteen greatestSum word)) (sixteen .symbols * 3) (stated greatestSum)))
-        (next (le-ltb rows (greatestRows * 2) room) (next (le-ltb scores greatestRows marks)
-        (next (within .1) (next (le-ltb G (cost (matrix 1 (single sixteen greatestSum word))) (omega arith)) end)))))))
+        let price : cost (matrix 1 (single sixteen greatestSum word)) ≡ 3 = ap cost (single-matrix sixteen 1 word) ∙ within .2 in
+        word-taken sixteen 3 word (within .0) 2 1 G rows scores (omega arith, omega arith, omega arith) (omega arith, omega arith) most room marks (omega arith)
 
     list-accepts : Accepts (listTable sixteen 3 2 G (hardWord word) rows scores)
     list-accepts =
-        let price : cost (hardWord word) ≡ 3 = within .3 in
+        let price : cost (hardWord word) ≡ 3 = within .2 in
         next refl (next (le-ltb greatestLimit G most) (next (ap not (eq-eqb (length (hardWord word)) (sixteen .symbols * 3) (stated 1)))
         (next (le-ltb rows (greatestRows * 2) room) (next (le-ltb scores greatestRows marks)
-        (next (within .2) (next (le-ltb G (cost (hardWord word)) (omega arith)) end))))))
+        (next (within .1) (next (le-ltb G (cost (hardWord word)) (omega arith)) end))))))
 
   -- and leave what its list makes of the memory
   both : (l : List (List ℕ)) (left : List ℕ → List ℕ → Left) → listOf sixteen 3 2 (hardWord word) ≡ l
@@ -77,8 +73,8 @@ module _ (word : List ℕ) (within : Within word) where
       )
 
 pub within : Within (1 ∷ 1 ∷ 1 ∷ []) × Within (1 ∷ 1 ∷ 2 ∷ [])
-unfolding single below sum smallest firstAbove
-within = ((refl, refl, refl, refl), (refl, refl, refl, refl))
+unfolding single below sum firstAbove
+within = ((refl, refl, refl), (refl, refl, refl))
 
 one-row : (rows scores : List ℕ) → leftOf 3 2 rows scores (hardWord (1 ∷ 1 ∷ 1 ∷ [])) ((1 ∷ 0 ∷ []) ∷ []) ≡ (counted 1, 1 ∷ 0 ∷ drop 2 rows, 3 ∷ drop 1 scores)
 unfolding flatten single below sum power value sumOf double shifted
