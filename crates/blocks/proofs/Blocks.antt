@@ -83,16 +83,16 @@ module _ (C : Code) (F : FieldOf C) where
       f k l ∙ ap (C .times u) (e k l) ∙ times-grouped C F u h (getD a k 0) hu hh (sa k l) ∙ ap (λ (i : ℕ). C .times i (getD a k 0)) is
 
   -- the multiple 0 is a block of zeros
-  pub multiples-first : (a : List ℕ) → SymbolBlock C a → MultiplesBlock C 1 a (replicate (C .symbols) (replicate block 0))
-  multiples-first a sa c h k l =
+  pub multiples-first : (n : ℕ) → 0 < n → (a : List ℕ) → SymbolBlock C a → MultiplesBlock C 1 a (replicate n (replicate block 0))
+  multiples-first n pos a sa c h k l =
       let z : c ≡ 0 = omega arith in
       let some = zero-symbol C F in
-      ap (λ (r : List ℕ). getD r k 0) (getD-replicate (C .symbols) c (replicate block 0) [] (omega arith)) ∙ zero-at block k
+      ap (λ (r : List ℕ). getD r k 0) (getD-replicate n c (replicate block 0) [] (omega arith)) ∙ zero-at block k
       ∙ sym (ap (λ (n : ℕ). C .times n (getD a k 0)) z ∙ none-times C F (getD a k 0) (sa k l))
 
   -- where the multiples below h are there, those below 2h come of them
   pub multiples-filled : (h : ℕ) (a high : List ℕ) (old new : List (List ℕ)) → h < C .symbols → Joins C h → SymbolBlock C a → MultiplesBlock C h a old
-      → ScaledBlock C h a high → FilledTo C h h high old new → MultiplesBlock C (2 * h) a new
+      → ScaledBlock C h a high → FilledTo (C .plus) h h high old new → MultiplesBlock C (2 * h) a new
   multiples-filled h a high old new hh join sa m e f c l k g =
       elim (decLt c h) [
         | yes low ↦ ap (λ (r : List ℕ). getD r k 0) (f .below c low) ∙ m c low k g
@@ -104,14 +104,14 @@ module _ (C : Code) (F : FieldOf C) where
             ∙ times-joined C F (c - h) h (getD a k 0) symbol hh (sa k g) ∙ ap (λ (i : ℕ). C .times i (getD a k 0)) (join (c - h) here ∙ is)
       ]
 
-module _ (C : Code) where
+module _ (plus : ℕ → ℕ → ℕ) where
   -- nothing is filled yet
-  pub fill-none : (h : ℕ) (high : List ℕ) (m : List (List ℕ)) → FilledTo C h 0 high m m
+  pub fill-none : (h : ℕ) (high : List ℕ) (m : List (List ℕ)) → FilledTo plus h 0 high m m
   fill-none h high m = record { size = refl; below = λ c l. refl; sums = λ c l. let z : ⊥ = omega arith in absurd z }
 
   -- one multiple more
-  pub fill-more : (h n : ℕ) (high sum : List ℕ) (old new : List (List ℕ)) → n < h → h + n < length old → FilledTo C h n high old new
-      → SummedBlock C (getD new n []) high sum → FilledTo C h (n + 1) high old (set new (h + n) sum)
+  pub fill-more : (h n : ℕ) (high sum : List ℕ) (old new : List (List ℕ)) → n < h → h + n < length old → FilledTo plus h n high old new
+      → SummedBlock plus (getD new n []) high sum → FilledTo plus h (n + 1) high old (set new (h + n) sum)
   fill-more h n high sum old new low room f e = record {
     size = length-set new (h + n) sum ∙ f .size;
     below = λ c l. getD-set-other new (h + n) c sum [] (λ i. omega arith) ∙ f .below c l;
@@ -119,7 +119,7 @@ module _ (C : Code) where
       | yes i ↦
           ap (λ (j : ℕ). getD (getD (set new (h + n) sum) (h + j) []) k 0) i
           ∙ ap (λ (r : List ℕ). getD r k 0) (getD-set-same new (h + n) sum [] (let s = f .size in omega arith)) ∙ e k g
-          ∙ ap (λ (r : List ℕ). C .plus (getD r k 0) (getD high k 0)) (f .below n low ∙ ap (λ (j : ℕ). getD old j []) (sym i))
+          ∙ ap (λ (r : List ℕ). plus (getD r k 0) (getD high k 0)) (f .below n low ∙ ap (λ (j : ℕ). getD old j []) (sym i))
       | no i ↦ ap (λ (r : List ℕ). getD r k 0) (getD-set-other new (h + n) (h + c) sum [] (λ j. omega arith)) ∙ f .sums c (omega arith) k g
     ];
   }

@@ -55,24 +55,24 @@ pub record Changed (at n : ℕ) (f : ℕ → ℕ) (old new : List ℕ) : Type 0 
 abbrev pub PutBlock : ℕ → List ℕ → List ℕ → List ℕ → Type 0
 PutBlock at part old new = Changed at block (λ (k : ℕ). getD part (k - at) 0) old new
 
+-- a block is added to a row from a place on
+abbrev pub AddedBlock : (ℕ → ℕ → ℕ) → ℕ → List ℕ → List ℕ → List ℕ → Type 0
+AddedBlock plus at part old new = Changed at block (λ (k : ℕ). plus (getD old k 0) (getD part (k - at) 0)) old new
+
+-- a sum of blocks
+abbrev pub SummedBlock : (ℕ → ℕ → ℕ) → List ℕ → List ℕ → List ℕ → Type 0
+SummedBlock plus a b r = Front block (λ (k : ℕ). plus (getD a k 0) (getD b k 0)) r
+
+-- the n blocks from place h on are those from the first on, each with `high` added; those below h stay
+pub record FilledTo (plus : ℕ → ℕ → ℕ) (h n : ℕ) (high : List ℕ) (old new : List (List ℕ)) : Type 0 where
+  pub size : length new ≡ length old
+  pub below : (c : ℕ) → c < h → getD new c [] ≡ getD old c []
+  pub sums : (c : ℕ) → c < n → SummedBlock plus (getD old c []) high (getD new (h + c) [])
+
 module _ (C : Code) where
-  -- a block is added to a row from a place on
-  abbrev pub AddedBlock : ℕ → List ℕ → List ℕ → List ℕ → Type 0
-  AddedBlock at part old new = Changed at block (λ (k : ℕ). C .plus (getD old k 0) (getD part (k - at) 0)) old new
-
-  -- a sum of blocks
-  abbrev pub SummedBlock : List ℕ → List ℕ → List ℕ → Type 0
-  SummedBlock a b r = Front block (λ (k : ℕ). C .plus (getD a k 0) (getD b k 0)) r
-
   -- u times a block
   abbrev pub ScaledBlock : ℕ → List ℕ → List ℕ → Type 0
   ScaledBlock u a r = Front block (λ (k : ℕ). C .times u (getD a k 0)) r
-
-  -- the n blocks from place h on are those from the first on, each with `high` added; those below h stay
-  pub record FilledTo (h n : ℕ) (high : List ℕ) (old new : List (List ℕ)) : Type 0 where
-    pub size : length new ≡ length old
-    pub below : (c : ℕ) → c < h → getD new c [] ≡ getD old c []
-    pub sums : (c : ℕ) → c < n → SummedBlock (getD old c []) high (getD new (h + c) [])
 
   -- the first n of many blocks are the multiples of a block, in order
   abbrev pub MultiplesBlock : ℕ → List ℕ → List (List ℕ) → Type 0

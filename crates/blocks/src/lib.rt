@@ -2,14 +2,19 @@
 ghost use mathlib.Core.Path.{_≡_};
 ghost use Prim.Native.Nat.{_*_, _≤_, _<_};
 ghost use lib.ListN.{length};
-ghost use Rattle.definitions.specs.Field.{sixteen};
-ghost use Rattle.field.specs.Table.{Products};
+ghost use Rattle.alphabet.specs.Codes.{codeOn};
+ghost use Rattle.definitions.specs.Field.{sumOf};
+ghost use Rattle.field.specs.Table.{Tabled};
 ghost use Rattle.blocks.specs.Row.{width, InRow, SymbolBlock, BlockOf, PutBlock, AddedBlock, SummedBlock, ScaledBlock, FilledTo, MultiplesBlock};
+use alphabet::Alphabet;
+use alphabet::MOST_SYMBOLS;
 use refusals::limits::GREATEST_LIMIT;
-use refusals::limits::SYMBOLS;
 
 // The columns that are worked on at a time.
 pub const BLOCK: usize = 16;
+
+// The multiples of a block that there are of sixteen symbols.
+pub const SYMBOLS_OF_SIXTEEN: usize = 16;
 
 // The entries of a row: as many blocks as the greatest cost needs.
 pub const WIDTH: usize = (GREATEST_LIMIT / BLOCK + 1) * BLOCK;
@@ -43,7 +48,7 @@ pub fn put(row: &mut [u8; WIDTH], at: usize, part: &[u8; BLOCK])
 // A block, added to a row from a place on.
 pub fn add(row: &mut [u8; WIDTH], at: usize, part: &[u8; BLOCK])
     requires { ⌜ InRow at × (length (now row) ≡ width) ⌝ }
-    ensures { λ _. ⌜ AddedBlock sixteen at (now (part .entry)) (now (row .entry)) (now (row .exit)) ⌝ }
+    ensures { λ _. ⌜ AddedBlock sumOf at (now (part .entry)) (now (row .entry)) (now (row .exit)) ⌝ }
 {
     let mut i = 0;
     while i < BLOCK {
@@ -53,7 +58,7 @@ pub fn add(row: &mut [u8; WIDTH], at: usize, part: &[u8; BLOCK])
 }
 
 fn summed(a: &[u8; BLOCK], b: &[u8; BLOCK]) -> [u8; BLOCK]
-    ensures { λ r. ⌜ SummedBlock sixteen (now (a .entry)) (now (b .entry)) r ⌝ }
+    ensures { λ r. ⌜ SummedBlock sumOf (now (a .entry)) (now (b .entry)) r ⌝ }
 {
     let mut sum = [0u8; BLOCK];
     let mut i = 0;
@@ -65,48 +70,49 @@ fn summed(a: &[u8; BLOCK], b: &[u8; BLOCK]) -> [u8; BLOCK]
 }
 
 // u times a block, by the table.
-pub fn scaled(table: &[u8; 256], a: &[u8; BLOCK], u: u8) -> [u8; BLOCK]
-    requires { ⌜ Products sixteen (now table) ⌝ }
-    requires { ⌜ (u < sixteen .symbols) × SymbolBlock sixteen (now a) ⌝ }
-    ensures { λ r. ⌜ ScaledBlock sixteen u (now (a .entry)) r ⌝ }
+pub fn scaled(alphabet: Alphabet, table: &[u8], a: &[u8; BLOCK], u: u8) -> [u8; BLOCK]
+    requires { ⌜ Tabled (codeOn alphabet) (now table) ⌝ }
+    requires { ⌜ (u < codeOn alphabet .symbols) × SymbolBlock (codeOn alphabet) (now a) ⌝ }
+    ensures { λ r. ⌜ ScaledBlock (codeOn alphabet) u (now (a .entry)) r ⌝ }
 {
     let mut times = [0u8; BLOCK];
     let mut i = 0;
     while i < BLOCK {
-        times[i] = field::inside::look(table, u, a[i]);
+        times[i] = field::inside::look(alphabet, table, u, a[i]);
         i += 1;
     }
     times
 }
 
 // Alpha times a symbol: each bit one place up, and a bit that leaves is replaced by the modulus.
-fn twice(x: u8) -> u8
-    requires { ⌜ x < sixteen .symbols ⌝ }
-    ensures { λ r. ⌜ r ≡ sixteen .times 2 x ⌝ }
+fn twice(alphabet: Alphabet, x: u8) -> u8
+    requires { ⌜ x < codeOn alphabet .symbols ⌝ }
+    ensures { λ r. ⌜ r ≡ codeOn alphabet .times 2 x ⌝ }
 {
-    if x < 8 {
-        return x * 2;
+    let double = x * 2;
+    if double <= alphabet.greatest_symbol() {
+        return double;
     }
-    (x * 2) ^ 19
+    double ^ alphabet.modulus()
 }
 
-fn doubled(a: &[u8; BLOCK]) -> [u8; BLOCK]
-    requires { ⌜ SymbolBlock sixteen (now a) ⌝ }
-    ensures { λ r. ⌜ ScaledBlock sixteen 2 (now (a .entry)) r ⌝ }
+fn doubled(alphabet: Alphabet, a: &[u8; BLOCK]) -> [u8; BLOCK]
+    requires { ⌜ SymbolBlock (codeOn alphabet) (now a) ⌝ }
+    ensures { λ r. ⌜ ScaledBlock (codeOn alphabet) 2 (now (a .entry)) r ⌝ }
 {
     let mut times = [0u8; BLOCK];
     let mut i = 0;
     while i < BLOCK {
-        times[i] = twice(a[i]);
+        times[i] = twice(alphabet, a[i]);
         i += 1;
     }
     times
 }
 
 // The multiples from h on: those below h, each with the multiple h added.
-fn fill(times: &mut [[u8; BLOCK]; SYMBOLS], high: &[u8; BLOCK], h: usize)
-    requires { ⌜ (length (now times) ≡ sixteen .symbols) × (2 * h ≤ sixteen .symbols) ⌝ }
-    ensures { λ _. ⌜ FilledTo sixteen h h (now (high .entry)) (now (times .entry)) (now (times .exit)) ⌝ }
+fn fill(times: &mut [[u8; BLOCK]], high: &[u8; BLOCK], h: usize)
+    requires { ⌜ 2 * h ≤ length (now times) ⌝ }
+    ensures { λ _. ⌜ FilledTo sumOf h h (now (high .entry)) (now (times .entry)) (now (times .exit)) ⌝ }
 {
     let mut c = 0;
     while c < h {
@@ -116,18 +122,35 @@ fn fill(times: &mut [[u8; BLOCK]; SYMBOLS], high: &[u8; BLOCK], h: usize)
     }
 }
 
-// Block c is c times the block.
-pub fn multiples(a: &[u8; BLOCK]) -> [[u8; BLOCK]; SYMBOLS]
-    requires { ⌜ SymbolBlock sixteen (now a) ⌝ }
-    ensures { λ r. ⌜ MultiplesBlock sixteen (sixteen .symbols) (now (a .entry)) r ⌝ }
+// Block c is c times the block: with each power of two those that are there become twice as many.
+pub fn multiples_of_sixteen(a: &[u8; BLOCK]) -> [[u8; BLOCK]; SYMBOLS_OF_SIXTEEN]
+    requires { ⌜ SymbolBlock (codeOn Alphabet.Sixteen) (now a) ⌝ }
+    ensures { λ r. ⌜ MultiplesBlock (codeOn Alphabet.Sixteen) (codeOn Alphabet.Sixteen .symbols) (now (a .entry)) r ⌝ }
 {
-    let two = doubled(a);
-    let four = doubled(&two);
-    let eight = doubled(&four);
-    let mut times = [[0u8; BLOCK]; SYMBOLS];
+    let two = doubled(Alphabet::Sixteen, a);
+    let four = doubled(Alphabet::Sixteen, &two);
+    let eight = doubled(Alphabet::Sixteen, &four);
+    let mut times = [[0u8; BLOCK]; SYMBOLS_OF_SIXTEEN];
     fill(&mut times, a, 1);
     fill(&mut times, &two, 2);
     fill(&mut times, &four, 4);
     fill(&mut times, &eight, 8);
+    times
+}
+
+pub fn multiples_of_thirty_two(a: &[u8; BLOCK]) -> [[u8; BLOCK]; MOST_SYMBOLS]
+    requires { ⌜ SymbolBlock (codeOn Alphabet.ThirtyTwo) (now a) ⌝ }
+    ensures { λ r. ⌜ MultiplesBlock (codeOn Alphabet.ThirtyTwo) (codeOn Alphabet.ThirtyTwo .symbols) (now (a .entry)) r ⌝ }
+{
+    let two = doubled(Alphabet::ThirtyTwo, a);
+    let four = doubled(Alphabet::ThirtyTwo, &two);
+    let eight = doubled(Alphabet::ThirtyTwo, &four);
+    let sixteen = doubled(Alphabet::ThirtyTwo, &eight);
+    let mut times = [[0u8; BLOCK]; MOST_SYMBOLS];
+    fill(&mut times, a, 1);
+    fill(&mut times, &two, 2);
+    fill(&mut times, &four, 4);
+    fill(&mut times, &eight, 8);
+    fill(&mut times, &sixteen, 16);
     times
 }

@@ -3,39 +3,55 @@ ghost use mathlib.Core.List.{_++_};
 ghost use mathlib.Core.Path.{_≡_};
 ghost use Prim.Native.Nat.{_≤_, _<_};
 ghost use lib.ListN.{length, drop};
+ghost use Rattle.alphabet.specs.Codes.{codeOn};
 ghost use Rattle.definitions.specs.Code.{Symbols, codeword};
-ghost use Rattle.definitions.specs.Field.{numbers, value, sixteen};
-ghost use Rattle.field.specs.Table.{Products};
+ghost use Rattle.definitions.specs.Field.{numbers, value};
+ghost use Rattle.field.specs.Table.{Tabled};
+use alphabet::Alphabet;
 use field::inside::ALPHA;
 
 // The value of the polynomial f at x.
-pub fn value_at(table: &[u8; 256], f: &[u8], x: u8) -> u8
-    requires { ⌜ Products sixteen (now table) ⌝ }
-    requires { ⌜ Symbols sixteen (now f) ⌝ }
-    requires { ⌜ x < sixteen .symbols ⌝ }
-    ensures { λ r. ⌜ r ≡ value (numbers sixteen) x (now (f .entry)) ⌝ }
+pub fn value_at(alphabet: Alphabet, table: &[u8], f: &[u8], x: u8) -> u8
+    requires { ⌜ Tabled (codeOn alphabet) (now table) ⌝ }
+    requires { ⌜ Symbols (codeOn alphabet) (now f) ⌝ }
+    requires { ⌜ x < codeOn alphabet .symbols ⌝ }
+    ensures { λ r. ⌜ r ≡ value (numbers (codeOn alphabet)) x (now (f .entry)) ⌝ }
 {
     let mut y = 0u8;
     let mut j = f.len();
     while 0 < j {
         j -= 1;
-        y = f[j] ^ field::inside::look(table, x, y);
+        y = f[j] ^ field::inside::look(alphabet, table, x, y);
     }
     y
 }
 
-// The n symbols of the codeword of f, to the front of out.
-pub fn encode_into(f: &[u8], n: usize, out: &mut [u8])
-    requires { ⌜ Symbols sixteen (now f) ⌝ }
+fn points_into(alphabet: Alphabet, table: &[u8], f: &[u8], n: usize, out: &mut [u8])
+    requires { ⌜ Tabled (codeOn alphabet) (now table) ⌝ }
+    requires { ⌜ Symbols (codeOn alphabet) (now f) ⌝ }
     requires { ⌜ n ≤ length (now out) ⌝ }
-    ensures { λ _. ⌜ now (out .exit) ≡ codeword sixteen n (now (f .entry)) ++ drop n (now (out .entry)) ⌝ }
+    ensures { λ _. ⌜ now (out .exit) ≡ codeword (codeOn alphabet) n (now (f .entry)) ++ drop n (now (out .entry)) ⌝ }
 {
-    let table = field::inside::products();
     let mut x = 1u8;
     let mut i = 0;
     while i < n {
-        out[i] = value_at(&table, f, x);
-        x = field::inside::look(&table, ALPHA, x);
+        out[i] = value_at(alphabet, table, f, x);
+        x = field::inside::look(alphabet, table, ALPHA, x);
         i += 1;
     }
+}
+
+// The n symbols of the codeword of f, to the front of out. Each alphabet lays its own table: chosen by one call, both would be laid.
+pub fn encode_into(alphabet: Alphabet, f: &[u8], n: usize, out: &mut [u8])
+    requires { ⌜ Symbols (codeOn alphabet) (now f) ⌝ }
+    requires { ⌜ n ≤ length (now out) ⌝ }
+    ensures { λ _. ⌜ now (out .exit) ≡ codeword (codeOn alphabet) n (now (f .entry)) ++ drop n (now (out .entry)) ⌝ }
+{
+    if let Alphabet::ThirtyTwo = alphabet {
+        let table = field::inside::products_of_thirty_two();
+        points_into(Alphabet::ThirtyTwo, &table, f, n, out);
+        return;
+    }
+    let table = field::inside::products_of_sixteen();
+    points_into(Alphabet::Sixteen, &table, f, n, out);
 }

@@ -3,18 +3,18 @@ ghost use mathlib.Core.Path.{_≡_};
 ghost use Prim.Native.Nat.{_+_, _*_, _≤_, _<_};
 ghost use lib.ListN.{length};
 ghost use lib.Seq.{sets};
+ghost use Rattle.alphabet.specs.Codes.{codeOn};
 ghost use Rattle.definitions.specs.Code.{Symbols};
-ghost use Rattle.definitions.specs.Field.{sixteen};
-ghost use Rattle.field.specs.Table.{Products};
+ghost use Rattle.field.specs.Table.{Tabled};
 ghost use Rattle.monomials.specs.Rows.{Places};
 ghost use Rattle.conditions.specs.MaskedRows.{Clear, askedAt, baseAt, keptOrder, keptOrders, maskedPoint, maskedColumn, maskedRows};
 ghost use Rattle.blocks.specs.Row.{width, block};
+use alphabet::Alphabet;
+use alphabet::MOST_POSITIONS;
+use alphabet::MOST_SYMBOLS;
 use blocks::BLOCK;
 use blocks::WIDTH;
 use field::inside::ALPHA;
-use refusals::limits::GREATEST_SYMBOL;
-use refusals::limits::POSITIONS;
-use refusals::limits::SYMBOLS;
 
 // At y = 0 the power of y has to be the order itself.
 fn asked_at(b: u8, t: u8) -> u8
@@ -86,9 +86,10 @@ fn orders_rows(
 
 // The conditions of one point, of the powers of its x.
 fn point_rows(
+    alphabet: Alphabet,
     rows: &mut [[u8; WIDTH]],
     at: usize,
-    table: &[u8; 256],
+    table: &[u8],
     px: &[u8; WIDTH],
     es: &[[u8; WIDTH]; 2],
     b: u8,
@@ -96,46 +97,48 @@ fn point_rows(
     n: usize,
     blocks: usize,
 ) -> usize
-    requires { ⌜ Products sixteen (now table) ⌝ }
-    requires { ⌜ Symbols sixteen (now px) × Places (now es) ⌝ }
-    requires { ⌜ (b < sixteen .symbols) × (n ≤ width) × (blocks * block ≤ width) ⌝ }
-    requires { ⌜ (at + length (maskedPoint sixteen (now px) n blocks (now es) b m) ≤ length (now rows)) × Clear at (blocks * block) (now rows) ⌝ }
-    ensures { λ r. ⌜ r ≡ at + length (maskedPoint sixteen (now (px .entry)) n blocks (now (es .entry)) b m) ⌝ }
-    ensures { λ _. ⌜ now (rows .exit) ≡ sets (now (rows .entry)) at (maskedPoint sixteen (now (px .entry)) n blocks (now (es .entry)) b m) ⌝ }
+    requires { ⌜ Tabled (codeOn alphabet) (now table) ⌝ }
+    requires { ⌜ Symbols (codeOn alphabet) (now px) × Places (now es) ⌝ }
+    requires { ⌜ (b < codeOn alphabet .symbols) × (n ≤ width) × (blocks * block ≤ width) ⌝ }
+    requires { ⌜ (at + length (maskedPoint (codeOn alphabet) (now px) n blocks (now es) b m) ≤ length (now rows)) × Clear at (blocks * block) (now rows) ⌝ }
+    ensures { λ r. ⌜ r ≡ at + length (maskedPoint (codeOn alphabet) (now (px .entry)) n blocks (now (es .entry)) b m) ⌝ }
+    ensures { λ _. ⌜ now (rows .exit) ≡ sets (now (rows .entry)) at (maskedPoint (codeOn alphabet) (now (px .entry)) n blocks (now (es .entry)) b m) ⌝ }
 {
     if m == 0 {
         return at;
     }
     let mut py = [0u8; WIDTH];
-    monomials::powers(table, base_at(b), n, &mut py);
+    monomials::powers(alphabet, table, base_at(b), n, &mut py);
     let mut row = [0u8; WIDTH];
-    monomials::values(table, px, &py, es, blocks * BLOCK, &mut row);
+    monomials::values(alphabet, table, px, &py, es, blocks * BLOCK, &mut row);
     orders_rows(rows, at, &row, es, b, m, blocks)
 }
 
 // The conditions of one position.
 fn column_rows(
+    alphabet: Alphabet,
     rows: &mut [[u8; WIDTH]],
     at: usize,
-    table: &[u8; 256],
+    table: &[u8],
     px: &[u8; WIDTH],
     es: &[[u8; WIDTH]; 2],
-    column: &[u8; SYMBOLS],
+    column: &[u8; MOST_SYMBOLS],
     n: usize,
     blocks: usize,
 ) -> usize
-    requires { ⌜ Products sixteen (now table) ⌝ }
-    requires { ⌜ Symbols sixteen (now px) × Places (now es) ⌝ }
+    requires { ⌜ Tabled (codeOn alphabet) (now table) ⌝ }
+    requires { ⌜ Symbols (codeOn alphabet) (now px) × Places (now es) ⌝ }
     requires { ⌜ (n ≤ width) × (blocks * block ≤ width) ⌝ }
-    requires { ⌜ (at + length (maskedColumn sixteen (now px) n blocks (now es) (now column)) ≤ length (now rows)) × Clear at (blocks * block) (now rows) ⌝ }
-    ensures { λ r. ⌜ r ≡ at + length (maskedColumn sixteen (now (px .entry)) n blocks (now (es .entry)) (now (column .entry))) ⌝ }
-    ensures { λ _. ⌜ now (rows .exit) ≡ sets (now (rows .entry)) at (maskedColumn sixteen (now (px .entry)) n blocks (now (es .entry)) (now (column .entry))) ⌝ }
+    requires { ⌜ (at + length (maskedColumn (codeOn alphabet) (now px) n blocks (now es) (now column)) ≤ length (now rows)) × Clear at (blocks * block) (now rows) ⌝ }
+    ensures { λ r. ⌜ r ≡ at + length (maskedColumn (codeOn alphabet) (now (px .entry)) n blocks (now (es .entry)) (now (column .entry))) ⌝ }
+    ensures { λ _. ⌜ now (rows .exit) ≡ sets (now (rows .entry)) at (maskedColumn (codeOn alphabet) (now (px .entry)) n blocks (now (es .entry)) (now (column .entry))) ⌝ }
 {
+    let greatest = alphabet.greatest_symbol();
     let mut next = at;
     let mut b = 0u8;
-    while b <= GREATEST_SYMBOL {
+    while b <= greatest {
         let m = column[field::inside::wide(b)];
-        next = point_rows(rows, next, table, px, es, b, m, n, blocks);
+        next = point_rows(alphabet, rows, next, table, px, es, b, m, n, blocks);
         b += 1;
     }
     next
@@ -143,28 +146,40 @@ fn column_rows(
 
 // The conditions of a whole matrix, from the first row on, in so many blocks of columns. Answers how many there are.
 pub fn matrix_rows(
+    alphabet: Alphabet,
     rows: &mut [[u8; WIDTH]],
-    table: &[u8; 256],
-    matrix: &[[u8; SYMBOLS]; POSITIONS],
+    table: &[u8],
+    matrix: &[[u8; MOST_SYMBOLS]; MOST_POSITIONS],
     v: usize,
     d: usize,
     blocks: usize,
 ) -> usize
-    requires { ⌜ Products sixteen (now table) ⌝ }
+    requires { ⌜ Tabled (codeOn alphabet) (now table) ⌝ }
     requires { ⌜ (0 < v) × (d < width) × (blocks * block ≤ width) ⌝ }
-    requires { ⌜ (length (maskedRows sixteen v d blocks (now matrix)) ≤ length (now rows)) × Clear 0 (blocks * block) (now rows) ⌝ }
-    ensures { λ r. ⌜ r ≡ length (maskedRows sixteen v d blocks (now (matrix .entry))) ⌝ }
-    ensures { λ _. ⌜ now (rows .exit) ≡ sets (now (rows .entry)) 0 (maskedRows sixteen v d blocks (now (matrix .entry))) ⌝ }
+    requires { ⌜ (length (maskedRows (codeOn alphabet) v d blocks (now matrix)) ≤ length (now rows)) × Clear 0 (blocks * block) (now rows) ⌝ }
+    ensures { λ r. ⌜ r ≡ length (maskedRows (codeOn alphabet) v d blocks (now (matrix .entry))) ⌝ }
+    ensures { λ _. ⌜ now (rows .exit) ≡ sets (now (rows .entry)) 0 (maskedRows (codeOn alphabet) v d blocks (now (matrix .entry))) ⌝ }
 {
+    let positions = alphabet.positions();
     let es = monomials::exponents(v, blocks * BLOCK);
     let mut px = [0u8; WIDTH];
     let mut next = 0;
     let mut a = 1u8;
     let mut i = 0;
-    while i < POSITIONS {
-        monomials::powers(table, a, d + 1, &mut px);
-        next = column_rows(rows, next, table, &px, &es, &matrix[i], d / v + 1, blocks);
-        a = field::inside::look(table, ALPHA, a);
+    while i < positions {
+        monomials::powers(alphabet, table, a, d + 1, &mut px);
+        next = column_rows(
+            alphabet,
+            rows,
+            next,
+            table,
+            &px,
+            &es,
+            &matrix[i],
+            d / v + 1,
+            blocks,
+        );
+        a = field::inside::look(alphabet, table, ALPHA, a);
         i += 1;
     }
     next

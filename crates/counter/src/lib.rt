@@ -2,13 +2,13 @@
 ghost use mathlib.Core.Path.{_≡_};
 ghost use Prim.Native.Nat.{_*_, _≤_};
 ghost use lib.ListN.{length};
+ghost use Rattle.alphabet.specs.Codes.{codeOn};
 ghost use Rattle.counter.specs.Judging.{judged, sameSettings, apart, bothJudged, judgeAnswer, bothAnswer};
 ghost use Rattle.counter.specs.Verdict.{toldVerdict};
 ghost use Rattle.definitions.specs.Answers.{valued};
-ghost use Rattle.definitions.specs.Field.{sixteen};
+use alphabet::Alphabet;
 use refusals::Checked;
 use refusals::Refusal;
-use refusals::limits::GREATEST_SYMBOL;
 
 pub enum Verdict {
     Open,
@@ -51,11 +51,11 @@ fn judged(scores: &[u16], lead: usize) -> Verdict
     Verdict::Open
 }
 
-pub fn judge(k: usize, rows: &[u8], scores: &[u16], lead: usize) -> Verdict
-    ensures { λ v. ⌜ toldVerdict v ≡ judgeAnswer sixteen k (now (rows .entry)) (now (scores .entry)) lead ⌝ }
+pub fn judge(alphabet: Alphabet, k: usize, rows: &[u8], scores: &[u16], lead: usize) -> Verdict
+    ensures { λ v. ⌜ toldVerdict v ≡ judgeAnswer (codeOn alphabet) k (now (rows .entry)) (now (scores .entry)) lead ⌝ }
 {
-    let settled = Checked::size(k).or(lead == 0, Refusal::Setting);
-    let checked = rows::listed(settled, k, rows, scores).symbols(GREATEST_SYMBOL, rows);
+    let settled = Checked::size(alphabet, k).or(lead == 0, Refusal::Setting);
+    let checked = rows::listed(settled, k, rows, scores).symbols_of(alphabet, rows);
     if let Checked::Refused(r) = checked {
         return Verdict::Refused(r);
     }
@@ -109,6 +109,7 @@ fn both_judged(
 }
 
 pub fn judge_both(
+    alphabet: Alphabet,
     first: Settings,
     rows: &[u8],
     scores: &[u16],
@@ -117,18 +118,18 @@ pub fn judge_both(
     other_scores: &[u16],
     lead: usize,
 ) -> Verdict
-    ensures { λ v. ⌜ toldVerdict v ≡ bothAnswer sixteen first (now (rows .entry)) (now (scores .entry)) second (now (others .entry)) (now («other_scores» .entry)) lead ⌝ }
+    ensures { λ v. ⌜ toldVerdict v ≡ bothAnswer (codeOn alphabet) first (now (rows .entry)) (now (scores .entry)) second (now (others .entry)) (now («other_scores» .entry)) lead ⌝ }
 {
-    let settled = Checked::sizes(first.n, first.k)
-        .sizes_too(second.n, second.k)
+    let settled = Checked::sizes(alphabet, first.n, first.k)
+        .sizes_too(alphabet, second.n, second.k)
         .level(first.level)
         .level(second.level)
         .or(lead == 0, Refusal::Setting)
         .or(!same_settings(first, second), Refusal::Setting);
     let one = rows::listed(settled, first.k, rows, scores);
     let checked = rows::listed(one, second.k, others, other_scores)
-        .symbols(GREATEST_SYMBOL, rows)
-        .symbols_after(rows.len(), GREATEST_SYMBOL, others);
+        .symbols_of(alphabet, rows)
+        .symbols_of_after(alphabet, rows.len(), others);
     if let Checked::Refused(r) = checked {
         return Verdict::Refused(r);
     }

@@ -47,6 +47,10 @@ codeOf width modulus positions = record { symbols = 2 ^ width; positions = posit
 abbrev pub sixteen : Code
 sixteen = codeOf 4 19 15
 
+-- document 02, order 13, "Symbols 0 to 31 with α⁵ = α² + 1, n up to 31": the bits of x⁵+x²+1 are those of 37
+abbrev pub thirtyTwo : Code
+thirtyTwo = codeOf 5 37 31
+
 -- the symbol b with a b = 1, for an a other than zero: "Zero has no inverse"
 abbrev pub inverseOf : Code → ℕ → ℕ
 inverseOf C a = smallest (λ (b : ℕ). eqb (C .times a b) 1) (C .symbols)

@@ -5,10 +5,11 @@ ghost use Rattle.definitions.specs.Field.{sixteen};
 ghost use Rattle.editing.specs.After.{recordAfter};
 ghost use Rattle.edits.specs.Priced.{toldPriced};
 ghost use Rattle.matrix.specs.Record.{heldBy};
+use alphabet::Alphabet;
 use edits::Priced;
 use matrix::Matrix;
-use refusals::limits::ENTRIES;
-use refusals::limits::POSITIONS;
+use matrix::PLACES;
+use matrix::POSITIONS;
 
 // The outcome, and the record after it: where it is refused the one that went in.
 pub struct Edited {
@@ -23,7 +24,7 @@ fn recorded(
     old_cost: usize,
     n: usize,
     totals: [u16; POSITIONS],
-    entries: [u8; ENTRIES],
+    entries: [u8; PLACES],
 ) -> Edited
     ensures { λ r. ⌜ (r .outcome ≡ outcome) × (heldBy (r .matrix) ≡ recordAfter outcome «old_n» «old_cost» n totals entries) ⌝ }
 {
@@ -54,8 +55,8 @@ pub fn fresh(n: usize) -> Edited
     ensures matrix { λ r. ⌜ heldBy (r .matrix) ≡ freshHeld sixteen n ⌝ }
 {
     let mut totals = [0u16; POSITIONS];
-    let mut entries = [0u8; ENTRIES];
-    let outcome = parts::fresh(n, &mut totals, &mut entries);
+    let mut entries = [0u8; PLACES];
+    let outcome = parts::fresh(Alphabet::Sixteen, n, &mut totals, &mut entries);
     recorded(outcome, 2, 0, n, totals, entries)
 }
 
@@ -64,8 +65,8 @@ pub fn of_bytes(n: usize, bytes: &[u8]) -> Edited
     ensures matrix { λ r. ⌜ heldBy (r .matrix) ≡ bytesHeld sixteen n (now (bytes .entry)) ⌝ }
 {
     let mut totals = [0u16; POSITIONS];
-    let mut entries = [0u8; ENTRIES];
-    let outcome = parts::of_bytes(n, bytes, &mut totals, &mut entries);
+    let mut entries = [0u8; PLACES];
+    let outcome = parts::of_bytes(Alphabet::Sixteen, n, bytes, &mut totals, &mut entries);
     recorded(outcome, 2, 0, n, totals, entries)
 }
 
@@ -77,7 +78,16 @@ pub fn set_entry(m: Matrix, position: usize, symbol: usize, entry: u8) -> Edited
     let cost = m.cost;
     let mut totals = m.totals;
     let mut entries = m.entries;
-    let outcome = parts::set_entry(n, cost, &mut totals, &mut entries, position, symbol, entry);
+    let outcome = parts::set_entry(
+        Alphabet::Sixteen,
+        n,
+        cost,
+        &mut totals,
+        &mut entries,
+        position,
+        symbol,
+        entry,
+    );
     recorded(outcome, n, cost, n, totals, entries)
 }
 
@@ -89,7 +99,14 @@ pub fn clear_column(m: Matrix, position: usize) -> Edited
     let cost = m.cost;
     let mut totals = m.totals;
     let mut entries = m.entries;
-    let outcome = parts::clear_column(n, cost, &mut totals, &mut entries, position);
+    let outcome = parts::clear_column(
+        Alphabet::Sixteen,
+        n,
+        cost,
+        &mut totals,
+        &mut entries,
+        position,
+    );
     recorded(outcome, n, cost, n, totals, entries)
 }
 
@@ -105,6 +122,7 @@ pub fn add(first: Matrix, second: Matrix) -> Edited
     let second_totals = second.totals;
     let second_entries = second.entries;
     let outcome = parts::add(
+        Alphabet::Sixteen,
         n,
         cost,
         &mut totals,

@@ -2,7 +2,7 @@
 -- Assumes nothing.
 use mathlib.Core.Bool.{false}
 use mathlib.Core.List.{List, [], _∷_, _++_}
-use mathlib.Core.Path.{_≡_, refl, sym, _∙_, ap, subst}
+use mathlib.Core.Path.{_≡_, sym, _∙_, ap, subst}
 use Prim.Native.Nat.{ℕ, _+_, _*_, _≤_, _<_}
 use native.Mathlib.Nat.{mul-suc, mul-le-mul-left}
 use native.Mathlib.Omega.{arith}
@@ -51,14 +51,15 @@ module _ (C : Code) (h : Held) (r : Rightly C h) where
 
       pub set-done : (bad : ℕ) → bad ≡ lowestAbove C (h .entries ∷ withEntry C (h .entries) i b x ∷ []) → places C ≤ bad → (t c : ℕ)
           → t + entry C (h .entries) i b ≡ getD (h .totals) i 0 + x → c + entryCost (entry C (h .entries) i b) ≡ h .cost + entryCost x
+          → (after : List ℕ) → after ≡ withEntry C (h .entries) i b x
           → Edits (inOrOut C (h .entries ∷ withEntry C (h .entries) i b x ∷ []) ∷ []) h (heldOf C (h .n) (withEntry C (h .entries) i b x)) (costed c 0)
-          (set (h .totals) i t) (withEntry C (h .entries) i b x)
-      set-done bad e past t c et ec =
+          (set (h .totals) i t) after
+      set-done bad e past t c et ec after ea =
           none-above-done C (h .entries ∷ withEntry C (h .entries) i b x ∷ []) h (heldOf C (h .n) (withEntry C (h .entries) i b x)) bad e past c
-          (set (h .totals) i t) (withEntry C (h .entries) i b x) (let moved = cost-moves in omega arith)
+          (set (h .totals) i t) after (let moved = cost-moves in omega arith)
           (ap (λ (l : List ℕ). set l i t) (r .totals-are)
           ∙ totals-set C (h .entries) i b x hb at-within t hi (let s = total-at C (h .entries) i hi in let k = total-stored i hi in omega arith))
-          refl
+          ea
 
     -- the column is cleared
     pub column-within : C .symbols * i + C .symbols ≤ length (h .entries)

@@ -1,12 +1,13 @@
 -- What an edit leaves of a record that is lent in parts.
 -- Assumes nothing.
-use mathlib.Core.List.{List}
+use mathlib.Core.List.{List, _∷_}
 use mathlib.Core.Path.{_≡_}
 use Prim.Native.Nat.{ℕ, _+_, _≤_, _<_}
 use lib.ListN.{length, getD}
 use Rattle.definitions.specs.Answers.{Answer}
-use Rattle.definitions.specs.Editing.{edited, editAnswer}
-use Rattle.definitions.specs.Held.{Held}
+use Rattle.definitions.specs.Editing.{edited, editAnswer, lowestAbove}
+use Rattle.definitions.specs.Field.{Code}
+use Rattle.definitions.specs.Held.{Held, places}
 use Rattle.definitions.specs.Limits.{greatestLevel}
 use Rattle.definitions.specs.Refusals.{Line}
 
@@ -15,6 +16,10 @@ pub record Edits (table : List Line) (before after : Held) (answer : Answer) (to
   pub answered : answer ≡ editAnswer table after
   pub totals-are : totals ≡ edited table before after .totals
   pub entries-are : entries ≡ edited table before after .entries
+
+-- the lowest place of an entry above 5 in these entries or in others, of any code that has as many places
+abbrev pub Lowest : List ℕ → List (List ℕ) → ℕ → Type 0
+Lowest e es at = (C : Code) → length e ≡ places C → at ≡ lowestAbove C (e ∷ es)
 
 -- no entry of the sum is above 5
 abbrev pub LowSum : List ℕ → List ℕ → Type 0

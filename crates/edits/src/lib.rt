@@ -3,21 +3,22 @@ ghost use mathlib.Core.Bool.{true};
 ghost use mathlib.Core.List.{[], _∷_};
 ghost use mathlib.Core.Path.{_≡_};
 ghost use Prim.Native.Nat.{_+_, _*_, _≤_, _<_};
-ghost use lib.ListN.{length, set};
-ghost use Rattle.definitions.specs.Editing.{position, lowestAbove, inOrOut};
-ghost use Rattle.definitions.specs.Field.{sixteen};
+ghost use lib.ListN.{length, take, set};
+ghost use Rattle.alphabet.specs.Codes.{codeOn, mostPlaces};
+ghost use Rattle.definitions.specs.Editing.{position, inOrOut};
 ghost use Rattle.definitions.specs.Held.{held, places, totalsOf, heldOf, filled, withEntry, withoutColumn, withAdded, rightly};
 ghost use Rattle.definitions.specs.Refusals.{size};
 ghost use Rattle.definitions.specs.Weights.{cost};
-ghost use Rattle.edits.specs.Edits.{Edits, LowSum};
+ghost use Rattle.edits.specs.Edits.{Edits, Lowest, LowSum};
 ghost use Rattle.edits.specs.Priced.{toldPriced};
+ghost use Rattle.edits.specs.Turned.{Turned};
 ghost use Rattle.refusals.specs.Checked.{passed, orLine, toldChecked};
+use alphabet::Alphabet;
+use alphabet::MOST_POSITIONS;
 use refusals::Checked;
 use refusals::Refusal;
-use refusals::limits::ENTRIES;
 use refusals::limits::GREATEST_ENTRY;
 use refusals::limits::GREATEST_LEVEL;
-use refusals::limits::SYMBOLS;
 
 // The cost that the record then holds.
 pub enum Priced {
@@ -26,36 +27,56 @@ pub enum Priced {
 }
 
 // The totals of the entries; answers their cost.
-fn count(entries: &[u8], totals: &mut [u16]) -> usize
-    requires { ⌜ (length (now totals) ≡ sixteen .positions) × (length (now entries) ≡ places sixteen) ⌝ }
-    ensures { λ r. ⌜ (r ≡ cost (now (entries .entry))) × (now (totals .exit) ≡ totalsOf sixteen (now (entries .entry))) ⌝ }
+pub fn count(alphabet: Alphabet, entries: &[u8], totals: &mut [u16]) -> usize
+    requires { ⌜ (length (now totals) ≡ codeOn alphabet .positions) × (length (now entries) ≡ places (codeOn alphabet)) ⌝ }
+    ensures { λ r. ⌜ (r ≡ cost (now (entries .entry))) × (now (totals .exit) ≡ totalsOf (codeOn alphabet) (now (entries .entry))) ⌝ }
 {
-    matrix::lay_totals(entries, totals);
+    matrix::lay_totals(alphabet, entries, totals);
     matrix::cost(entries)
 }
 
 // The bytes, zeros behind them, and their totals; answers their cost.
-pub fn lay(bytes: &[u8], totals: &mut [u16], entries: &mut [u8]) -> usize
-    requires { ⌜ (length (now bytes) ≤ places sixteen) × (length (now totals) ≡ sixteen .positions) × (length (now entries) ≡ places sixteen) ⌝ }
-    ensures { λ r. ⌜ (r ≡ cost (filled sixteen (now (bytes .entry)))) × (now (totals .exit) ≡ totalsOf sixteen (filled sixteen (now (bytes .entry)))) × (now (entries .exit) ≡ filled sixteen (now (bytes .entry))) ⌝ }
+pub fn lay(alphabet: Alphabet, bytes: &[u8], totals: &mut [u16], entries: &mut [u8]) -> usize
+    requires { ⌜ (length (now bytes) ≤ places (codeOn alphabet)) × (length (now totals) ≡ codeOn alphabet .positions) × (length (now entries) ≡ places (codeOn alphabet)) ⌝ }
+    ensures { λ r. ⌜ (r ≡ cost (filled (codeOn alphabet) (now (bytes .entry)))) × (now (totals .exit) ≡ totalsOf (codeOn alphabet) (filled (codeOn alphabet) (now (bytes .entry)))) × (now (entries .exit) ≡ filled (codeOn alphabet) (now (bytes .entry))) ⌝ }
 {
-    let zeros = [0u8; ENTRIES];
-    memory::put(entries, 0, &zeros);
     memory::put(entries, 0, bytes);
-    count(entries, totals)
+    memory::clear(entries, bytes.len(), entries.len() - bytes.len());
+    count(alphabet, entries, totals)
+}
+
+// So many first entries are a matrix's bytes: zeros behind them make it a record; answers its cost.
+pub fn turn_in_place(alphabet: Alphabet, used: usize, entries: &mut [u8]) -> usize
+    requires { ⌜ (used ≤ places (codeOn alphabet)) × (mostPlaces ≤ length (now entries)) ⌝ }
+    ensures { λ r. ⌜ Turned (take used (now (entries .entry))) r (now (entries .exit)) ⌝ }
+{
+    let mut totals = [0u16; MOST_POSITIONS];
+    let positions = alphabet.positions();
+    let places = alphabet.places();
+    memory::clear(entries, used, places - used);
+    count(alphabet, &entries[..places], &mut totals[..positions])
+}
+
+// A matrix that is lent as bytes is turned into a record, whose entries stand in the room that is lent; answers its cost.
+pub fn turn(alphabet: Alphabet, bytes: &[u8], entries: &mut [u8]) -> usize
+    requires { ⌜ (length (now bytes) ≤ places (codeOn alphabet)) × (mostPlaces ≤ length (now entries)) ⌝ }
+    ensures { λ r. ⌜ Turned (now (bytes .entry)) r (now (entries .exit)) ⌝ }
+{
+    memory::put(entries, 0, bytes);
+    turn_in_place(alphabet, bytes.len(), entries)
 }
 
 // n, and a position of it.
-pub fn placed(n: usize, at: usize) -> Checked
-    ensures { λ r. ⌜ toldChecked r ≡ orLine (orLine passed (size sixteen n)) (position n at) ⌝ }
+pub fn placed(alphabet: Alphabet, n: usize, at: usize) -> Checked
+    ensures { λ r. ⌜ toldChecked r ≡ orLine (orLine passed (size (codeOn alphabet) n)) (position n at) ⌝ }
 {
-    Checked::size(n).or(n <= at, Refusal::Sizes)
+    Checked::size(alphabet, n).or(n <= at, Refusal::Sizes)
 }
 
 // The lowest place of an entry above 5 before or after one is set, or as many as there are.
 fn lowest_set(entries: &[u8], at: usize, entry: u8) -> usize
-    requires { ⌜ (length (now entries) ≡ places sixteen) × (at < places sixteen) ⌝ }
-    ensures { λ r. ⌜ r ≡ lowestAbove sixteen (now (entries .entry) ∷ set (now (entries .entry)) at entry ∷ []) ⌝ }
+    requires { ⌜ at < length (now entries) ⌝ }
+    ensures { λ r. ⌜ Lowest (now (entries .entry)) (set (now (entries .entry)) at entry ∷ []) r ⌝ }
 {
     let first = refusals::first_above(GREATEST_ENTRY, entries);
     if entry <= GREATEST_ENTRY {
@@ -68,6 +89,7 @@ fn lowest_set(entries: &[u8], at: usize, entry: u8) -> usize
 }
 
 pub fn set_right(
+    alphabet: Alphabet,
     n: usize,
     cost: usize,
     totals: &mut [u16],
@@ -76,13 +98,13 @@ pub fn set_right(
     symbol: usize,
     entry: u8,
 ) -> Priced
-    requires { ⌜ (n ≤ sixteen .positions) × (position < n) × (symbol < sixteen .symbols) ⌝ }
-    requires { ⌜ rightly sixteen (held n cost (now totals) (now entries)) ≡ true ⌝ }
-    ensures { λ r. ⌜ Edits (inOrOut sixteen (now (entries .entry) ∷ withEntry sixteen (now (entries .entry)) position symbol entry ∷ []) ∷ []) (held n cost (now (totals .entry)) (now (entries .entry))) (heldOf sixteen n (withEntry sixteen (now (entries .entry)) position symbol entry)) (toldPriced r) (now (totals .exit)) (now (entries .exit)) ⌝ }
+    requires { ⌜ (n ≤ codeOn alphabet .positions) × (position < n) × (symbol < codeOn alphabet .symbols) ⌝ }
+    requires { ⌜ rightly (codeOn alphabet) (held n cost (now totals) (now entries)) ≡ true ⌝ }
+    ensures { λ r. ⌜ Edits (inOrOut (codeOn alphabet) (now (entries .entry) ∷ withEntry (codeOn alphabet) (now (entries .entry)) position symbol entry ∷ []) ∷ []) (held n cost (now (totals .entry)) (now (entries .entry))) (heldOf (codeOn alphabet) n (withEntry (codeOn alphabet) (now (entries .entry)) position symbol entry)) (toldPriced r) (now (totals .exit)) (now (entries .exit)) ⌝ }
 {
-    let at = SYMBOLS * position + symbol;
+    let at = alphabet.symbols() * position + symbol;
     let bad = lowest_set(entries, at, entry);
-    if bad < ENTRIES {
+    if bad < entries.len() {
         return Priced::Refused(Refusal::Symbol(bad));
     }
     let old = entries[at];
@@ -93,33 +115,34 @@ pub fn set_right(
 }
 
 pub fn clear_right(
+    alphabet: Alphabet,
     n: usize,
     cost: usize,
     totals: &mut [u16],
     entries: &mut [u8],
     position: usize,
 ) -> Priced
-    requires { ⌜ (n ≤ sixteen .positions) × (position < n) ⌝ }
-    requires { ⌜ rightly sixteen (held n cost (now totals) (now entries)) ≡ true ⌝ }
-    ensures { λ r. ⌜ Edits (inOrOut sixteen (now (entries .entry) ∷ withoutColumn sixteen (now (entries .entry)) position ∷ []) ∷ []) (held n cost (now (totals .entry)) (now (entries .entry))) (heldOf sixteen n (withoutColumn sixteen (now (entries .entry)) position)) (toldPriced r) (now (totals .exit)) (now (entries .exit)) ⌝ }
+    requires { ⌜ (n ≤ codeOn alphabet .positions) × (position < n) ⌝ }
+    requires { ⌜ rightly (codeOn alphabet) (held n cost (now totals) (now entries)) ≡ true ⌝ }
+    ensures { λ r. ⌜ Edits (inOrOut (codeOn alphabet) (now (entries .entry) ∷ withoutColumn (codeOn alphabet) (now (entries .entry)) position ∷ []) ∷ []) (held n cost (now (totals .entry)) (now (entries .entry))) (heldOf (codeOn alphabet) n (withoutColumn (codeOn alphabet) (now (entries .entry)) position)) (toldPriced r) (now (totals .exit)) (now (entries .exit)) ⌝ }
 {
     let bad = refusals::first_above(GREATEST_ENTRY, entries);
-    if bad < ENTRIES {
+    if bad < entries.len() {
         return Priced::Refused(Refusal::Symbol(bad));
     }
-    let from = SYMBOLS * position;
-    let to = from + SYMBOLS;
+    let symbols = alphabet.symbols();
+    let from = symbols * position;
+    let to = from + symbols;
     let of_column = matrix::cost(&entries[from..to]);
-    let zeros = [0u8; SYMBOLS];
-    memory::put(entries, from, &zeros);
+    memory::clear(entries, from, symbols);
     totals[position] = 0;
     Priced::Cost(cost - of_column)
 }
 
 // The lowest place where the sum of both entries is above 5, or as many as there are.
 fn lowest_sum(entries: &[u8], others: &[u8]) -> usize
-    requires { ⌜ (length (now entries) ≡ places sixteen) × (length (now others) ≡ places sixteen) ⌝ }
-    ensures { λ r. ⌜ r ≡ lowestAbove sixteen (now (entries .entry) ∷ now (others .entry) ∷ withAdded (now (entries .entry)) (now (others .entry)) ∷ []) ⌝ }
+    requires { ⌜ length (now entries) ≤ length (now others) ⌝ }
+    ensures { λ r. ⌜ Lowest (now (entries .entry)) (now (others .entry) ∷ withAdded (now (entries .entry)) (now (others .entry)) ∷ []) r ⌝ }
 {
     let mut j = 0;
     while j < entries.len() {
@@ -128,7 +151,7 @@ fn lowest_sum(entries: &[u8], others: &[u8]) -> usize
         }
         j += 1;
     }
-    ENTRIES
+    entries.len()
 }
 
 fn add_entries(entries: &mut [u8], others: &[u8])
@@ -144,20 +167,21 @@ fn add_entries(entries: &mut [u8], others: &[u8])
 }
 
 pub fn add_right(
+    alphabet: Alphabet,
     n: usize,
     cost: usize,
     totals: &mut [u16],
     entries: &mut [u8],
     others: &[u8],
 ) -> Priced
-    requires { ⌜ rightly sixteen (held n cost (now totals) (now entries)) ≡ true ⌝ }
-    requires { ⌜ length (now others) ≡ places sixteen ⌝ }
-    ensures { λ r. ⌜ Edits (inOrOut sixteen (now (entries .entry) ∷ now (others .entry) ∷ withAdded (now (entries .entry)) (now (others .entry)) ∷ []) ∷ []) (held n cost (now (totals .entry)) (now (entries .entry))) (heldOf sixteen n (withAdded (now (entries .entry)) (now (others .entry)))) (toldPriced r) (now (totals .exit)) (now (entries .exit)) ⌝ }
+    requires { ⌜ rightly (codeOn alphabet) (held n cost (now totals) (now entries)) ≡ true ⌝ }
+    requires { ⌜ length (now others) ≡ places (codeOn alphabet) ⌝ }
+    ensures { λ r. ⌜ Edits (inOrOut (codeOn alphabet) (now (entries .entry) ∷ now (others .entry) ∷ withAdded (now (entries .entry)) (now (others .entry)) ∷ []) ∷ []) (held n cost (now (totals .entry)) (now (entries .entry))) (heldOf (codeOn alphabet) n (withAdded (now (entries .entry)) (now (others .entry)))) (toldPriced r) (now (totals .exit)) (now (entries .exit)) ⌝ }
 {
     let bad = lowest_sum(entries, others);
-    if bad < ENTRIES {
+    if bad < entries.len() {
         return Priced::Refused(Refusal::Symbol(bad));
     }
     add_entries(entries, others);
-    Priced::Cost(count(entries, totals))
+    Priced::Cost(count(alphabet, entries, totals))
 }

@@ -6,6 +6,7 @@ ghost use Rattle.definitions.specs.Editing.{lentFreshHeld, lentFreshAnswer, len
 ghost use Rattle.definitions.specs.Field.{sixteen};
 ghost use Rattle.definitions.specs.Held.{held};
 ghost use Rattle.definitions.specs.Limits.{greatestRows};
+use alphabet::Alphabet;
 use crossing::Answer;
 
 #[no_mangle]
@@ -14,7 +15,7 @@ pub extern "C" fn kv_matrix_fresh(n: usize, totals: &mut [u16], entries: &mut [u
     ensures total_memory { λ _. ⌜ now (totals .exit) ≡ lentFreshHeld sixteen n (now (totals .entry)) (now (entries .entry)) .totals ⌝ }
     ensures entry_memory { λ _. ⌜ now (entries .exit) ≡ lentFreshHeld sixteen n (now (totals .entry)) (now (entries .entry)) .entries ⌝ }
 {
-    crossing::priced(parts::fresh(n, totals, entries))
+    entries::editing::matrix_fresh(Alphabet::Sixteen, n, totals, entries)
 }
 
 #[no_mangle]
@@ -28,7 +29,7 @@ pub extern "C" fn kv_matrix_of_bytes(
     ensures total_memory { λ _. ⌜ now (totals .exit) ≡ lentBytesHeld sixteen n (now (bytes .entry)) (now (totals .entry)) (now (entries .entry)) .totals ⌝ }
     ensures entry_memory { λ _. ⌜ now (entries .exit) ≡ lentBytesHeld sixteen n (now (bytes .entry)) (now (totals .entry)) (now (entries .entry)) .entries ⌝ }
 {
-    crossing::priced(parts::of_bytes(n, bytes, totals, entries))
+    entries::editing::matrix_of_bytes(Alphabet::Sixteen, n, bytes, totals, entries)
 }
 
 #[no_mangle]
@@ -45,7 +46,16 @@ pub extern "C" fn kv_matrix_set_entry(
     ensures total_memory { λ _. ⌜ now (totals .exit) ≡ setHeld sixteen (held n cost (now (totals .entry)) (now (entries .entry))) position symbol entry .totals ⌝ }
     ensures entry_memory { λ _. ⌜ now (entries .exit) ≡ setHeld sixteen (held n cost (now (totals .entry)) (now (entries .entry))) position symbol entry .entries ⌝ }
 {
-    crossing::priced(parts::set_entry(n, cost, totals, entries, position, symbol, entry))
+    entries::editing::matrix_set_entry(
+        Alphabet::Sixteen,
+        n,
+        cost,
+        totals,
+        entries,
+        position,
+        symbol,
+        entry,
+    )
 }
 
 #[no_mangle]
@@ -60,7 +70,7 @@ pub extern "C" fn kv_matrix_clear_column(
     ensures total_memory { λ _. ⌜ now (totals .exit) ≡ clearHeld sixteen (held n cost (now (totals .entry)) (now (entries .entry))) position .totals ⌝ }
     ensures entry_memory { λ _. ⌜ now (entries .exit) ≡ clearHeld sixteen (held n cost (now (totals .entry)) (now (entries .entry))) position .entries ⌝ }
 {
-    crossing::priced(parts::clear_column(n, cost, totals, entries, position))
+    entries::editing::matrix_clear_column(Alphabet::Sixteen, n, cost, totals, entries, position)
 }
 
 #[no_mangle]
@@ -78,7 +88,8 @@ pub extern "C" fn kv_matrix_add(
     ensures total_memory { λ _. ⌜ now (totals .exit) ≡ addHeld sixteen (held n cost (now (totals .entry)) (now (entries .entry))) (held «other_n» «other_cost» (now («other_totals» .entry)) (now («other_entries» .entry))) .totals ⌝ }
     ensures entry_memory { λ _. ⌜ now (entries .exit) ≡ addHeld sixteen (held n cost (now (totals .entry)) (now (entries .entry))) (held «other_n» «other_cost» (now («other_totals» .entry)) (now («other_entries» .entry))) .entries ⌝ }
 {
-    crossing::priced(parts::add(
+    entries::editing::matrix_add(
+        Alphabet::Sixteen,
         n,
         cost,
         totals,
@@ -87,7 +98,7 @@ pub extern "C" fn kv_matrix_add(
         other_cost,
         other_totals,
         other_entries,
-    ))
+    )
 }
 
 #[no_mangle]
@@ -100,7 +111,7 @@ pub extern "C" fn kv_matrix_cost_and_bound(
 ) -> Answer
     ensures { λ r. ⌜ answerOf r ≡ heldCostAnswer sixteen (held n cost (now (totals .entry)) (now (entries .entry))) k ⌝ }
 {
-    crossing::costed(weights::cost_and_bound_of_parts(n, cost, totals, entries, k))
+    entries::editing::matrix_cost_and_bound(Alphabet::Sixteen, n, cost, totals, entries, k)
 }
 
 #[no_mangle]
@@ -115,15 +126,7 @@ pub extern "C" fn kv_matrix_interpolate(
 ) -> Answer
     ensures { λ r. ⌜ HeldInterpolationAnswers sixteen (held n cost (now (totals .entry)) (now (entries .entry))) k limit (now (out .entry)) (answerOf r) (now (out .exit)) ⌝ }
 {
-    crossing::interpolated(interpolation::interpolate_parts(
-        n,
-        cost,
-        totals,
-        entries,
-        k,
-        limit,
-        out,
-    ))
+    entries::editing::matrix_interpolate(Alphabet::Sixteen, n, cost, totals, entries, k, limit, out)
 }
 
 #[no_mangle]
@@ -142,5 +145,15 @@ pub extern "C" fn kv_matrix_list(
     ensures score_memory { λ _. ⌜ now (scores .exit) ≡ heldListScores sixteen (held n cost (now (totals .entry)) (now (entries .entry))) k limit (now (rows .entry)) (now (scores .entry)) ⌝ }
     ensures few { λ r. ⌜ answerOf r .count ≤ greatestRows ⌝ }
 {
-    crossing::counted(list::list_of_parts(n, cost, totals, entries, k, limit, rows, scores))
+    entries::editing::matrix_list(
+        Alphabet::Sixteen,
+        n,
+        cost,
+        totals,
+        entries,
+        k,
+        limit,
+        rows,
+        scores,
+    )
 }

@@ -3,21 +3,21 @@ ghost use mathlib.Core.Path.{_≡_};
 ghost use Rattle.counter.specs.Judging.{judgeAnswer, bothAnswer};
 ghost use Rattle.judgements.specs.Held.{judgementOf, settingsOf, holder, heldAnswer};
 ghost use Rattle.definitions.specs.Field.{sixteen};
-use counter::Settings;
+use alphabet::Alphabet;
 use judgements::Judgement;
 
 #[no_mangle]
 pub extern "C" fn kv_judge(k: usize, rows: &[u8], scores: &[u16], lead: usize) -> Judgement
     ensures { λ r. ⌜ judgementOf r ≡ judgeAnswer sixteen k (now (rows .entry)) (now (scores .entry)) lead ⌝ }
 {
-    judgements::judged(counter::judge(k, rows, scores, lead))
+    entries::judging::judge(Alphabet::Sixteen, k, rows, scores, lead)
 }
 
 #[no_mangle]
 pub extern "C" fn kv_open(k: usize, rows: &[u8], scores: &[u16], lead: usize) -> Judgement
     ensures { λ r. ⌜ judgementOf r ≡ heldAnswer (judgeAnswer sixteen k (now (rows .entry)) (now (scores .entry)) lead) 1 k ⌝ }
 {
-    judgements::opened(k, rows, scores, lead)
+    entries::judging::opened(Alphabet::Sixteen, k, rows, scores, lead)
 }
 
 #[no_mangle]
@@ -36,13 +36,20 @@ pub extern "C" fn kv_judge_both(
 ) -> Judgement
     ensures { λ r. ⌜ judgementOf r ≡ bothAnswer sixteen (settingsOf n k level) (now (rows .entry)) (now (scores .entry)) (settingsOf «other_n» «other_k» «other_level») (now (others .entry)) (now («other_scores» .entry)) lead ⌝ }
 {
-    let first = Settings { n, k, level };
-    let second = Settings {
-        n: other_n,
-        k: other_k,
-        level: other_level,
-    };
-    judgements::judged(counter::judge_both(first, rows, scores, second, others, other_scores, lead))
+    entries::judging::judge_both(
+        Alphabet::Sixteen,
+        n,
+        k,
+        level,
+        rows,
+        scores,
+        other_n,
+        other_k,
+        other_level,
+        others,
+        other_scores,
+        lead,
+    )
 }
 
 #[no_mangle]
@@ -61,11 +68,18 @@ pub extern "C" fn kv_open_both(
 ) -> Judgement
     ensures { λ r. ⌜ judgementOf r ≡ heldAnswer (bothAnswer sixteen (settingsOf n k level) (now (rows .entry)) (now (scores .entry)) (settingsOf «other_n» «other_k» «other_level») (now (others .entry)) (now («other_scores» .entry)) lead) (holder (now (scores .entry))) k ⌝ }
 {
-    let first = Settings { n, k, level };
-    let second = Settings {
-        n: other_n,
-        k: other_k,
-        level: other_level,
-    };
-    judgements::opened_both(first, rows, scores, second, others, other_scores, lead)
+    entries::judging::opened_both(
+        Alphabet::Sixteen,
+        n,
+        k,
+        level,
+        rows,
+        scores,
+        other_n,
+        other_k,
+        other_level,
+        others,
+        other_scores,
+        lead,
+    )
 }

@@ -10,27 +10,28 @@ pub mod editing;
 pub mod judging;
 pub mod planning;
 
+use alphabet::Alphabet;
 use crossing::Answer;
 
 #[no_mangle]
 pub extern "C" fn kv_sum(a: u8, b: u8) -> Answer
     ensures { λ r. ⌜ answerOf r ≡ sumAnswer sixteen a b ⌝ }
 {
-    crossing::element(field::sum(a, b))
+    entries::sum(Alphabet::Sixteen, a, b)
 }
 
 #[no_mangle]
 pub extern "C" fn kv_product(a: u8, b: u8) -> Answer
     ensures { λ r. ⌜ answerOf r ≡ productAnswer sixteen a b ⌝ }
 {
-    crossing::element(field::product(a, b))
+    entries::product(Alphabet::Sixteen, a, b)
 }
 
 #[no_mangle]
 pub extern "C" fn kv_inverse(a: u8) -> Answer
     ensures { λ r. ⌜ answerOf r ≡ inverseAnswer sixteen a ⌝ }
 {
-    crossing::element(field::inverse(a))
+    entries::inverse(Alphabet::Sixteen, a)
 }
 
 #[no_mangle]
@@ -38,7 +39,7 @@ pub extern "C" fn kv_encode(n: usize, k: usize, message: &[u8], out: &mut [u8]) 
     ensures answer { λ r. ⌜ answerOf r ≡ encodeAnswer sixteen n k (now (message .entry)) (now (out .entry)) ⌝ }
     ensures memory { λ _. ⌜ now (out .exit) ≡ encodeOut sixteen n k (now (message .entry)) (now (out .entry)) ⌝ }
 {
-    crossing::counted(code::encode(n, k, message, out))
+    entries::encode(Alphabet::Sixteen, n, k, message, out)
 }
 
 #[no_mangle]
@@ -51,14 +52,14 @@ pub extern "C" fn kv_multiplicities(
     ensures answer { λ r. ⌜ answerOf r ≡ multiplicitiesAnswer sixteen n level (now (reliabilities .entry)) (now (out .entry)) ⌝ }
     ensures memory { λ _. ⌜ now (out .exit) ≡ multiplicitiesOut sixteen n level (now (reliabilities .entry)) (now (out .entry)) ⌝ }
 {
-    crossing::counted(weights::multiplicities(n, level, reliabilities, out))
+    entries::multiplicities(Alphabet::Sixteen, n, level, reliabilities, out)
 }
 
 #[no_mangle]
 pub extern "C" fn kv_cost_and_bound(n: usize, k: usize, matrix: &[u8]) -> Answer
     ensures { λ r. ⌜ answerOf r ≡ costAnswer sixteen n k (now (matrix .entry)) ⌝ }
 {
-    crossing::costed(weights::cost_and_bound(n, k, matrix))
+    entries::cost_and_bound(Alphabet::Sixteen, n, k, matrix)
 }
 
 #[no_mangle]
@@ -71,7 +72,7 @@ pub extern "C" fn kv_interpolate(
 ) -> Answer
     ensures { λ r. ⌜ InterpolationAnswers sixteen n k limit (now (matrix .entry)) (now (out .entry)) (answerOf r) (now (out .exit)) ⌝ }
 {
-    crossing::interpolated(interpolation::interpolate(n, k, limit, matrix, out))
+    entries::interpolate(Alphabet::Sixteen, n, k, limit, matrix, out)
 }
 
 #[no_mangle]
@@ -79,7 +80,7 @@ pub extern "C" fn kv_roots(degree: usize, k: usize, coefficients: &[u8], out: &m
     ensures answer { λ r. ⌜ answerOf r ≡ rootsAnswer sixteen degree k (now (coefficients .entry)) (now (out .entry)) ⌝ }
     ensures memory { λ _. ⌜ now (out .exit) ≡ rootsOut sixteen degree k (now (coefficients .entry)) (now (out .entry)) ⌝ }
 {
-    crossing::counted(roots::roots(degree, k, coefficients, out))
+    entries::roots(Alphabet::Sixteen, degree, k, coefficients, out)
 }
 
 #[no_mangle]
@@ -96,7 +97,7 @@ pub extern "C" fn kv_list_of_multiplicities(
     ensures score_memory { λ _. ⌜ now (scores .exit) ≡ listScores sixteen n k limit (now (matrix .entry)) (now (rows .entry)) (now (scores .entry)) ⌝ }
     ensures few { λ r. ⌜ answerOf r .count ≤ greatestRows ⌝ }
 {
-    crossing::counted(list::list_of_multiplicities(n, k, limit, matrix, rows, scores))
+    entries::list_of_multiplicities(Alphabet::Sixteen, n, k, limit, matrix, rows, scores)
 }
 
 #[no_mangle]
@@ -114,5 +115,14 @@ pub extern "C" fn kv_list_of_reliabilities(
     ensures score_memory { λ _. ⌜ now (scores .exit) ≡ readScores sixteen n k level limit (now (reliabilities .entry)) (now (rows .entry)) (now (scores .entry)) ⌝ }
     ensures few { λ r. ⌜ answerOf r .count ≤ greatestRows ⌝ }
 {
-    crossing::counted(list::list_of_reliabilities(n, k, level, limit, reliabilities, rows, scores))
+    entries::list_of_reliabilities(
+        Alphabet::Sixteen,
+        n,
+        k,
+        level,
+        limit,
+        reliabilities,
+        rows,
+        scores,
+    )
 }

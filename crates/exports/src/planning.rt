@@ -6,6 +6,7 @@ ghost use Rattle.definitions.specs.Field.{sixteen};
 ghost use Rattle.definitions.specs.Held.{held};
 ghost use Rattle.definitions.specs.Limits.{greatestRows};
 ghost use Rattle.definitions.specs.Planning.{planAnswer, planOut, checkAnswer, planListAnswer, planListRows, planListScores, heldCheckAnswer, heldPlanListAnswer, heldPlanListRows, heldPlanListScores};
+use alphabet::Alphabet;
 use crossing::Answer;
 
 #[no_mangle]
@@ -13,7 +14,7 @@ pub extern "C" fn kv_plan(n: usize, steps: usize, reliabilities: &[u16], out: &m
     ensures answer { λ r. ⌜ answerOf r ≡ planAnswer sixteen n steps (now (reliabilities .entry)) (now (out .entry)) ⌝ }
     ensures memory { λ _. ⌜ now (out .exit) ≡ planOut sixteen n steps (now (reliabilities .entry)) (now (out .entry)) ⌝ }
 {
-    crossing::planned(planner::plan(n, steps, reliabilities, out))
+    entries::planning::plan(Alphabet::Sixteen, n, steps, reliabilities, out)
 }
 
 #[no_mangle]
@@ -25,7 +26,7 @@ pub extern "C" fn kv_check_plan(
 ) -> Answer
     ensures { λ r. ⌜ answerOf r ≡ checkAnswer sixteen n steps (now (reliabilities .entry)) (now (plan .entry)) ⌝ }
 {
-    crossing::planned(planner::check_plan(n, steps, reliabilities, plan))
+    entries::planning::check_plan(Alphabet::Sixteen, n, steps, reliabilities, plan)
 }
 
 #[no_mangle]
@@ -44,7 +45,17 @@ pub extern "C" fn kv_list_of_plan(
     ensures score_memory { λ _. ⌜ now (scores .exit) ≡ planListScores sixteen n k limit steps (now (reliabilities .entry)) (now (plan .entry)) (now (rows .entry)) (now (scores .entry)) ⌝ }
     ensures few { λ r. ⌜ answerOf r .count ≤ greatestRows ⌝ }
 {
-    crossing::counted(offers::list_of_plan(n, k, limit, steps, reliabilities, plan, rows, scores))
+    entries::planning::list_of_plan(
+        Alphabet::Sixteen,
+        n,
+        k,
+        limit,
+        steps,
+        reliabilities,
+        plan,
+        rows,
+        scores,
+    )
 }
 
 #[no_mangle]
@@ -58,7 +69,15 @@ pub extern "C" fn kv_matrix_check_plan(
 ) -> Answer
     ensures { λ r. ⌜ answerOf r ≡ heldCheckAnswer sixteen (held n cost (now (totals .entry)) (now (entries .entry))) steps (now (reliabilities .entry)) ⌝ }
 {
-    crossing::planned(planner::check_plan_of_parts(n, cost, totals, entries, steps, reliabilities))
+    entries::planning::matrix_check_plan(
+        Alphabet::Sixteen,
+        n,
+        cost,
+        totals,
+        entries,
+        steps,
+        reliabilities,
+    )
 }
 
 #[no_mangle]
@@ -79,7 +98,8 @@ pub extern "C" fn kv_matrix_list_of_plan(
     ensures score_memory { λ _. ⌜ now (scores .exit) ≡ heldPlanListScores sixteen (held n cost (now (totals .entry)) (now (entries .entry))) k limit steps (now (reliabilities .entry)) (now (rows .entry)) (now (scores .entry)) ⌝ }
     ensures few { λ r. ⌜ answerOf r .count ≤ greatestRows ⌝ }
 {
-    crossing::counted(offers::list_of_plan_of_parts(
+    entries::planning::matrix_list_of_plan(
+        Alphabet::Sixteen,
         n,
         cost,
         totals,
@@ -90,5 +110,5 @@ pub extern "C" fn kv_matrix_list_of_plan(
         reliabilities,
         rows,
         scores,
-    ))
+    )
 }

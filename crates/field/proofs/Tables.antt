@@ -2,11 +2,14 @@
 -- Assumes nothing.
 use mathlib.Core.Bool.{Bool, _||_}
 use mathlib.Core.List.{List}
-use Prim.Native.Nat.{ℕ, _+_, _*_}
+use Prim.Native.Nat.{ℕ, _+_, _*_, _≤_, _<_}
+use native.Mathlib.Nat.{mul-comm}
+use native.Mathlib.Omega.{arith}
 use borrow.Author.Tests.{ne-eqb}
 use lib.Dec.{T, eqb, eqb→eq}
 use lib.ListN.{getD}
 use Rattle.algebra.proofs.Tests.{every, everyPair, every-at, everyPair-at}
+use Rattle.definitions.proofs.Loops.{row-within}
 use Rattle.definitions.specs.Field.{Code, inverseOf}
 use Rattle.field.specs.Table.{Products, Inverses}
 
@@ -26,3 +29,7 @@ pub inverses-right : (C : Code) (t : List ℕ) → T (inversesRight C t) → Inv
 unfolding Inverses
 inverses-right C t right a h nonzero =
     eqb→eq _ _ (rw (ne-eqb a 0 nonzero) at (every-at (C .symbols) (λ a. eqb a 0 || eqb (getD t a 0) (inverseOf C a)) right a h))
+
+-- the row of a symbol lies within the table
+pub row-below : (q a : ℕ) → a < q → a * q + q ≤ q * q
+row-below q a h = let r = row-within q a q (q * q) h (omega arith) in let e = mul-comm a q in omega arith

@@ -1,14 +1,18 @@
-// The table of all products and the readers of it, for inner use: what they are given is within limits already.
+// The readers of the tables of all products and inverses, for inner use: what they are given is within limits already.
 ghost use mathlib.Core.List.{[], _∷_};
 ghost use mathlib.Core.Path.{_≡_};
 ghost use Prim.Native.Nat.{_-_, _<_};
-ghost use Rattle.definitions.specs.Field.{sixteen};
+ghost use Rattle.alphabet.specs.Codes.{codeOn};
 ghost use Rattle.definitions.specs.Refusals.{firstAbove};
-ghost use Rattle.field.specs.Table.{Products, Inverses};
-use refusals::limits::GREATEST_SYMBOL;
-use refusals::limits::SYMBOLS;
+ghost use Rattle.field.specs.Table.{Tabled, Inverses};
+use crate::constants::INVERSES_OF_SIXTEEN;
+use crate::constants::INVERSES_OF_THIRTY_TWO;
+use crate::constants::PRODUCTS_OF_SIXTEEN;
+use crate::constants::PRODUCTS_OF_THIRTY_TWO;
+use alphabet::Alphabet;
+use alphabet::MOST_SYMBOLS;
 
-// The α of the code, a root of x⁴+x+1.
+// The α of either code: a root of x⁴+x+1, and of x⁵+x²+1.
 pub const ALPHA: u8 = 2;
 
 pub fn wide(x: u8) -> usize
@@ -18,296 +22,58 @@ pub fn wide(x: u8) -> usize
 }
 
 // The place of the first operand that is no symbol, or 2.
-pub fn first_bad(a: u8, b: u8) -> usize
-    ensures { λ r. ⌜ r ≡ firstAbove (sixteen .symbols - 1) (a ∷ b ∷ []) ⌝ }
+pub fn first_bad(alphabet: Alphabet, a: u8, b: u8) -> usize
+    ensures { λ r. ⌜ r ≡ firstAbove (codeOn alphabet .symbols - 1) (a ∷ b ∷ []) ⌝ }
 {
-    if GREATEST_SYMBOL < a {
+    let greatest = alphabet.greatest_symbol();
+    if greatest < a {
         return 0;
     }
-    if GREATEST_SYMBOL < b {
+    if greatest < b {
         return 1;
     }
     2
 }
 
-const PRODUCTS: [u8; 256] = [
-    0,
-    0,
-    0,
-    0,
-    0,
-    0,
-    0,
-    0,
-    0,
-    0,
-    0,
-    0,
-    0,
-    0,
-    0,
-    0,
-    0,
-    1,
-    2,
-    3,
-    4,
-    5,
-    6,
-    7,
-    8,
-    9,
-    10,
-    11,
-    12,
-    13,
-    14,
-    15,
-    0,
-    2,
-    4,
-    6,
-    8,
-    10,
-    12,
-    14,
-    3,
-    1,
-    7,
-    5,
-    11,
-    9,
-    15,
-    13,
-    0,
-    3,
-    6,
-    5,
-    12,
-    15,
-    10,
-    9,
-    11,
-    8,
-    13,
-    14,
-    7,
-    4,
-    1,
-    2,
-    0,
-    4,
-    8,
-    12,
-    3,
-    7,
-    11,
-    15,
-    6,
-    2,
-    14,
-    10,
-    5,
-    1,
-    13,
-    9,
-    0,
-    5,
-    10,
-    15,
-    7,
-    2,
-    13,
-    8,
-    14,
-    11,
-    4,
-    1,
-    9,
-    12,
-    3,
-    6,
-    0,
-    6,
-    12,
-    10,
-    11,
-    13,
-    7,
-    1,
-    5,
-    3,
-    9,
-    15,
-    14,
-    8,
-    2,
-    4,
-    0,
-    7,
-    14,
-    9,
-    15,
-    8,
-    1,
-    6,
-    13,
-    10,
-    3,
-    4,
-    2,
-    5,
-    12,
-    11,
-    0,
-    8,
-    3,
-    11,
-    6,
-    14,
-    5,
-    13,
-    12,
-    4,
-    15,
-    7,
-    10,
-    2,
-    9,
-    1,
-    0,
-    9,
-    1,
-    8,
-    2,
-    11,
-    3,
-    10,
-    4,
-    13,
-    5,
-    12,
-    6,
-    15,
-    7,
-    14,
-    0,
-    10,
-    7,
-    13,
-    14,
-    4,
-    9,
-    3,
-    15,
-    5,
-    8,
-    2,
-    1,
-    11,
-    6,
-    12,
-    0,
-    11,
-    5,
-    14,
-    10,
-    1,
-    15,
-    4,
-    7,
-    12,
-    2,
-    9,
-    13,
-    6,
-    8,
-    3,
-    0,
-    12,
-    11,
-    7,
-    5,
-    9,
-    14,
-    2,
-    10,
-    6,
-    1,
-    13,
-    15,
-    3,
-    4,
-    8,
-    0,
-    13,
-    9,
-    4,
-    1,
-    12,
-    8,
-    5,
-    2,
-    15,
-    11,
-    6,
-    3,
-    14,
-    10,
-    7,
-    0,
-    14,
-    15,
-    1,
-    13,
-    3,
-    2,
-    12,
-    9,
-    7,
-    6,
-    8,
-    4,
-    10,
-    11,
-    5,
-    0,
-    15,
-    13,
-    2,
-    9,
-    6,
-    4,
-    11,
-    1,
-    14,
-    12,
-    3,
-    8,
-    7,
-    5,
-    10,
-];
-
-// The constant is laid out anew at every use: a loop takes it once.
-pub fn products() -> [u8; 256]
-    ensures { λ r. ⌜ Products sixteen r ⌝ }
+// A table is laid out anew at every use: a loop takes it once. Which one is decided by a branch around the work: chosen by one call, both would be laid.
+pub fn products_of_sixteen() -> [u8; 256]
+    ensures { λ r. ⌜ Tabled (codeOn Alphabet.Sixteen) r ⌝ }
 {
-    PRODUCTS
+    PRODUCTS_OF_SIXTEEN
 }
 
-pub fn look(table: &[u8; 256], a: u8, b: u8) -> u8
-    requires { ⌜ Products sixteen (now table) ⌝ }
-    requires { ⌜ (a < sixteen .symbols) × (b < sixteen .symbols) ⌝ }
-    ensures { λ r. ⌜ r ≡ sixteen .times a b ⌝ }
+pub fn products_of_thirty_two() -> [u8; 1024]
+    ensures { λ r. ⌜ Tabled (codeOn Alphabet.ThirtyTwo) r ⌝ }
 {
-    table[wide(a) * SYMBOLS + wide(b)]
+    PRODUCTS_OF_THIRTY_TWO
 }
 
-const INVERSES: [u8; SYMBOLS] = [0, 1, 9, 14, 13, 11, 7, 6, 15, 2, 12, 5, 10, 4, 3, 8];
-
-pub fn inverses() -> [u8; SYMBOLS]
-    ensures { λ r. ⌜ Inverses sixteen r ⌝ }
+pub fn look(alphabet: Alphabet, table: &[u8], a: u8, b: u8) -> u8
+    requires { ⌜ Tabled (codeOn alphabet) (now table) ⌝ }
+    requires { ⌜ (a < codeOn alphabet .symbols) × (b < codeOn alphabet .symbols) ⌝ }
+    ensures { λ r. ⌜ r ≡ codeOn alphabet .times a b ⌝ }
 {
-    INVERSES
+    let symbols = alphabet.symbols();
+    table[wide(a) * symbols + wide(b)]
+}
+
+fn inverses_of_sixteen() -> [u8; MOST_SYMBOLS]
+    ensures { λ r. ⌜ Inverses (codeOn Alphabet.Sixteen) r ⌝ }
+{
+    INVERSES_OF_SIXTEEN
+}
+
+fn inverses_of_thirty_two() -> [u8; MOST_SYMBOLS]
+    ensures { λ r. ⌜ Inverses (codeOn Alphabet.ThirtyTwo) r ⌝ }
+{
+    INVERSES_OF_THIRTY_TWO
+}
+
+pub fn inverses(alphabet: Alphabet) -> [u8; MOST_SYMBOLS]
+    ensures { λ r. ⌜ Inverses (codeOn alphabet) r ⌝ }
+{
+    match alphabet {
+        Alphabet::Sixteen => inverses_of_sixteen(),
+        Alphabet::ThirtyTwo => inverses_of_thirty_two(),
+    }
 }

@@ -1,51 +1,57 @@
-// The field of sixteen symbols: sum, product and inverse, each refusing what is no symbol.
+// The field of an alphabet: sum, product and inverse, each refusing what is no symbol.
 ghost use mathlib.Core.Path.{_≡_};
-ghost use Rattle.definitions.specs.Field.{sixteen};
+ghost use Rattle.alphabet.specs.Codes.{codeOn};
 ghost use Rattle.definitions.specs.Answers.{sumAnswer, productAnswer, inverseAnswer};
 ghost use Rattle.field.specs.Element.{toldElement};
 
+pub mod constants;
 pub mod inside;
 
+use alphabet::Alphabet;
 use refusals::Checked;
 use refusals::Refusal;
-use refusals::limits::GREATEST_SYMBOL;
 
 pub enum Element {
     Of(u8),
     Refused(Refusal),
 }
 
-pub fn sum(a: u8, b: u8) -> Element
-    ensures { λ r. ⌜ toldElement r ≡ sumAnswer sixteen a b ⌝ }
+pub fn sum(alphabet: Alphabet, a: u8, b: u8) -> Element
+    ensures { λ r. ⌜ toldElement r ≡ sumAnswer (codeOn alphabet) a b ⌝ }
 {
-    let bad = inside::first_bad(a, b);
+    let bad = inside::first_bad(alphabet, a, b);
     if bad < 2 {
         return Element::Refused(Refusal::Symbol(bad));
     }
     Element::Of(a ^ b)
 }
 
-pub fn product(a: u8, b: u8) -> Element
-    ensures { λ r. ⌜ toldElement r ≡ productAnswer sixteen a b ⌝ }
+pub fn product(alphabet: Alphabet, a: u8, b: u8) -> Element
+    ensures { λ r. ⌜ toldElement r ≡ productAnswer (codeOn alphabet) a b ⌝ }
 {
-    let bad = inside::first_bad(a, b);
+    let bad = inside::first_bad(alphabet, a, b);
     if bad < 2 {
         return Element::Refused(Refusal::Symbol(bad));
     }
-    let table = inside::products();
-    Element::Of(inside::look(&table, a, b))
+    if let Alphabet::ThirtyTwo = alphabet {
+        let table = inside::products_of_thirty_two();
+        return Element::Of(inside::look(Alphabet::ThirtyTwo, &table, a, b));
+    }
+    let table = inside::products_of_sixteen();
+    Element::Of(inside::look(Alphabet::Sixteen, &table, a, b))
 }
 
-pub fn inverse(a: u8) -> Element
-    ensures { λ r. ⌜ toldElement r ≡ inverseAnswer sixteen a ⌝ }
+pub fn inverse(alphabet: Alphabet, a: u8) -> Element
+    ensures { λ r. ⌜ toldElement r ≡ inverseAnswer (codeOn alphabet) a ⌝ }
 {
+    let greatest = alphabet.greatest_symbol();
     let checked = Checked::Passed
-        .or(GREATEST_SYMBOL < a, Refusal::Symbol(0))
+        .or(greatest < a, Refusal::Symbol(0))
         .or(a == 0, Refusal::Zero);
     if let Checked::Refused(r) = checked {
         return Element::Refused(r);
     }
-    let table = inside::inverses();
+    let table = inside::inverses(alphabet);
     let at = inside::wide(a);
     Element::Of(table[at])
 }

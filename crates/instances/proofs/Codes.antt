@@ -1,4 +1,4 @@
--- Sixteen symbols are a field, and so are thirty-two; the theorem at sixteen symbols.
+-- Sixteen symbols are a field, and so are thirty-two; the theorem for either.
 -- Assumes nothing.
 use mathlib.Core.Bool.{true}
 use mathlib.Core.List.{List}
@@ -6,8 +6,11 @@ use mathlib.Core.Path.{_≡_}
 use Prim.Native.Nat.{ℕ, suc, _≤_, _<_}
 use native.Mathlib.Omega.{arith}
 use lib.ListN.{length}
+use Rattle.alphabet.specs.Codes.{codeOn}
+use Rattle.alphabet.specs.declared.Alphabet.the-variants.{Sixteen, ThirtyTwo}
+use Rattle.alphabet.specs.declared.Alphabet.{Alphabet}
 use Rattle.definitions.specs.Code.{Symbols}
-use Rattle.definitions.specs.Field.{codeOf, sixteen, sumOf, double, shifted, power}
+use Rattle.definitions.specs.Field.{sixteen, thirtyTwo, sumOf, double, shifted, power}
 use Rattle.definitions.specs.Polynomial.{Through}
 use Rattle.definitions.specs.Roots.{isRoot}
 use Rattle.definitions.specs.Tools.{smallest}
@@ -37,7 +40,7 @@ pub sixteen-field : FieldOf sixteen
 sixteen-field = finite 4 19 (sixteen .positions) sixteen-tested
 
 -- what is computed of thirty-two symbols: at most 1,024 pairs
-thirty-two-tested : Tested 5 37 31
+thirty-two-tested : Tested 5 37 (thirtyTwo .positions)
 unfolding every sumOf double shifted smallest power
 thirty-two-tested =
     record {
@@ -51,11 +54,16 @@ thirty-two-tested =
       points-differ = tt;
     }
 
--- so whatever is stated over any code that carries a field has a second instance: α⁵ = α² + 1, whose bits are those of 37, thirty-one points
-pub thirty-two-field : FieldOf (codeOf 5 37 31)
-thirty-two-field = finite 5 37 31 thirty-two-tested
+-- so whatever is stated over any code that carries a field has a second instance
+pub thirty-two-field : FieldOf thirtyTwo
+thirty-two-field = finite 5 37 (thirtyTwo .positions) thirty-two-tested
+
+-- either alphabet carries a field
+pub field-on : (w : Alphabet) → FieldOf (codeOn w)
+field-on Sixteen = sixteen-field
+field-on ThirtyTwo = thirty-two-field
 
 -- every message of score above D is a y-root of every polynomial of weighted degree at most D that passes, whoever made it
-pub score-above-degree-is-root : (n v D : ℕ) (m q f : List ℕ) → n ≤ sixteen .positions → Symbols sixteen q → Through sixteen n v D m q
-    → Symbols sixteen f → length f ≤ suc v → D < score sixteen n m f → isRoot sixteen v D q f ≡ true
-score-above-degree-is-root = Score.score-above-degree-is-root sixteen sixteen-field
+pub score-above-degree-is-root : (w : Alphabet) (n v D : ℕ) (m q f : List ℕ) → n ≤ codeOn w .positions → Symbols (codeOn w) q → Through (codeOn w) n v D m q
+    → Symbols (codeOn w) f → length f ≤ suc v → D < score (codeOn w) n m f → isRoot (codeOn w) v D q f ≡ true
+score-above-degree-is-root w = Score.score-above-degree-is-root (codeOn w) (field-on w)

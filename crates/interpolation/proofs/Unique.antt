@@ -15,7 +15,7 @@ use Rattle.definitions.specs.Answers.{Answer, refused, interpolated, Interpolat
 use Rattle.definitions.specs.Bound.{bound}
 use Rattle.definitions.specs.Code.{Symbols}
 use Rattle.definitions.specs.Editing.{heldInterpolationTable, HeldInterpolationAnswers}
-use Rattle.definitions.specs.Field.{Code, sixteen}
+use Rattle.definitions.specs.Field.{Code}
 use Rattle.definitions.specs.Held.{Held, bytesOf}
 use Rattle.definitions.specs.Polynomial.{Interpolates, leading}
 use Rattle.definitions.specs.Refusals.{Line, tried, interpolationTable}
@@ -23,7 +23,6 @@ use Rattle.definitions.specs.Tools.{sum}
 use Rattle.definitions.specs.Weights.{entryCost, cost}
 use Rattle.linear.proofs.Leading.{leading-is}
 use Rattle.linear.proofs.Unique.{interpolates-unique}
-use Rattle.instances.proofs.Codes.{sixteen-field}
 use Rattle.refusals.proofs.Unique.{same-told, answerOf, refused-back}
 use Rattle.interpolation.specs.Answered.{Answered}
 use Rattle.interpolation.specs.Interpolated.{toldInterpolated}
@@ -82,17 +81,18 @@ interpolated-back (Refused r) = refused-back (λ a. Of (a .bound) (a .count)) Re
 told-unique : {x y : Declared.Interpolated} {after later : List ℕ} → (toldInterpolated x ≡ toldInterpolated y) × (after ≡ later) → (x ≡ y) × (after ≡ later)
 told-unique u = (same-told toldInterpolated interpolatedOf interpolated-back (u .0) refl, u .1)
 
-pub interpolation-unique : (n k G : ℕ) (m out : List ℕ) (x y : Declared.Interpolated) (after later : List ℕ)
-    → InterpolationAnswers sixteen n k G m out (toldInterpolated x) after → InterpolationAnswers sixteen n k G m out (toldInterpolated y) later
-    → (x ≡ y) × (after ≡ later)
-interpolation-unique n k G m out x y after later p q =
-    told-unique (numbers-unique sixteen sixteen-field n k G m out (toldInterpolated x) (toldInterpolated y) after later p q)
+module _ (C : Code) (F : FieldOf C) where
+  pub interpolation-unique : (n k G : ℕ) (m out : List ℕ) (x y : Declared.Interpolated) (after later : List ℕ)
+      → InterpolationAnswers C n k G m out (toldInterpolated x) after → InterpolationAnswers C n k G m out (toldInterpolated y) later
+      → (x ≡ y) × (after ≡ later)
+  interpolation-unique n k G m out x y after later p q =
+      told-unique (numbers-unique C F n k G m out (toldInterpolated x) (toldInterpolated y) after later p q)
 
-pub held-interpolation-unique : (h : Held) (k G : ℕ) (out : List ℕ) (x y : Declared.Interpolated) (after later : List ℕ)
-    → HeldInterpolationAnswers sixteen h k G out (toldInterpolated x) after → HeldInterpolationAnswers sixteen h k G out (toldInterpolated y) later
-    → (x ≡ y) × (after ≡ later)
-held-interpolation-unique h k G out x y after later p q =
-    told-unique (held-numbers-unique sixteen sixteen-field h k G out (toldInterpolated x) (toldInterpolated y) after later p q)
+  pub held-interpolation-unique : (h : Held) (k G : ℕ) (out : List ℕ) (x y : Declared.Interpolated) (after later : List ℕ)
+      → HeldInterpolationAnswers C h k G out (toldInterpolated x) after → HeldInterpolationAnswers C h k G out (toldInterpolated y) later
+      → (x ≡ y) × (after ≡ later)
+  held-interpolation-unique h k G out x y after later p q =
+      told-unique (held-numbers-unique C F h k G out (toldInterpolated x) (toldInterpolated y) after later p q)
 
 -- ---- all multiplicities zero
 

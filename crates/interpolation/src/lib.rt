@@ -1,4 +1,5 @@
 // Interpolation: the polynomial with the smallest leading monomial.
+ghost use Rattle.alphabet.specs.Codes.{codeOn};
 ghost use Rattle.definitions.specs.Answers.{InterpolationAnswers};
 ghost use Rattle.definitions.specs.Editing.{HeldInterpolationAnswers};
 ghost use Rattle.definitions.specs.Field.{sixteen};
@@ -8,37 +9,46 @@ ghost use Rattle.matrix.specs.Record.{heldBy};
 
 pub mod inside;
 
+use alphabet::Alphabet;
+use alphabet::MOST_PLACES;
 use matrix::Matrix;
 use refusals::Checked;
 use refusals::Refusal;
 use refusals::limits::COEFFICIENT_ROOM;
 use refusals::limits::GREATEST_ENTRY;
 use refusals::limits::GREATEST_LIMIT;
-use refusals::limits::SYMBOLS;
 
 pub enum Interpolated {
     Of { bound: usize, count: usize },
     Refused(Refusal),
 }
 
-pub fn interpolate(n: usize, k: usize, limit: usize, matrix: &[u8], out: &mut [u8]) -> Interpolated
-    ensures { λ r. ⌜ InterpolationAnswers sixteen n k limit (now (matrix .entry)) (now (out .entry)) (toldInterpolated r) (now (out .exit)) ⌝ }
+pub fn interpolate(
+    alphabet: Alphabet,
+    n: usize,
+    k: usize,
+    limit: usize,
+    matrix: &[u8],
+    out: &mut [u8],
+) -> Interpolated
+    ensures { λ r. ⌜ InterpolationAnswers (codeOn alphabet) n k limit (now (matrix .entry)) (now (out .entry)) (toldInterpolated r) (now (out .exit)) ⌝ }
 {
-    let checked = Checked::sizes(n, k)
+    let checked = Checked::sizes(alphabet, n, k)
         .or(GREATEST_LIMIT < limit, Refusal::Setting)
-        .length(matrix.len(), SYMBOLS, n)
+        .entries(alphabet, matrix.len(), n)
         .or(out.len() < COEFFICIENT_ROOM, Refusal::Room)
         .symbols(GREATEST_ENTRY, matrix);
     if let Checked::Refused(r) = checked {
         return Interpolated::Refused(r);
     }
-    let m = matrix::of_bytes(n, matrix);
-    let entries = m.entries;
-    inside::interpolate_priced(&entries, n, m.cost, k, limit, out)
+    let mut entries = [0u8; MOST_PLACES];
+    let cost = edits::turn(alphabet, matrix, &mut entries);
+    inside::interpolate_priced(alphabet, &entries, n, cost, k, limit, out)
 }
 
 // Of a matrix record whose parts are lent.
 pub fn interpolate_parts(
+    alphabet: Alphabet,
     n: usize,
     cost: usize,
     totals: &[u16],
@@ -47,17 +57,20 @@ pub fn interpolate_parts(
     limit: usize,
     out: &mut [u8],
 ) -> Interpolated
-    ensures { λ r. ⌜ HeldInterpolationAnswers sixteen (held n cost (now (totals .entry)) (now (entries .entry))) k limit (now (out .entry)) (toldInterpolated r) (now (out .exit)) ⌝ }
+    ensures { λ r. ⌜ HeldInterpolationAnswers (codeOn alphabet) (held n cost (now (totals .entry)) (now (entries .entry))) k limit (now (out .entry)) (toldInterpolated r) (now (out .exit)) ⌝ }
 {
-    let checked = Checked::sizes(n, k)
+    let checked = Checked::sizes(alphabet, n, k)
         .or(GREATEST_LIMIT < limit, Refusal::Setting)
-        .or(!matrix::rightly(n, cost, totals, entries), Refusal::Length)
+        .or(
+            !matrix::rightly(alphabet, n, cost, totals, entries),
+            Refusal::Length,
+        )
         .or(out.len() < COEFFICIENT_ROOM, Refusal::Room)
         .symbols(GREATEST_ENTRY, entries);
     if let Checked::Refused(r) = checked {
         return Interpolated::Refused(r);
     }
-    inside::interpolate_priced(entries, n, cost, k, limit, out)
+    inside::interpolate_priced(alphabet, entries, n, cost, k, limit, out)
 }
 
 pub fn interpolate_matrix(m: Matrix, k: usize, limit: usize, out: &mut [u8]) -> Interpolated
@@ -65,5 +78,14 @@ pub fn interpolate_matrix(m: Matrix, k: usize, limit: usize, out: &mut [u8]) -> 
 {
     let totals = m.totals;
     let entries = m.entries;
-    interpolate_parts(m.n, m.cost, &totals, &entries, k, limit, out)
+    interpolate_parts(
+        Alphabet::Sixteen,
+        m.n,
+        m.cost,
+        &totals,
+        &entries,
+        k,
+        limit,
+        out,
+    )
 }

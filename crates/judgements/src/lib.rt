@@ -2,13 +2,14 @@
 ghost use mathlib.Core.Bool.{true};
 ghost use mathlib.Core.Path.{_≡_};
 ghost use Prim.Native.Nat.{_<_};
+ghost use Rattle.alphabet.specs.Codes.{codeOn};
 ghost use Rattle.counter.specs.Judging.{judgeAnswer, bothAnswer};
 ghost use Rattle.counter.specs.Verdict.{toldVerdict};
 ghost use Rattle.judgements.specs.Held.{judgementOf, holder, heldAnswer};
 ghost use Rattle.definitions.specs.Answers.{valued};
-ghost use Rattle.definitions.specs.Field.{sixteen};
 ghost use Rattle.opening.specs.Handing.{isOpen};
 ghost use Rattle.refusals.specs.Refusal.{toldRefusal};
+use alphabet::Alphabet;
 use counter::Settings;
 use counter::Verdict;
 use refusals::Refusal;
@@ -84,13 +85,18 @@ fn holder(scores: &[u16]) -> u16
     1
 }
 
-pub fn opened(k: usize, rows: &[u8], scores: &[u16], lead: usize) -> Judgement
-    ensures { λ r. ⌜ judgementOf r ≡ heldAnswer (judgeAnswer sixteen k (now (rows .entry)) (now (scores .entry)) lead) 1 k ⌝ }
+pub fn opened(alphabet: Alphabet, k: usize, rows: &[u8], scores: &[u16], lead: usize) -> Judgement
+    ensures { λ r. ⌜ judgementOf r ≡ heldAnswer (judgeAnswer (codeOn alphabet) k (now (rows .entry)) (now (scores .entry)) lead) 1 k ⌝ }
 {
-    held(judged(counter::judge(k, rows, scores, lead)), 1, k)
+    held(
+        judged(counter::judge(alphabet, k, rows, scores, lead)),
+        1,
+        k,
+    )
 }
 
 pub fn opened_both(
+    alphabet: Alphabet,
     first: Settings,
     rows: &[u8],
     scores: &[u16],
@@ -99,10 +105,11 @@ pub fn opened_both(
     other_scores: &[u16],
     lead: usize,
 ) -> Judgement
-    ensures { λ r. ⌜ judgementOf r ≡ heldAnswer (bothAnswer sixteen first (now (rows .entry)) (now (scores .entry)) second (now (others .entry)) (now («other_scores» .entry)) lead) (holder (now (scores .entry))) (first .k) ⌝ }
+    ensures { λ r. ⌜ judgementOf r ≡ heldAnswer (bothAnswer (codeOn alphabet) first (now (rows .entry)) (now (scores .entry)) second (now (others .entry)) (now («other_scores» .entry)) lead) (holder (now (scores .entry))) (first .k) ⌝ }
 {
     let k = first.k;
     let verdict = judged(counter::judge_both(
+        alphabet,
         first,
         rows,
         scores,

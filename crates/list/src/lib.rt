@@ -1,6 +1,7 @@
 // The list: every message whose codeword's score is above the bound, and no other.
 ghost use mathlib.Core.Path.{_≡_};
 ghost use Prim.Native.Nat.{_≤_};
+ghost use Rattle.alphabet.specs.Codes.{codeOn};
 ghost use Rattle.refusals.specs.Counted.{toldCounted};
 ghost use Rattle.definitions.specs.Answers.{listAnswer, listRows, listScores, readAnswer, readRows, readScores};
 ghost use Rattle.definitions.specs.Editing.{heldListAnswer, heldListRows, heldListScores};
@@ -8,6 +9,8 @@ ghost use Rattle.definitions.specs.Field.{sixteen};
 ghost use Rattle.definitions.specs.Held.{held};
 ghost use Rattle.definitions.specs.Limits.{greatestRows};
 ghost use Rattle.matrix.specs.Record.{heldBy};
+use alphabet::Alphabet;
+use alphabet::MOST_PLACES;
 use matrix::Matrix;
 use refusals::Checked;
 use refusals::Counted;
@@ -15,9 +18,9 @@ use refusals::Refusal;
 use refusals::limits::GREATEST_ENTRY;
 use refusals::limits::GREATEST_LIMIT;
 use refusals::limits::GREATEST_ROWS;
-use refusals::limits::SYMBOLS;
 
 pub fn list_of_multiplicities(
+    alphabet: Alphabet,
     n: usize,
     k: usize,
     limit: usize,
@@ -25,26 +28,27 @@ pub fn list_of_multiplicities(
     rows: &mut [u8],
     scores: &mut [u16],
 ) -> Counted
-    ensures answer { λ r. ⌜ toldCounted r ≡ listAnswer sixteen n k limit (now (matrix .entry)) (now (rows .entry)) (now (scores .entry)) ⌝ }
-    ensures row_memory { λ _. ⌜ now (rows .exit) ≡ listRows sixteen n k limit (now (matrix .entry)) (now (rows .entry)) (now (scores .entry)) ⌝ }
-    ensures score_memory { λ _. ⌜ now (scores .exit) ≡ listScores sixteen n k limit (now (matrix .entry)) (now (rows .entry)) (now (scores .entry)) ⌝ }
+    ensures answer { λ r. ⌜ toldCounted r ≡ listAnswer (codeOn alphabet) n k limit (now (matrix .entry)) (now (rows .entry)) (now (scores .entry)) ⌝ }
+    ensures row_memory { λ _. ⌜ now (rows .exit) ≡ listRows (codeOn alphabet) n k limit (now (matrix .entry)) (now (rows .entry)) (now (scores .entry)) ⌝ }
+    ensures score_memory { λ _. ⌜ now (scores .exit) ≡ listScores (codeOn alphabet) n k limit (now (matrix .entry)) (now (rows .entry)) (now (scores .entry)) ⌝ }
     ensures few { λ r. ⌜ toldCounted r .count ≤ greatestRows ⌝ }
 {
-    let checked = Checked::sizes(n, k)
+    let checked = Checked::sizes(alphabet, n, k)
         .or(GREATEST_LIMIT < limit, Refusal::Setting)
-        .length(matrix.len(), SYMBOLS, n)
+        .entries(alphabet, matrix.len(), n)
         .room(rows.len(), GREATEST_ROWS, k)
         .or(scores.len() < GREATEST_ROWS, Refusal::Room)
         .symbols(GREATEST_ENTRY, matrix);
     if let Checked::Refused(r) = checked {
         return Counted::Refused(r);
     }
-    let m = matrix::of_bytes(n, matrix);
-    let entries = m.entries;
-    listing::list_priced(&entries, n, m.cost, k, limit, rows, scores)
+    let mut entries = [0u8; MOST_PLACES];
+    let cost = edits::turn(alphabet, matrix, &mut entries);
+    listing::list_priced(alphabet, &entries, n, cost, k, limit, rows, scores)
 }
 
 pub fn list_of_reliabilities(
+    alphabet: Alphabet,
     n: usize,
     k: usize,
     level: usize,
@@ -53,28 +57,29 @@ pub fn list_of_reliabilities(
     rows: &mut [u8],
     scores: &mut [u16],
 ) -> Counted
-    ensures answer { λ r. ⌜ toldCounted r ≡ readAnswer sixteen n k level limit (now (reliabilities .entry)) (now (rows .entry)) (now (scores .entry)) ⌝ }
-    ensures row_memory { λ _. ⌜ now (rows .exit) ≡ readRows sixteen n k level limit (now (reliabilities .entry)) (now (rows .entry)) (now (scores .entry)) ⌝ }
-    ensures score_memory { λ _. ⌜ now (scores .exit) ≡ readScores sixteen n k level limit (now (reliabilities .entry)) (now (rows .entry)) (now (scores .entry)) ⌝ }
+    ensures answer { λ r. ⌜ toldCounted r ≡ readAnswer (codeOn alphabet) n k level limit (now (reliabilities .entry)) (now (rows .entry)) (now (scores .entry)) ⌝ }
+    ensures row_memory { λ _. ⌜ now (rows .exit) ≡ readRows (codeOn alphabet) n k level limit (now (reliabilities .entry)) (now (rows .entry)) (now (scores .entry)) ⌝ }
+    ensures score_memory { λ _. ⌜ now (scores .exit) ≡ readScores (codeOn alphabet) n k level limit (now (reliabilities .entry)) (now (rows .entry)) (now (scores .entry)) ⌝ }
     ensures few { λ r. ⌜ toldCounted r .count ≤ greatestRows ⌝ }
 {
-    let settled = Checked::sizes(n, k)
+    let settled = Checked::sizes(alphabet, n, k)
         .level(level)
         .or(GREATEST_LIMIT < limit, Refusal::Setting)
-        .length(reliabilities.len(), SYMBOLS, n)
+        .entries(alphabet, reliabilities.len(), n)
         .room(rows.len(), GREATEST_ROWS, k)
         .or(scores.len() < GREATEST_ROWS, Refusal::Room);
-    let checked = columns::columns_checked(settled, reliabilities, n);
+    let checked = columns::columns_checked(alphabet, settled, reliabilities, n);
     if let Checked::Refused(r) = checked {
         return Counted::Refused(r);
     }
-    let m = weights::inside::weighed(level, reliabilities, n);
-    let entries = m.entries;
-    listing::list_priced(&entries, n, m.cost, k, limit, rows, scores)
+    let mut entries = [0u8; MOST_PLACES];
+    let cost = weights::inside::weigh(alphabet, level, reliabilities, &mut entries);
+    listing::list_priced(alphabet, &entries, n, cost, k, limit, rows, scores)
 }
 
 // Of a matrix record whose parts are lent.
 pub fn list_of_parts(
+    alphabet: Alphabet,
     n: usize,
     cost: usize,
     totals: &[u16],
@@ -84,21 +89,24 @@ pub fn list_of_parts(
     rows: &mut [u8],
     scores: &mut [u16],
 ) -> Counted
-    ensures answer { λ r. ⌜ toldCounted r ≡ heldListAnswer sixteen (held n cost (now (totals .entry)) (now (entries .entry))) k limit (now (rows .entry)) (now (scores .entry)) ⌝ }
-    ensures row_memory { λ _. ⌜ now (rows .exit) ≡ heldListRows sixteen (held n cost (now (totals .entry)) (now (entries .entry))) k limit (now (rows .entry)) (now (scores .entry)) ⌝ }
-    ensures score_memory { λ _. ⌜ now (scores .exit) ≡ heldListScores sixteen (held n cost (now (totals .entry)) (now (entries .entry))) k limit (now (rows .entry)) (now (scores .entry)) ⌝ }
+    ensures answer { λ r. ⌜ toldCounted r ≡ heldListAnswer (codeOn alphabet) (held n cost (now (totals .entry)) (now (entries .entry))) k limit (now (rows .entry)) (now (scores .entry)) ⌝ }
+    ensures row_memory { λ _. ⌜ now (rows .exit) ≡ heldListRows (codeOn alphabet) (held n cost (now (totals .entry)) (now (entries .entry))) k limit (now (rows .entry)) (now (scores .entry)) ⌝ }
+    ensures score_memory { λ _. ⌜ now (scores .exit) ≡ heldListScores (codeOn alphabet) (held n cost (now (totals .entry)) (now (entries .entry))) k limit (now (rows .entry)) (now (scores .entry)) ⌝ }
     ensures few { λ r. ⌜ toldCounted r .count ≤ greatestRows ⌝ }
 {
-    let checked = Checked::sizes(n, k)
+    let checked = Checked::sizes(alphabet, n, k)
         .or(GREATEST_LIMIT < limit, Refusal::Setting)
-        .or(!matrix::rightly(n, cost, totals, entries), Refusal::Length)
+        .or(
+            !matrix::rightly(alphabet, n, cost, totals, entries),
+            Refusal::Length,
+        )
         .room(rows.len(), GREATEST_ROWS, k)
         .or(scores.len() < GREATEST_ROWS, Refusal::Room)
         .symbols(GREATEST_ENTRY, entries);
     if let Checked::Refused(r) = checked {
         return Counted::Refused(r);
     }
-    listing::list_priced(entries, n, cost, k, limit, rows, scores)
+    listing::list_priced(alphabet, entries, n, cost, k, limit, rows, scores)
 }
 
 pub fn list_of_matrix(
@@ -115,5 +123,15 @@ pub fn list_of_matrix(
 {
     let totals = m.totals;
     let entries = m.entries;
-    list_of_parts(m.n, m.cost, &totals, &entries, k, limit, rows, scores)
+    list_of_parts(
+        Alphabet::Sixteen,
+        m.n,
+        m.cost,
+        &totals,
+        &entries,
+        k,
+        limit,
+        rows,
+        scores,
+    )
 }

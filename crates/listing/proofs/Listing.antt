@@ -2,7 +2,7 @@
 -- Assumes nothing.
 use mathlib.Core.List.{List, [], _++_, map, flatten, List·Memᴰ}
 use mathlib.Core.Path.{_≡_, refl, sym, _∙_, ap, subst}
-use Prim.Native.Nat.{ℕ, _+_, _*_, _-_, _/_, _≤_}
+use Prim.Native.Nat.{ℕ, _+_, _*_, _-_, _≤_}
 use native.Mathlib.Nat.{mul-le-mul}
 use native.Mathlib.Omega.{arith}
 use lib.Dec.{ltb}
@@ -57,13 +57,12 @@ module _ (C : Code) (F : FieldOf C) where
 
   -- of any polynomial of few powers of y: its roots, ranked
   module _ (n k D t : ℕ) (q : List ℕ) (r : Rooted C n k D t q) where
-    -- at most as many as a list has rows, and room for them
-    pub few-roots : (length (rootsOf C D k q) ≤ greatestRows) × (k * (D / (k - 1)) ≤ C .positions * greatestRows)
+    -- at most as many as a list has rows
+    pub few-roots : length (rootsOf C D k q) ≤ greatestRows
     few-roots =
         let most = roots-at-most C F k D (r .sized .0) q (r .symbols) (let e = r .full in omega arith) (r .nonzero) in
         let low = r .low in
-        let s = r .sized in
-        (omega arith, mul-le-mul {n₁ = k} {m₁ = D / (k - 1)} {n₂ = C .positions} {m₂ = greatestRows} (omega arith) (r .low))
+        omega arith
 
     module _ (m : List ℕ) (size : length m ≡ C .symbols * n) where
       -- "There are at most 16 rows"
@@ -72,7 +71,7 @@ module _ (C : Code) (F : FieldOf C) where
           let high = select (λ (f : List ℕ). ltb t (score C n m f)) (rootsOf C D k q) in
           let kept = falling-in-order (score C n m) high .size in
           let fewer = length-select (λ (f : List ℕ). ltb t (score C n m f)) (rootsOf C D k q) in
-          let few = few-roots .0 in
+          let few = few-roots in
           omega arith
 
       agree : All (λ f. matrixScore C (matrixOf C m n) n f ≡ score C n m f) (rootsOf C D k q)

@@ -1,21 +1,25 @@
--- A multiplicity matrix held by value: "fifteen columns of sixteen small numbers", of the bytes that it is lent as.
+-- A multiplicity matrix held by value, a column for each position with room for the symbols of either alphabet, of the bytes that it is lent as.
 -- Assumes nothing.
 use mathlib.Core.List.{List, [], _++_, map}
 use mathlib.Core.Path.{_≡_}
 use Prim.Native.Nat.{ℕ, _*_, _≤_}
 use lib.ListN.{length, take, drop, getD, replicate}
+use Rattle.alphabet.specs.Codes.{mostSymbols, mostPositions}
 use Rattle.definitions.specs.Field.{Code}
 use Rattle.definitions.specs.Tools.{below, sum}
-use Rattle.definitions.specs.Weights.{entryCost, cost}
+use Rattle.definitions.specs.Weights.{entry, entryCost, cost}
+
+-- "unused columns are zero", and so is what a column has behind its symbols
+abbrev pub zeroColumn : List ℕ
+zeroColumn = replicate mostSymbols 0
+
+abbrev pub zeroColumns : List (List ℕ)
+zeroColumns = replicate mostPositions zeroColumn
 
 module _ (C : Code) where
   -- the numbers of position i, one a symbol
   abbrev pub columnOf : List ℕ → ℕ → List ℕ
-  columnOf m i = take (C .symbols) (drop (C .symbols * i) m)
-
-  -- "unused columns are zero"
-  abbrev pub zeroColumns : List (List ℕ)
-  zeroColumns = replicate (C .positions) (replicate (C .symbols) 0)
+  columnOf m i = map (entry C m i) (below (C .symbols)) ++ drop (C .symbols) zeroColumn
 
   -- the columns of n positions, and unused ones
   abbrev pub matrixOf : List ℕ → ℕ → List (List ℕ)

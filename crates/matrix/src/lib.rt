@@ -2,21 +2,25 @@
 ghost use mathlib.Core.Path.{_≡_};
 ghost use Prim.Native.Nat.{_+_, _*_, _≤_, _<_};
 ghost use lib.ListN.{length, drop};
-ghost use Rattle.definitions.specs.Field.{sixteen};
-ghost use Rattle.definitions.specs.Held.{held, places, totalsOf, heldOf, filled, totalsRight, rightly};
+ghost use Rattle.alphabet.specs.Codes.{codeOn, mostPlaces};
+ghost use Rattle.definitions.specs.Held.{held, places, totalsOf, totalsRight, rightly};
 ghost use Rattle.definitions.specs.Polynomial.{isZero};
 ghost use Rattle.definitions.specs.Weights.{sumOfColumn, entryCost};
-ghost use Rattle.matrix.specs.Columns.{columnOf, matrixOf};
-ghost use Rattle.matrix.specs.Record.{heldBy};
-use refusals::limits::ENTRIES;
-use refusals::limits::POSITIONS;
-use refusals::limits::SYMBOLS;
+ghost use Rattle.matrix.specs.Columns.{zeroColumn, zeroColumns, columnOf, matrixOf};
+use alphabet::Alphabet;
+use alphabet::MOST_POSITIONS;
+use alphabet::MOST_SYMBOLS;
+
+// The room of a record by value, which is one of sixteen symbols.
+pub const POSITIONS: usize = 15;
+
+pub const PLACES: usize = 16 * POSITIONS;
 
 pub struct Matrix {
     pub n: usize,
     pub cost: usize,
     pub totals: [u16; POSITIONS],
-    pub entries: [u8; ENTRIES],
+    pub entries: [u8; PLACES],
 }
 
 pub fn short(x: u8) -> u16
@@ -33,7 +37,7 @@ pub fn entry_cost(x: u8) -> usize
 }
 
 pub fn cost(entries: &[u8]) -> usize
-    requires { ⌜ length (now entries) ≤ places sixteen ⌝ }
+    requires { ⌜ length (now entries) ≤ mostPlaces ⌝ }
     ensures { λ r. ⌜ r ≡ Rattle.definitions.specs.Weights.cost (now (entries .entry)) ⌝ }
 {
     let mut total = 0;
@@ -45,26 +49,29 @@ pub fn cost(entries: &[u8]) -> usize
     total
 }
 
-pub fn column_total(entries: &[u8], i: usize) -> u16
-    requires { ⌜ (i < sixteen .positions) × (sixteen .symbols * i + sixteen .symbols ≤ length (now entries)) ⌝ }
-    ensures { λ r. ⌜ r ≡ sumOfColumn sixteen (now (entries .entry)) i ⌝ }
+pub fn column_total(alphabet: Alphabet, entries: &[u8], i: usize) -> u16
+    requires { ⌜ (i < codeOn alphabet .positions) × (codeOn alphabet .symbols * i + codeOn alphabet .symbols ≤ length (now entries)) ⌝ }
+    ensures { λ r. ⌜ r ≡ sumOfColumn (codeOn alphabet) (now (entries .entry)) i ⌝ }
 {
+    let symbols = alphabet.symbols();
+    let first = symbols * i;
     let mut total = 0u16;
     let mut b = 0;
-    while b < SYMBOLS {
-        total += short(entries[SYMBOLS * i + b]);
+    while b < symbols {
+        total += short(entries[first + b]);
         b += 1;
     }
     total
 }
 
-fn totals_right(totals: &[u16], entries: &[u8]) -> bool
-    requires { ⌜ (length (now totals) ≡ sixteen .positions) × (length (now entries) ≡ places sixteen) ⌝ }
-    ensures { λ r. ⌜ r ≡ totalsRight sixteen (now (totals .entry)) (now (entries .entry)) ⌝ }
+fn totals_right(alphabet: Alphabet, totals: &[u16], entries: &[u8]) -> bool
+    requires { ⌜ (length (now totals) ≡ codeOn alphabet .positions) × (length (now entries) ≡ places (codeOn alphabet)) ⌝ }
+    ensures { λ r. ⌜ r ≡ totalsRight (codeOn alphabet) (now (totals .entry)) (now (entries .entry)) ⌝ }
 {
+    let positions = alphabet.positions();
     let mut i = 0;
-    while i < POSITIONS {
-        if totals[i] != column_total(entries, i) {
+    while i < positions {
+        if totals[i] != column_total(alphabet, entries, i) {
             return false;
         }
         i += 1;
@@ -73,96 +80,93 @@ fn totals_right(totals: &[u16], entries: &[u8]) -> bool
 }
 
 // No entry lies in a column that n positions do not use.
-fn unused_zero(n: usize, entries: &[u8]) -> bool
-    requires { ⌜ length (now entries) ≡ places sixteen ⌝ }
-    ensures { λ r. ⌜ r ≡ isZero (drop (sixteen .symbols * n) (now (entries .entry))) ⌝ }
+fn unused_zero(alphabet: Alphabet, n: usize, entries: &[u8]) -> bool
+    requires { ⌜ length (now entries) ≡ places (codeOn alphabet) ⌝ }
+    ensures { λ r. ⌜ r ≡ isZero (drop (codeOn alphabet .symbols * n) (now (entries .entry))) ⌝ }
 {
-    if POSITIONS <= n {
+    if alphabet.positions() <= n {
         return true;
     }
-    let used = SYMBOLS * n;
+    let used = alphabet.symbols() * n;
     memory::all_zero(&entries[used..])
 }
 
-pub fn rightly(n: usize, cost: usize, totals: &[u16], entries: &[u8]) -> bool
-    ensures { λ r. ⌜ r ≡ rightly sixteen (held n cost (now (totals .entry)) (now (entries .entry))) ⌝ }
+pub fn rightly(alphabet: Alphabet, n: usize, cost: usize, totals: &[u16], entries: &[u8]) -> bool
+    ensures { λ r. ⌜ r ≡ rightly (codeOn alphabet) (held n cost (now (totals .entry)) (now (entries .entry))) ⌝ }
 {
-    if totals.len() != POSITIONS {
+    let positions = alphabet.positions();
+    if totals.len() != positions {
         return false;
     }
-    if entries.len() != ENTRIES {
+    let places = alphabet.places();
+    if entries.len() != places {
         return false;
     }
-    if !totals_right(totals, entries) {
+    if !totals_right(alphabet, totals, entries) {
         return false;
     }
     if cost != crate::cost(entries) {
         return false;
     }
-    unused_zero(n, entries)
+    unused_zero(alphabet, n, entries)
 }
 
 // The total of each column, counted from nothing.
-pub fn lay_totals(entries: &[u8], totals: &mut [u16])
-    requires { ⌜ (length (now totals) ≡ sixteen .positions) × (length (now entries) ≡ places sixteen) ⌝ }
-    ensures { λ _. ⌜ now (totals .exit) ≡ totalsOf sixteen (now (entries .entry)) ⌝ }
+pub fn lay_totals(alphabet: Alphabet, entries: &[u8], totals: &mut [u16])
+    requires { ⌜ (length (now totals) ≡ codeOn alphabet .positions) × (length (now entries) ≡ places (codeOn alphabet)) ⌝ }
+    ensures { λ _. ⌜ now (totals .exit) ≡ totalsOf (codeOn alphabet) (now (entries .entry)) ⌝ }
 {
+    let positions = alphabet.positions();
     let mut i = 0;
-    while i < POSITIONS {
-        totals[i] = column_total(entries, i);
+    while i < positions {
+        totals[i] = column_total(alphabet, entries, i);
         i += 1;
     }
 }
 
-// The record of these entries.
-pub fn counted(n: usize, entries: [u8; ENTRIES]) -> Matrix
-    ensures { λ r. ⌜ heldBy r ≡ heldOf sixteen n entries ⌝ }
+// The column of position i, to a column of zeros.
+fn lay_column(alphabet: Alphabet, entries: &[u8], i: usize, col: &mut [u8; MOST_SYMBOLS])
+    requires { ⌜ (i < codeOn alphabet .positions) × (codeOn alphabet .symbols * i + codeOn alphabet .symbols ≤ length (now entries)) ⌝ }
+    requires { ⌜ now col ≡ zeroColumn ⌝ }
+    ensures { λ _. ⌜ now (col .exit) ≡ columnOf (codeOn alphabet) (now (entries .entry)) i ⌝ }
 {
-    let mut totals = [0u16; POSITIONS];
-    lay_totals(&entries, &mut totals);
-    let cost = cost(&entries);
-    Matrix {
-        n,
-        cost,
-        totals,
-        entries,
-    }
-}
-
-// The record of a matrix that is lent as bytes.
-pub fn of_bytes(n: usize, bytes: &[u8]) -> Matrix
-    requires { ⌜ length (now bytes) ≤ places sixteen ⌝ }
-    ensures { λ r. ⌜ heldBy r ≡ heldOf sixteen n (filled sixteen (now (bytes .entry))) ⌝ }
-{
-    let mut entries = [0u8; ENTRIES];
-    memory::put(&mut entries, 0, bytes);
-    counted(n, entries)
-}
-
-fn column(entries: &[u8], i: usize) -> [u8; SYMBOLS]
-    requires { ⌜ (i < sixteen .positions) × (sixteen .symbols * i + sixteen .symbols ≤ length (now entries)) ⌝ }
-    ensures { λ r. ⌜ r ≡ columnOf sixteen (now (entries .entry)) i ⌝ }
-{
-    let mut col = [0u8; SYMBOLS];
+    let symbols = alphabet.symbols();
+    let first = symbols * i;
     let mut b = 0;
-    while b < SYMBOLS {
-        col[b] = entries[SYMBOLS * i + b];
+    while b < symbols {
+        col[b] = entries[first + b];
         b += 1;
     }
-    col
 }
 
-// The columns of n positions, by value.
-pub fn opened(entries: &[u8], n: usize) -> [[u8; SYMBOLS]; POSITIONS]
-    requires { ⌜ (n ≤ sixteen .positions) × (sixteen .symbols * n ≤ length (now entries)) ⌝ }
-    ensures { λ r. ⌜ r ≡ matrixOf sixteen (now (entries .entry)) n ⌝ }
+// The columns of n positions, to columns of zeros.
+fn lay_columns(
+    alphabet: Alphabet,
+    entries: &[u8],
+    n: usize,
+    columns: &mut [[u8; MOST_SYMBOLS]; MOST_POSITIONS],
+)
+    requires { ⌜ (n ≤ codeOn alphabet .positions) × (codeOn alphabet .symbols * n ≤ length (now entries)) ⌝ }
+    requires { ⌜ now columns ≡ zeroColumns ⌝ }
+    ensures { λ _. ⌜ now (columns .exit) ≡ matrixOf (codeOn alphabet) (now (entries .entry)) n ⌝ }
 {
-    let mut columns = [[0u8; SYMBOLS]; POSITIONS];
     let mut i = 0;
     while i < n {
-        let col = column(entries, i);
-        columns[i] = col;
+        lay_column(alphabet, entries, i, &mut columns[i]);
         i += 1;
+    }
+}
+
+// The columns of n positions, by value. Each alphabet passes its own constant on.
+pub fn opened(alphabet: Alphabet, entries: &[u8], n: usize) -> [[u8; MOST_SYMBOLS]; MOST_POSITIONS]
+    requires { ⌜ (n ≤ codeOn alphabet .positions) × (codeOn alphabet .symbols * n ≤ length (now entries)) ⌝ }
+    ensures { λ r. ⌜ r ≡ matrixOf (codeOn alphabet) (now (entries .entry)) n ⌝ }
+{
+    let mut columns = [[0u8; MOST_SYMBOLS]; MOST_POSITIONS];
+    if let Alphabet::ThirtyTwo = alphabet {
+        lay_columns(Alphabet::ThirtyTwo, entries, n, &mut columns);
+    } else {
+        lay_columns(Alphabet::Sixteen, entries, n, &mut columns);
     }
     columns
 }

@@ -6,7 +6,7 @@ use Prim.Native.Nat.{ℕ, _+_, _≤_, _<_}
 use native.Mathlib.Nat.{add-zero}
 use native.Mathlib.Numerals.{add-one}
 use native.Mathlib.Omega.{arith}
-use lib.ListN.{length, take, drop, getD, set, length-append, length-drop, take-append-drop}
+use lib.ListN.{length, take, drop, getD, set, replicate, length-append, length-drop, length-replicate, replicate-append-replicate, take-append-drop}
 use lib.Seq.{length-take-le, take-at, take-suc, drop-append-add, drop-drop}
 use Rattle.definitions.proofs.Loops.{put-more}
 use Rattle.memory.specs.Laid.{laid}
@@ -54,6 +54,14 @@ laid-turned out part now at j x h l e ex =
     let size : length (take j part) ≡ j = length-take-le j part (omega arith) in
     rw (e, ex, add-one, take-suc part j 0 l)
     (ap (λ (n : ℕ). set (laid out at (take j part)) (at + n) (getD part j 0)) (sym size) ∙ laid-more out at (take j part) (getD part j 0) (omega arith))
+
+-- a turn of a loop that lays one zero after the other
+pub zero-laid : (out now : List ℕ) (at j : ℕ) → at + j < length out → now ≡ laid out at (replicate j 0) → set now (at + j) 0 ≡ laid out at (replicate (j + 1) 0)
+zero-laid out now at j h e =
+    let size : length (replicate {A = ℕ} j 0) ≡ j = length-replicate j 0 in
+    rw e
+    (ap (λ (n : ℕ). set (laid out at (replicate j 0)) (at + n) 0) (sym size) ∙ laid-more out at (replicate j 0) 0 (omega arith)
+    ∙ ap (laid out at) (replicate-append-replicate j 1 0))
 
 -- one part behind another
 laid-laid : (out : List ℕ) (at : ℕ) (u w : List ℕ) → at ≤ length out → laid (laid out at u) (at + length u) w ≡ laid out at (u ++ w)

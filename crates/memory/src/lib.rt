@@ -1,7 +1,7 @@
-// Lists of bytes: copied into lent memory, tested for zeros, and compared.
+// Lists of bytes: copied into lent memory, cleared, tested for zeros, and compared.
 ghost use mathlib.Core.Path.{_≡_};
 ghost use Prim.Native.Nat.{_+_, _≤_};
-ghost use lib.ListN.{length};
+ghost use lib.ListN.{length, replicate};
 ghost use Rattle.definitions.specs.Polynomial.{isZero};
 ghost use Rattle.memory.specs.Laid.{laid};
 ghost use Rattle.memory.specs.Same.{sameUpTo};
@@ -14,6 +14,18 @@ pub fn put(out: &mut [u8], at: usize, part: &[u8])
     let mut j = 0;
     while j < part.len() {
         out[at + j] = part[j];
+        j += 1;
+    }
+}
+
+// Zeros, so many in place of what lies from a place on.
+pub fn clear(out: &mut [u8], at: usize, many: usize)
+    requires { ⌜ at + many ≤ length (now out) ⌝ }
+    ensures { λ _. ⌜ now (out .exit) ≡ laid (now (out .entry)) at (replicate many 0) ⌝ }
+{
+    let mut j = 0;
+    while j < many {
+        out[at + j] = 0;
         j += 1;
     }
 }

@@ -1,6 +1,6 @@
 -- The program gives document 01's output for its input.
 -- Assumes nothing.
-use mathlib.Core.List.{List, [], _∷_, _++_, map, flatten}
+use mathlib.Core.List.{List, [], _∷_, _++_, map, flatten, flatMap}
 use mathlib.Core.Path.{_≡_, refl, sym, _∙_, ap, subst}
 use Prim.Native.Nat.{ℕ}
 use native.Mathlib.Omega.{arith}
@@ -30,23 +30,23 @@ unfolding single below
 numbers-are = refl
 
 -- they are accepted
-listed : answerTo 3 2 1 150 (single sixteen greatestSum word) ≡ listText 3 2 (matrix 1 (single sixteen greatestSum word))
+listed : answerTo sixteen 3 2 1 150 (single sixteen greatestSum word) ≡ listText sixteen 3 2 (matrix 1 (single sixteen greatestSum word))
 listed =
-    sym (accepts refusedLine (listText 3 2 (matrix 1 (single sixteen greatestSum word)))
-    (read-accepts word (within .0) 150 symbolsOfRows greatestRows (omega arith) (omega arith) (omega arith) (omega arith)))
+    sym (accepts refusedLine (listText sixteen 3 2 (matrix 1 (single sixteen greatestSum word)))
+    (read-accepts word (within .0) 150 (symbolsOfRows sixteen) greatestRows (omega arith) (omega arith) (omega arith) (omega arith)))
 
 -- the text of rows, and of the row of that list
 abbrev rowsText : List (List ℕ) → List ℕ
-rowsText l = listedLine (length l) ++ flatten (map (λ (f : List ℕ). rowLine (score sixteen 3 (hardWord word) f) f) l)
+rowsText l = listedLine (length l) ++ flatten (map (λ (f : List ℕ). rowLine sixteen (score sixteen 3 (hardWord word) f) f) l)
 
 row-text : rowsText ((1 ∷ 0 ∷ []) ∷ []) ≡ firstLine ++ secondLine
-unfolding flatten decimalWithin single below sum power value sumOf double shifted
+unfolding flatten flatMap decimalWithin single below sum power value sumOf double shifted
 row-text = refl
 
-gives : output input ≡ firstLine ++ secondLine
+gives : output sixteen input ≡ firstLine ++ secondLine
 gives =
-    sym (header input (single sixteen greatestSum word) 3 2 1 150 (omega arith) refl refl refl refl numbers-are)
-    ∙ listed ∙ ap (listText 3 2) (single-matrix sixteen 1 word) ∙ ap rowsText (lists-differ .0) ∙ row-text
+    sym (header sixteen input (single sixteen greatestSum word) 3 2 1 150 (omega arith) refl refl refl refl numbers-are)
+    ∙ listed ∙ ap (listText sixteen 3 2) (single-matrix sixteen 1 word) ∙ ap rowsText (lists-differ .0) ∙ row-text
 
 pub documented : Documented
 documented = record {

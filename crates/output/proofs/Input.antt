@@ -4,6 +4,7 @@ use mathlib.Core.Bool.{Bool, true, cond, not}
 use mathlib.Core.List.{List, [], _∷_, _++_}
 use mathlib.Core.Path.{_≡_, refl, sym, _∙_, ap}
 use Prim.Native.Nat.{ℕ, _+_, _*_, _-_, _/_, _%_, _≤_, _<_}
+use native.Mathlib.Nat.{mul-le-mul-left}
 use native.Mathlib.Omega.{arith}
 use borrow.Author.Tests.{ne-eqb, lt-ltb, le-ltb}
 use lib.Dec.{eqb}
@@ -11,26 +12,27 @@ use lib.ListN.{length, take, drop, getD, length-append, length-drop, length-map}
 use lib.Seq.{getD-take, length-take-le, take-all, take-at}
 use Rattle.definitions.proofs.Table.{sizes-mean}
 use Rattle.definitions.proofs.Tools.{split, length-below}
-use Rattle.definitions.specs.Field.{sixteen}
+use Rattle.definitions.specs.Field.{Code}
+use Rattle.definitions.specs.Held.{places}
 use Rattle.definitions.specs.Limits.{greatestRows}
 use Rattle.definitions.specs.Refusals.{Line, tried, line, sizesFit, sizes, level, limit, entries, room, columns, costWithin}
 use Rattle.definitions.specs.Tools.{below}
 use Rattle.definitions.specs.Weights.{matrix}
 use Rattle.output.specs.Program.{listText, symbolsOfRows, answerTo, headerBytes, output}
-use Rattle.output.specs.Rooms.{greatestNumbers, longest}
+use Rattle.output.specs.Rooms.{longestOf}
 use Rattle.numbers.specs.Numbers.{numberAt, numbersOf}
 use Rattle.text.specs.Text.{refusedLine}
 
 -- fewer bytes than the header has, and others
-pub no-header : (input : List ℕ) → length input < headerBytes → refusedLine 3 0 ≡ output input
-no-header input h =
-    sym (ap (λ (b : Bool). cond b (refusedLine 3 0) (answerTo (getD input 0 0) (getD input 1 0) (getD input 2 0) (getD input 3 0) (numbersOf (drop headerBytes input)))) (lt-ltb (length input) headerBytes h))
+pub no-header : (C : Code) (input : List ℕ) → length input < headerBytes → refusedLine 3 0 ≡ output C input
+no-header C input h =
+    sym (ap (λ (b : Bool). cond b (refusedLine 3 0) (answerTo C (getD input 0 0) (getD input 1 0) (getD input 2 0) (getD input 3 0) (numbersOf (drop headerBytes input)))) (lt-ltb (length input) headerBytes h))
 
-pub header : (input r : List ℕ) (n k L G : ℕ) → headerBytes ≤ length input → n ≡ getD input 0 0 → k ≡ getD input 1 0 → L ≡ getD input 2 0 → G ≡ getD input 3 0
-    → r ≡ numbersOf (drop headerBytes input) → answerTo n k L G r ≡ output input
-header input r n k L G h en ek eL eG er =
+pub header : (C : Code) (input r : List ℕ) (n k L G : ℕ) → headerBytes ≤ length input → n ≡ getD input 0 0 → k ≡ getD input 1 0 → L ≡ getD input 2 0 → G ≡ getD input 3 0
+    → r ≡ numbersOf (drop headerBytes input) → answerTo C n k L G r ≡ output C input
+header C input r n k L G h en ek eL eG er =
     rw (en, ek, eL, eG, er)
-    (sym (ap (λ (b : Bool). cond b (refusedLine 3 0) (answerTo (getD input 0 0) (getD input 1 0) (getD input 2 0) (getD input 3 0) (numbersOf (drop headerBytes input)))) (le-ltb (length input) headerBytes h)))
+    (sym (ap (λ (b : Bool). cond b (refusedLine 3 0) (answerTo C (getD input 0 0) (getD input 1 0) (getD input 2 0) (getD input 3 0) (numbersOf (drop headerBytes input)))) (le-ltb (length input) headerBytes h)))
 
 -- the numbers in front of a memory
 pub in-front : (words rest now : List ℕ) (count : ℕ) → count ≡ length words → now ≡ words ++ rest → take count now ≡ words
@@ -53,20 +55,23 @@ sizes-refuse : (g : Bool) (s t : List Line) (f : ℕ → ℕ → List ℕ) (x y 
 sizes-refuse g s t f x y eg = rw eg refl
 
 -- two inputs of a wrong length
-wrong-lengths : (n k L G : ℕ) (r q : List ℕ) → ((n : ℕ) → 2 ≤ n → n ≤ sixteen .positions → length r ≡ sixteen .symbols * n → ⊥) → ((n : ℕ) → 2 ≤ n → n ≤ sixteen .positions → length q ≡ sixteen .symbols * n → ⊥)
-    → answerTo n k L G r ≡ answerTo n k L G q
-wrong-lengths n k L G r q wr wq = split (sizesFit sixteen n k) (λ e.
-    let fits = sizes-mean sixteen n k (ap not e) in
-    both-refuse (sizes sixteen n k) (level L) (limit G) (not (eqb (length r) (sixteen .symbols * n))) (not (eqb (length q) (sixteen .symbols * n)))
-    (room (greatestRows * k) symbolsOfRows ∷ room greatestRows greatestRows ∷ columns sixteen n r ∷ costWithin G (matrix L r) ∷ [])
-    (room (greatestRows * k) symbolsOfRows ∷ room greatestRows greatestRows ∷ columns sixteen n q ∷ costWithin G (matrix L q) ∷ []) refusedLine (listText n k (matrix L r)) (listText n k (matrix L q))
-    (ap not (ne-eqb (length r) (sixteen .symbols * n) (wr n (omega arith) (omega arith)))) (ap not (ne-eqb (length q) (sixteen .symbols * n) (wq n (omega arith) (omega arith)))))
-    (λ e. sizes-refuse (not (sizesFit sixteen n k)) (level L ∷ limit G ∷ entries (sixteen .symbols * n) r ∷ room (greatestRows * k) symbolsOfRows ∷ room greatestRows greatestRows ∷ columns sixteen n r ∷ costWithin G (matrix L r) ∷ [])
-    (level L ∷ limit G ∷ entries (sixteen .symbols * n) q ∷ room (greatestRows * k) symbolsOfRows ∷ room greatestRows greatestRows ∷ columns sixteen n q ∷ costWithin G (matrix L q) ∷ []) refusedLine (listText n k (matrix L r)) (listText n k (matrix L q)) (ap not e))
+wrong-lengths : (C : Code) (n k L G : ℕ) (r q : List ℕ) → ((n : ℕ) → 2 ≤ n → n ≤ C .positions → length r ≡ C .symbols * n → ⊥) → ((n : ℕ) → 2 ≤ n → n ≤ C .positions → length q ≡ C .symbols * n → ⊥)
+    → answerTo C n k L G r ≡ answerTo C n k L G q
+wrong-lengths C n k L G r q wr wq = split (sizesFit C n k) (λ e.
+    let fits = sizes-mean C n k (ap not e) in
+    both-refuse (sizes C n k) (level L) (limit G) (not (eqb (length r) (C .symbols * n))) (not (eqb (length q) (C .symbols * n)))
+    (room (greatestRows * k) (symbolsOfRows C) ∷ room greatestRows greatestRows ∷ columns C n r ∷ costWithin G (matrix L r) ∷ [])
+    (room (greatestRows * k) (symbolsOfRows C) ∷ room greatestRows greatestRows ∷ columns C n q ∷ costWithin G (matrix L q) ∷ []) refusedLine (listText C n k (matrix L r)) (listText C n k (matrix L q))
+    (ap not (ne-eqb (length r) (C .symbols * n) (wr n (omega arith) (omega arith)))) (ap not (ne-eqb (length q) (C .symbols * n) (wq n (omega arith) (omega arith)))))
+    (λ e. sizes-refuse (not (sizesFit C n k)) (level L ∷ limit G ∷ entries (C .symbols * n) r ∷ room (greatestRows * k) (symbolsOfRows C) ∷ room greatestRows greatestRows ∷ columns C n r ∷ costWithin G (matrix L r) ∷ [])
+    (level L ∷ limit G ∷ entries (C .symbols * n) q ∷ room (greatestRows * k) (symbolsOfRows C) ∷ room greatestRows greatestRows ∷ columns C n q ∷ costWithin G (matrix L q) ∷ []) refusedLine (listText C n k (matrix L r)) (listText C n k (matrix L q)) (ap not e))
 
--- more bytes than those of the greatest numbers, and one, hold no list's numbers
-too-many : (b : List ℕ) → 2 * greatestNumbers + 1 < length b → (n : ℕ) → 2 ≤ n → n ≤ sixteen .positions → length (numbersOf b) ≡ sixteen .symbols * n → ⊥
-too-many b h n low high e = split (eqb (length b % 2) 0) (λ t.
+-- more bytes than those of as many numbers as there are places, and one, hold no list's numbers
+too-many : (C : Code) → 0 < C .symbols → (b : List ℕ) → 2 * places C + 1 < length b → (n : ℕ) → 2 ≤ n → n ≤ C .positions → length (numbersOf b) ≡ C .symbols * n → ⊥
+too-many C pos b h n low high e =
+    let few : C .symbols * n ≤ places C = mul-le-mul-left (C .symbols) high in
+    let some : C .symbols * 2 ≤ C .symbols * n = mul-le-mul-left (C .symbols) low in
+    split (eqb (length b % 2) 0) (λ t.
     let size : length (numbersOf b) ≡ length b / 2 = rw t (length-map (below (length b / 2)) (numberAt b) ∙ length-below (length b / 2)) in
     omega arith)
     (λ t.
@@ -74,13 +79,13 @@ too-many b h n low high e = split (eqb (length b % 2) 0) (λ t.
     omega arith)
 
 -- an input that is too long is answered as its beginning is
-pub beginning : (input : List ℕ) → longest < length input → output (take longest input) ≡ output input
-beginning input h =
-    let size : length (take longest input) ≡ longest = length-take-le longest input (omega arith) in
-    let short = length-drop headerBytes (take longest input) in
+pub beginning : (C : Code) → 0 < C .symbols → (most : ℕ) → most ≡ longestOf C → (input : List ℕ) → most < length input → output C (take most input) ≡ output C input
+beginning C pos most e input h =
+    let size : length (take most input) ≡ most = length-take-le most input (omega arith) in
+    let short = length-drop headerBytes (take most input) in
     let long = length-drop headerBytes input in
-    sym (header (take longest input) (numbersOf (drop headerBytes (take longest input))) (getD input 0 0) (getD input 1 0) (getD input 2 0) (getD input 3 0) (omega arith)
-    (sym (getD-take longest input 0 0 (omega arith))) (sym (getD-take longest input 1 0 (omega arith))) (sym (getD-take longest input 2 0 (omega arith))) (sym (getD-take longest input 3 0 (omega arith))) refl)
-    ∙ wrong-lengths (getD input 0 0) (getD input 1 0) (getD input 2 0) (getD input 3 0) (numbersOf (drop headerBytes (take longest input))) (numbersOf (drop headerBytes input))
-    (too-many (drop headerBytes (take longest input)) (omega arith)) (too-many (drop headerBytes input) (omega arith))
-    ∙ header input (numbersOf (drop headerBytes input)) (getD input 0 0) (getD input 1 0) (getD input 2 0) (getD input 3 0) (omega arith) refl refl refl refl refl
+    sym (header C (take most input) (numbersOf (drop headerBytes (take most input))) (getD input 0 0) (getD input 1 0) (getD input 2 0) (getD input 3 0) (omega arith)
+    (sym (getD-take most input 0 0 (omega arith))) (sym (getD-take most input 1 0 (omega arith))) (sym (getD-take most input 2 0 (omega arith))) (sym (getD-take most input 3 0 (omega arith))) refl)
+    ∙ wrong-lengths C (getD input 0 0) (getD input 1 0) (getD input 2 0) (getD input 3 0) (numbersOf (drop headerBytes (take most input))) (numbersOf (drop headerBytes input))
+    (too-many C pos (drop headerBytes (take most input)) (omega arith)) (too-many C pos (drop headerBytes input) (omega arith))
+    ∙ header C input (numbersOf (drop headerBytes input)) (getD input 0 0) (getD input 1 0) (getD input 2 0) (getD input 3 0) (omega arith) refl refl refl refl refl

@@ -6,56 +6,25 @@ use Prim.Native.Nat.{ℕ, _-_}
 use native.Mathlib.Omega.{arith}
 use lib.Dec.{ltb}
 use lib.ListN.{length, take, drop, getD, length-map}
+use Rattle.alphabet.specs.Codes.{codeOn}
+use Rattle.alphabet.specs.declared.Alphabet.{Alphabet}
 use Rattle.algebra.proofs.Elements.{zero-symbol}
 use Rattle.algebra.proofs.Every.{All, all-members, all-map}
 use Rattle.definitions.proofs.Above.{above-in-order}
 use Rattle.definitions.proofs.Tools.{split}
 use Rattle.definitions.specs.Bound.{bound}
 use Rattle.definitions.specs.Code.{Symbols}
-use Rattle.definitions.specs.Field.{sixteen}
 use Rattle.definitions.specs.Limits.{greatestRows}
 use Rattle.definitions.specs.Listing.{listOf}
 use Rattle.definitions.specs.Refusals.{Line, tried, line, readTable}
 use Rattle.definitions.specs.Weights.{matrix, cost, score}
-use Rattle.instances.proofs.Codes.{sixteen-field}
+use Rattle.instances.proofs.Codes.{field-on}
 use Rattle.numbers.specs.Numbers.{numbersOf}
 use Rattle.output.specs.Program.{listText, symbolsOfRows, headerBytes, output}
 use Rattle.output.specs.Told.{Told, refusal, list, scoredList, told}
 use Rattle.text.proofs.Putting.{puts-words}
 use Rattle.text.proofs.Reading.{row-told, refused-told, listed-told, listed-or-refused}
 use Rattle.text.specs.Text.{listedLine, rowLine, refusedLine, Puts}
-
--- the lines of rows
-linesOf : List (ℕ × List ℕ) → List ℕ
-linesOf [] = []
-linesOf (r ∷ l) = rowLine (r .0) (r .1) ++ linesOf l
-
--- the text of what is told
-textOf : Told → List ℕ
-textOf (refusal number place) = refusedLine number place
-textOf (list l) = listedLine (length l) ++ linesOf l
-
--- the rows that are told are messages
-abbrev Messages : Told → Type 0
-Messages (refusal number place) = Unit
-Messages (list l) = All (λ (r : ℕ × List ℕ). Symbols sixteen (r .1)) l
-
--- their lines tell them
-lines-told : (l m : List (ℕ × List ℕ)) → Messages (list l) → Messages (list m) → linesOf l ≡ linesOf m → l ≡ m
-unfolding linesOf
-lines-told [] [] p q e = refl
-lines-told [] (r ∷ m) p q e = absurd (nil≢cons e)
-lines-told (r ∷ l) [] p q e = absurd (nil≢cons (sym e))
-lines-told (r ∷ l) (s ∷ m) p q e =
-    let (scores, messages, rest) = row-told (r .0) (s .0) (r .1) (s .1) (linesOf l) (linesOf m) (p .0) (q .0) e in
-    ap₂ _∷_ (ap₂ {C = ℕ × List ℕ} (λ s f. (s, f)) scores messages) (lines-told l m (p .1) (q .1) rest)
-
-text-told : (t u : Told) → Messages t → Messages u → textOf t ≡ textOf u → t ≡ u
-unfolding textOf
-text-told (refusal number place) (refusal other at) p q e = let (numbers, places) = refused-told number place other at e in ap₂ refusal numbers places
-text-told (refusal number place) (list l) p q e = absurd (listed-or-refused (length l) number place (linesOf l) (sym e))
-text-told (list l) (refusal number place) p q e = absurd (listed-or-refused (length l) number place (linesOf l) e)
-text-told (list l) (list m) p q e = ap list (lines-told l m p q (listed-told (length l) (length m) (linesOf l) (linesOf m) e .1))
 
 -- two ways to take one table: what is related for each refusal, and where none is given, is related
 tried-alike : {A B : Type 0} (R : A → B → Type 0) (f : ℕ → ℕ → A) (g : ℕ → ℕ → B) (x : A) (y : B) (table : List Line)
@@ -64,58 +33,91 @@ tried-alike R f g x y [] refuses lists = lists
 tried-alike R f g x y (l ∷ table) refuses lists =
     split (l .given) (λ t. rw t (refuses (l .number) (l .place))) (λ e. rw e (tried-alike R f g x y table refuses lists))
 
--- a text is that of what is told, whose rows are messages
-abbrev Tells : List ℕ → Told → Type 0
-Tells text t = (text ≡ textOf t) × Messages t
+module _ (w : Alphabet) where
+  -- the lines of rows
+  linesOf : List (ℕ × List ℕ) → List ℕ
+  linesOf [] = []
+  linesOf (r ∷ l) = rowLine (codeOn w) (r .0) (r .1) ++ linesOf l
 
--- the lines of rows, one behind the other
-lines-flat : (scoreOf : List ℕ → ℕ) (l : List (List ℕ))
-    → flatten (map (λ (f : List ℕ). rowLine (scoreOf f) f) l) ≡ linesOf (map {B = ℕ × List ℕ} (λ (f : List ℕ). (scoreOf f, f)) l)
-unfolding linesOf flatten
-lines-flat scoreOf [] = refl
-lines-flat scoreOf (f ∷ l) = ap (λ (rest : List ℕ). rowLine (scoreOf f) f ++ rest) (lines-flat scoreOf l)
+  -- the text of what is told
+  textOf : Told → List ℕ
+  textOf (refusal number place) = refusedLine number place
+  textOf (list l) = listedLine (length l) ++ linesOf l
 
-list-tells : (n k : ℕ) (m : List ℕ) → Tells (listText n k m) (list (scoredList n k m))
-unfolding textOf
-list-tells n k m = (
-  ap₂ (λ (count : ℕ) (lines : List ℕ). listedLine count ++ lines) (sym (length-map (listOf sixteen n k m) (λ (f : List ℕ). (score sixteen n m f, f)))) (lines-flat (score sixteen n m) (listOf sixteen n k m)),
-  all-map (λ (r : ℕ × List ℕ). Symbols sixteen (r .1)) (λ (f : List ℕ). (score sixteen n m f, f)) (listOf sixteen n k m)
-      (all-members (Symbols sixteen) (listOf sixteen n k m) (above-in-order sixteen (zero-symbol sixteen sixteen-field) n k m (bound (k - 1) (cost m)) .symbols)),
-)
+  -- the rows that are told are messages
+  abbrev Messages : Told → Type 0
+  Messages (refusal number place) = Unit
+  Messages (list l) = All (λ (r : ℕ × List ℕ). Symbols (codeOn w) (r .1)) l
 
-refusal-tells : (number place : ℕ) → Tells (refusedLine number place) (refusal number place)
-unfolding textOf
-refusal-tells number place = (refl, tt)
+  -- their lines tell them
+  lines-told : (l m : List (ℕ × List ℕ)) → Messages (list l) → Messages (list m) → linesOf l ≡ linesOf m → l ≡ m
+  unfolding linesOf
+  lines-told [] [] p q e = refl
+  lines-told [] (r ∷ m) p q e = absurd (nil≢cons e)
+  lines-told (r ∷ l) [] p q e = absurd (nil≢cons (sym e))
+  lines-told (r ∷ l) (s ∷ m) p q e =
+      let (scores, messages, rest) = row-told w (r .0) (s .0) (r .1) (s .1) (linesOf l) (linesOf m) (p .0) (q .0) e in
+      ap₂ _∷_ (ap₂ {C = ℕ × List ℕ} (λ s f. (s, f)) scores messages) (lines-told l m (p .1) (q .1) rest)
 
-output-tells : (input : List ℕ) → Tells (output input) (told input)
-output-tells input =
-    let n = getD input 0 0 in
-    let k = getD input 1 0 in
-    let L = getD input 2 0 in
-    let r = numbersOf (drop headerBytes input) in
-    tried-alike Tells refusedLine refusal (listText n k (matrix L r)) (list (scoredList n k (matrix L r)))
-    (line 3 (ltb (length input) headerBytes) ∷ readTable sixteen n k L (getD input 3 0) r symbolsOfRows greatestRows) refusal-tells (list-tells n k (matrix L r))
+  text-told : (t u : Told) → Messages t → Messages u → textOf t ≡ textOf u → t ≡ u
+  unfolding textOf
+  text-told (refusal number place) (refusal other at) p q e = let (numbers, places) = refused-told number place other at e in ap₂ refusal numbers places
+  text-told (refusal number place) (list l) p q e = absurd (listed-or-refused (length l) number place (linesOf l) (sym e))
+  text-told (list l) (refusal number place) p q e = absurd (listed-or-refused (length l) number place (linesOf l) e)
+  text-told (list l) (list m) p q e = ap list (lines-told l m p q (listed-told (length l) (length m) (linesOf l) (linesOf m) e .1))
 
--- inputs that are answered by the same bytes have the same told of them, refusals too; and the other way round
-pub same-text : (a b : List ℕ) → output a ≡ output b → told a ≡ told b
-same-text a b e =
-    let (ta, ma) = output-tells a in
-    let (tb, mb) = output-tells b in
-    text-told (told a) (told b) ma mb (sym ta ∙ e ∙ tb)
+  -- a text is that of what is told, whose rows are messages
+  abbrev Tells : List ℕ → Told → Type 0
+  Tells text t = (text ≡ textOf t) × Messages t
 
-pub same-bytes : (a b : List ℕ) → told a ≡ told b → output a ≡ output b
-same-bytes a b e = output-tells a .0 ∙ ap textOf e ∙ sym (output-tells b .0)
+  -- the lines of rows, one behind the other
+  lines-flat : (scoreOf : List ℕ → ℕ) (l : List (List ℕ))
+      → flatten (map (λ (f : List ℕ). rowLine (codeOn w) (scoreOf f) f) l) ≡ linesOf (map {B = ℕ × List ℕ} (λ (f : List ℕ). (scoreOf f, f)) l)
+  unfolding linesOf flatten
+  lines-flat scoreOf [] = refl
+  lines-flat scoreOf (f ∷ l) = ap (λ (rest : List ℕ). rowLine (codeOn w) (scoreOf f) f ++ rest) (lines-flat scoreOf l)
 
--- lists that differ are answered by different bytes
-pub lists-apart : (a b : List ℕ) (l m : List (ℕ × List ℕ)) → told a ≡ list l → told b ≡ list m → (l ≡ m → ⊥) → output a ≡ output b → ⊥
-lists-apart a b l m ea eb other e = let same = same-text a b e in other (cc)
+  list-tells : (n k : ℕ) (m : List ℕ) → Tells (listText (codeOn w) n k m) (list (scoredList (codeOn w) n k m))
+  unfolding textOf
+  list-tells n k m = (
+    ap₂ (λ (count : ℕ) (lines : List ℕ). listedLine count ++ lines) (sym (length-map (listOf (codeOn w) n k m) (λ (f : List ℕ). (score (codeOn w) n m f, f)))) (lines-flat (score (codeOn w) n m) (listOf (codeOn w) n k m)),
+    all-map (λ (r : ℕ × List ℕ). Symbols (codeOn w) (r .1)) (λ (f : List ℕ). (score (codeOn w) n m f, f)) (listOf (codeOn w) n k m)
+        (all-members (Symbols (codeOn w)) (listOf (codeOn w) n k m) (above-in-order (codeOn w) (zero-symbol (codeOn w) (field-on w)) n k m (bound (k - 1) (cost m)) .symbols)),
+  )
 
--- no list is answered like a refusal
-pub list-or-refusal : (a b : List ℕ) (l : List (ℕ × List ℕ)) (number place : ℕ) → told a ≡ list l → told b ≡ refusal number place → output a ≡ output b → ⊥
-list-or-refusal a b l number place ea eb e = let same = same-text a b e in let z : _≡_ {A = ℕ} 0 1 = cc in omega arith
+  refusal-tells : (number place : ℕ) → Tells (refusedLine number place) (refusal number place)
+  unfolding textOf
+  refusal-tells number place = (refl, tt)
 
--- what two calls wrote tells it, whatever memory was lent
-pub written-tells : (a b out other after later : List ℕ) (end last : ℕ) → Puts out 0 (output a) end after → Puts other 0 (output b) last later
-    → take end after ≡ take last later → told a ≡ told b
-written-tells a b out other after later end last p q e =
-    same-text a b (sym (puts-words out after (output a) end p) ∙ e ∙ puts-words other later (output b) last q)
+  output-tells : (input : List ℕ) → Tells (output (codeOn w) input) (told (codeOn w) input)
+  output-tells input =
+      let n = getD input 0 0 in
+      let k = getD input 1 0 in
+      let L = getD input 2 0 in
+      let r = numbersOf (drop headerBytes input) in
+      tried-alike Tells refusedLine refusal (listText (codeOn w) n k (matrix L r)) (list (scoredList (codeOn w) n k (matrix L r)))
+      (line 3 (ltb (length input) headerBytes) ∷ readTable (codeOn w) n k L (getD input 3 0) r (symbolsOfRows (codeOn w)) greatestRows) refusal-tells (list-tells n k (matrix L r))
+
+  -- inputs that are answered by the same bytes have the same told of them, refusals too; and the other way round
+  pub same-text : (a b : List ℕ) → output (codeOn w) a ≡ output (codeOn w) b → told (codeOn w) a ≡ told (codeOn w) b
+  same-text a b e =
+      let (ta, ma) = output-tells a in
+      let (tb, mb) = output-tells b in
+      text-told (told (codeOn w) a) (told (codeOn w) b) ma mb (sym ta ∙ e ∙ tb)
+
+  pub same-bytes : (a b : List ℕ) → told (codeOn w) a ≡ told (codeOn w) b → output (codeOn w) a ≡ output (codeOn w) b
+  same-bytes a b e = output-tells a .0 ∙ ap textOf e ∙ sym (output-tells b .0)
+
+  -- lists that differ are answered by different bytes
+  pub lists-apart : (a b : List ℕ) (l m : List (ℕ × List ℕ)) → told (codeOn w) a ≡ list l → told (codeOn w) b ≡ list m → (l ≡ m → ⊥) → output (codeOn w) a ≡ output (codeOn w) b → ⊥
+  lists-apart a b l m ea eb other e = let same = same-text a b e in other (cc)
+
+  -- no list is answered like a refusal
+  pub list-or-refusal : (a b : List ℕ) (l : List (ℕ × List ℕ)) (number place : ℕ) → told (codeOn w) a ≡ list l → told (codeOn w) b ≡ refusal number place → output (codeOn w) a ≡ output (codeOn w) b → ⊥
+  list-or-refusal a b l number place ea eb e = let same = same-text a b e in let z : _≡_ {A = ℕ} 0 1 = cc in omega arith
+
+  -- what two calls wrote tells it, whatever memory was lent
+  pub written-tells : (a b out other after later : List ℕ) (end last : ℕ) → Puts out 0 (output (codeOn w) a) end after → Puts other 0 (output (codeOn w) b) last later
+      → take end after ≡ take last later → told (codeOn w) a ≡ told (codeOn w) b
+  written-tells a b out other after later end last p q e =
+      same-text a b (sym (puts-words out after (output (codeOn w) a) end p) ∙ e ∙ puts-words other later (output (codeOn w) b) last q)

@@ -4,6 +4,7 @@ use mathlib.Core.List.{List, [], _∷_, _++_}
 use mathlib.Core.Path.{_≡_}
 use Prim.Native.Nat.{ℕ}
 use lib.ListN.{length, drop, replicate}
+use Rattle.definitions.specs.Field.{sixteen}
 use Rattle.output.specs.Program.{output}
 use Rattle.text.specs.Text.{Puts}
 
@@ -25,6 +26,6 @@ secondLine = 115 ∷ 99 ∷ 111 ∷ 114 ∷ 101 ∷ 32 ∷ 51 ∷ 32 ∷ 109 ∷
 
 pub record Documented : Type 0 where
   pub bytes : length input ≡ 100
-  pub gives : output input ≡ firstLine ++ secondLine
+  pub gives : output sixteen input ≡ firstLine ++ secondLine
   -- so what is promised of the call, whatever memory it is lent: 28 bytes, in front of it, and what lies behind them stays
-  pub written : (out after : List ℕ) (end : ℕ) → Puts out 0 (output input) end after → (end ≡ 28) × (after ≡ firstLine ++ secondLine ++ drop 28 out)
+  pub written : (out after : List ℕ) (end : ℕ) → Puts out 0 (output sixteen input) end after → (end ≡ 28) × (after ≡ firstLine ++ secondLine ++ drop 28 out)

@@ -1,20 +1,27 @@
 -- The most bytes that the program reads and writes.
 -- Assumes nothing.
 use Prim.Native.Nat.{ℕ, _+_, _*_}
-use Rattle.definitions.specs.Field.{sixteen}
+use Rattle.alphabet.specs.Codes.{mostPlaces, mostPositions}
+use Rattle.definitions.specs.Field.{Code}
+use Rattle.definitions.specs.Held.{places}
+use Rattle.definitions.specs.Limits.{greatestRows}
 use Rattle.output.specs.Program.{headerBytes}
 use Rattle.text.specs.Rooms.{listedRoom, rowsRoom}
 
--- the numbers of the longest input that is not refused for its length
-abbrev pub greatestNumbers : ℕ
-greatestNumbers = sixteen .symbols * sixteen .positions
+-- the bytes of the longest input that is not refused for its length, and of one number more
+abbrev pub longestOf : Code → ℕ
+longestOf C = headerBytes + 2 * (places C + 1)
 
--- one number more is read
+-- of either alphabet
 abbrev pub numbersRead : ℕ
-numbersRead = greatestNumbers + 1
+numbersRead = mostPlaces + 1
 
 abbrev pub longest : ℕ
 longest = headerBytes + 2 * numbersRead
+
+-- the rows of either alphabet fit here
+abbrev pub rowsLent : ℕ
+rowsLent = greatestRows * mostPositions
 
 -- the line of the count, and the lines of the rows
 abbrev pub answerRoom : ℕ

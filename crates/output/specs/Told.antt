@@ -5,7 +5,7 @@ use mathlib.Core.List.{List, map}
 use Prim.Native.Nat.{ℕ}
 use lib.Dec.{ltb}
 use lib.ListN.{length, drop, getD}
-use Rattle.definitions.specs.Field.{sixteen}
+use Rattle.definitions.specs.Field.{Code}
 use Rattle.definitions.specs.Limits.{greatestRows}
 use Rattle.definitions.specs.Listing.{listOf}
 use Rattle.definitions.specs.Refusals.{tried, readTable}
@@ -19,14 +19,14 @@ pub data Told : Type 0 where
   list : List (ℕ × List ℕ) → Told
 
 -- the list, with the score of each row
-abbrev pub scoredList : ℕ → ℕ → List ℕ → List (ℕ × List ℕ)
-scoredList n k m = map (λ (f : List ℕ). (score sixteen n m f, f)) (listOf sixteen n k m)
+abbrev pub scoredList : Code → ℕ → ℕ → List ℕ → List (ℕ × List ℕ)
+scoredList C n k m = map (λ (f : List ℕ). (score C n m f, f)) (listOf C n k m)
 
-abbrev pub toldOf : ℕ → ℕ → ℕ → ℕ → List ℕ → Told
-toldOf n k L G r = tried (readTable sixteen n k L G r symbolsOfRows greatestRows) refusal (list (scoredList n k (matrix L r)))
+abbrev pub toldOf : Code → ℕ → ℕ → ℕ → ℕ → List ℕ → Told
+toldOf C n k L G r = tried (readTable C n k L G r (symbolsOfRows C) greatestRows) refusal (list (scoredList C n k (matrix L r)))
 
--- "bytes n, k, L, G, then 16n numbers"; "Fewer than four bytes is refusal 3 at 0"
-abbrev pub told : List ℕ → Told
-told input =
+-- "bytes n, k, L, G, then 16n numbers", or 32n; "Fewer than four bytes is refusal 3 at 0"
+abbrev pub told : Code → List ℕ → Told
+told C input =
     cond (ltb (length input) headerBytes) (refusal 3 0)
-    (toldOf (getD input 0 0) (getD input 1 0) (getD input 2 0) (getD input 3 0) (numbersOf (drop headerBytes input)))
+    (toldOf C (getD input 0 0) (getD input 1 0) (getD input 2 0) (getD input 3 0) (numbersOf (drop headerBytes input)))

@@ -106,7 +106,7 @@ Less C from to x first old new = Patched from to (λ (k : ℕ). C .plus (getD ol
 
 -- in one block
 pub less-block : (C : Code) (at x : ℕ) (row first old new : List ℕ) (times : List (List ℕ)) → x < C .symbols → BlockOf at row first → MultiplesBlock C (C .symbols) first times
-    → AddedBlock C at (getD times x []) old new → Less C at (at + block) x row old new
+    → AddedBlock (C .plus) at (getD times x []) old new → Less C at (at + block) x row old new
 less-block C at x row first old new times hx is-first is-times added = record {
   inside = λ k l g.
       added .patched .inside k l g

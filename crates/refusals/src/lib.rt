@@ -4,17 +4,17 @@ ghost use mathlib.Core.Path.{_≡_};
 ghost use Prim.Native.Nat.{_+_, _*_, _^_, _<_};
 ghost use lib.Dec.{eqb, leb};
 ghost use lib.ListN.{length};
-ghost use Rattle.definitions.specs.Field.{sixteen};
+ghost use Rattle.alphabet.specs.Codes.{codeOn};
 ghost use Rattle.definitions.specs.Planning.{steps};
-ghost use Rattle.definitions.specs.Refusals.{line, sizes, size, level, room, firstAbove, noneAbove, runsOn};
+ghost use Rattle.definitions.specs.Refusals.{line, sizes, size, level, room, firstAbove, noneAbove, runsOn, symbols};
 ghost use Rattle.refusals.specs.Checked.{passed, orLine, lineOf, toldChecked};
 ghost use Rattle.refusals.specs.Refusal.{toldRefusal};
 
 pub mod limits;
 
+use alphabet::Alphabet;
 use limits::GREATEST_LEVEL;
 use limits::GREATEST_STEPS;
-use limits::POSITIONS;
 
 // The lines of the table.
 pub enum Refusal {
@@ -122,23 +122,23 @@ impl Checked {
         self.or(x < least, refusal).or(greatest < x, refusal)
     }
 
-    pub fn sizes(n: usize, k: usize) -> Checked
-        ensures { λ r. ⌜ toldChecked r ≡ orLine passed (sizes sixteen n k) ⌝ }
+    pub fn sizes(alphabet: Alphabet, n: usize, k: usize) -> Checked
+        ensures { λ r. ⌜ toldChecked r ≡ orLine passed (sizes (codeOn alphabet) n k) ⌝ }
     {
-        Checked::Passed.sizes_too(n, k)
+        Checked::Passed.sizes_too(alphabet, n, k)
     }
 
-    pub fn sizes_too(self, n: usize, k: usize) -> Checked
-        ensures { λ r. ⌜ toldChecked r ≡ orLine (toldChecked self) (sizes sixteen n k) ⌝ }
+    pub fn sizes_too(self, alphabet: Alphabet, n: usize, k: usize) -> Checked
+        ensures { λ r. ⌜ toldChecked r ≡ orLine (toldChecked self) (sizes (codeOn alphabet) n k) ⌝ }
     {
         self.or(k < 2, Refusal::Sizes)
-            .within(k, n, POSITIONS, Refusal::Sizes)
+            .within(k, n, alphabet.positions(), Refusal::Sizes)
     }
 
-    pub fn size(n: usize) -> Checked
-        ensures { λ r. ⌜ toldChecked r ≡ orLine passed (size sixteen n) ⌝ }
+    pub fn size(alphabet: Alphabet, n: usize) -> Checked
+        ensures { λ r. ⌜ toldChecked r ≡ orLine passed (size (codeOn alphabet) n) ⌝ }
     {
-        Checked::Passed.within(2, n, POSITIONS, Refusal::Sizes)
+        Checked::Passed.within(2, n, alphabet.positions(), Refusal::Sizes)
     }
 
     pub fn level(self, l: usize) -> Checked
@@ -153,12 +153,18 @@ impl Checked {
         self.or(GREATEST_STEPS < s, Refusal::Setting)
     }
 
-    // Exactly many times each.
-    pub fn length(self, given: usize, each: usize, many: usize) -> Checked
-        requires { ⌜ 0 < each ⌝ }
-        ensures { λ r. ⌜ toldChecked r ≡ orLine (toldChecked self) (line 3 (not (eqb given (each * many)))) ⌝ }
+    // As many entries as n positions have.
+    pub fn entries(self, alphabet: Alphabet, given: usize, n: usize) -> Checked
+        ensures { λ r. ⌜ toldChecked r ≡ orLine (toldChecked self) (line 3 (not (eqb given (codeOn alphabet .symbols * n)))) ⌝ }
     {
-        self.or(!is_product(given, each, many), Refusal::Length)
+        self.or(!is_product(given, alphabet.symbols(), n), Refusal::Length)
+    }
+
+    // Room for as many.
+    pub fn entries_room(self, alphabet: Alphabet, given: usize, n: usize) -> Checked
+        ensures { λ r. ⌜ toldChecked r ≡ orLine (toldChecked self) (room (codeOn alphabet .symbols * n) given) ⌝ }
+    {
+        self.room(given, alphabet.symbols(), n)
     }
 
     // At least many times each.
@@ -167,6 +173,20 @@ impl Checked {
         ensures { λ r. ⌜ toldChecked r ≡ orLine (toldChecked self) (room (each * many) given) ⌝ }
     {
         self.or(given / each < many, Refusal::Room)
+    }
+
+    pub fn symbols_of(self, alphabet: Alphabet, list: &[u8]) -> Checked
+        ensures { λ r. ⌜ toldChecked r ≡ orLine (toldChecked self) (symbols (codeOn alphabet) (now (list .entry))) ⌝ }
+    {
+        self.symbols(alphabet.greatest_symbol(), list)
+    }
+
+    // The indexes run on after those of an earlier list.
+    pub fn symbols_of_after(self, alphabet: Alphabet, earlier: usize, list: &[u8]) -> Checked
+        requires { ⌜ earlier + length (now list) < 2 ^ 64 ⌝ }
+        ensures { λ r. ⌜ toldChecked r ≡ orLine (toldChecked self) (runsOn earlier (symbols (codeOn alphabet) (now (list .entry)))) ⌝ }
+    {
+        self.symbols_after(earlier, alphabet.greatest_symbol(), list)
     }
 
     pub fn symbols(self, greatest: u8, list: &[u8]) -> Checked

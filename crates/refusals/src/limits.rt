@@ -1,12 +1,4 @@
-// The limits, each named once: the numbers are those of definitions/specs/Limits and of `sixteen`.
-pub const SYMBOLS: usize = 16;
-
-pub const GREATEST_SYMBOL: u8 = SYMBOLS as u8 - 1;
-
-pub const POSITIONS: usize = 15;
-
-pub const ENTRIES: usize = SYMBOLS * POSITIONS;
-
+// The limits, each named once: the numbers are those of definitions/specs/Limits. Those of a code are its alphabet's.
 pub const GREATEST_SUM: usize = 4096;
 
 pub const GREATEST_LEVEL: usize = 5;

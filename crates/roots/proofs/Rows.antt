@@ -11,6 +11,9 @@ use native.Mathlib.Omega.{arith}
 use borrow.Author.Tests.{eq-eqb, ne-eqb}
 use lib.ListN.{length, take, set, length-append}
 use lib.Seq.{length-take-le, take-suc-set}
+use Rattle.alphabet.proofs.Sizes.{sized}
+use Rattle.alphabet.specs.Codes.{codeOn, mostSymbols}
+use Rattle.alphabet.specs.declared.Alphabet.{Alphabet}
 use Rattle.algebra.specs.FieldOf.{FieldOf}
 use Rattle.definitions.proofs.Joined.{join-nil, join-cons, join-append, join-below, joined-room}
 use Rattle.definitions.proofs.Tools.{below-zero}
@@ -136,8 +139,8 @@ pub same-room : (a n m : ℕ) → m ≡ n → a ≤ n → a ≤ m
 same-room a n m e h = omega arith
 
 -- a row has an entry for each symbol of a message
-pub row-holds : (C : Code) (row : List ℕ) (k : ℕ) → length row ≡ C .positions → k ≤ C .positions → k ≤ length row
-row-holds C row k e h = omega arith
+pub row-holds : (w : Alphabet) (row : List ℕ) (k : ℕ) → length row ≡ mostSymbols → k ≤ codeOn w .positions → k ≤ length row
+row-holds w row k e h = let z = sized w in let p = z .points in let m = z .most in omega arith
 
 -- there are no more columns than places
 pub columns-fit : (h w : ℕ) → 0 < h → w * h ≤ places → w ≤ places

@@ -3,10 +3,10 @@ ghost use mathlib.Core.Bool.{cond};
 ghost use mathlib.Core.Path.{_≡_};
 ghost use Prim.Native.Nat.{_+_, _*_, _≤_, _<_};
 ghost use lib.ListN.{length};
-ghost use Rattle.definitions.specs.Field.{sixteen};
+ghost use Rattle.alphabet.specs.Codes.{codeOn};
 ghost use Rattle.definitions.specs.Planning.{beats};
 ghost use Rattle.plans.specs.Leads.{LeadsColumn};
-use refusals::limits::SYMBOLS;
+use alphabet::Alphabet;
 
 // Two quotients are compared by these products: a reliability with the other's multiplicity and one.
 fn times(reliability: u16, multiplicity: u8) -> usize
@@ -25,15 +25,21 @@ pub fn better(reliabilities: &[u16], multiplicities: &[u8], earlier: usize, late
     if kept < new { later } else { earlier }
 }
 
-// The best place of a position's sixteen.
-pub fn best_of_column(reliabilities: &[u16], multiplicities: &[u8], i: usize) -> usize
-    requires { ⌜ (i < sixteen .positions) × (sixteen .symbols * i + sixteen .symbols ≤ length (now reliabilities)) × (length (now multiplicities) ≡ length (now reliabilities)) ⌝ }
-    ensures { λ r. ⌜ LeadsColumn sixteen (now (reliabilities .entry)) (now (multiplicities .entry)) i r ⌝ }
+// The best place of a position's symbols.
+pub fn best_of_column(
+    alphabet: Alphabet,
+    reliabilities: &[u16],
+    multiplicities: &[u8],
+    i: usize,
+) -> usize
+    requires { ⌜ (i < codeOn alphabet .positions) × (codeOn alphabet .symbols * i + codeOn alphabet .symbols ≤ length (now reliabilities)) × (length (now multiplicities) ≡ length (now reliabilities)) ⌝ }
+    ensures { λ r. ⌜ LeadsColumn (codeOn alphabet) (now (reliabilities .entry)) (now (multiplicities .entry)) i r ⌝ }
 {
-    let first = SYMBOLS * i;
+    let symbols = alphabet.symbols();
+    let first = symbols * i;
     let mut leading = first;
     let mut b = 1;
-    while b < SYMBOLS {
+    while b < symbols {
         leading = better(reliabilities, multiplicities, leading, first + b);
         b += 1;
     }

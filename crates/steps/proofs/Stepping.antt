@@ -1,21 +1,19 @@
 -- The steps of the planner's loops, over plain numbers and lists.
 -- Assumes nothing.
 use mathlib.Core.Bool.{Bool, true, false}
-use mathlib.Core.List.{List, _++_}
-use mathlib.Core.Path.{_≡_, refl, sym, _∙_, ap, ap₂}
-use Prim.Native.Nat.{ℕ, suc, _+_, _-_, _*_, _≤_}
-use native.Mathlib.Nat.{mul-le-mul-left}
+use mathlib.Core.List.{List}
+use mathlib.Core.Path.{_≡_, refl, sym, _∙_, ap, subst}
+use Prim.Native.Nat.{ℕ, suc, _+_, _-_, _*_, _/_, _≤_, _<_}
+use native.Mathlib.Nat.{mul-comm, div-add-mod, div-lt-iff-lt-mul, mod-lt}
 use native.Mathlib.Omega.{arith}
 use native.Mathlib.Numerals.{add-one}
 use borrow.Author.Tests.{eq-eqb, ne-eqb}
-use lib.ListN.{length, getD, take, drop, set, replicate, length-replicate}
-use lib.Seq.{ext-getD, getD-take, length-take-le}
-use Rattle.definitions.proofs.Zeros.{zero-at}
+use lib.ListN.{length, getD, set, replicate, length-replicate}
 use Rattle.definitions.specs.Field.{Code}
-use Rattle.definitions.specs.Held.{places, noEntries, filled}
 use Rattle.definitions.specs.Limits.{greatestLevel}
 use Rattle.definitions.specs.Planning.{best, stops, step, plan, stepsDone}
 use Rattle.plans.proofs.Planning.{stays, raises, plan-suc, length-plan, plan-stays, done-more, done-after}
+use Rattle.plans.specs.Leads.{Leads, LeadsColumn}
 use Rattle.steps.specs.Entries.{Weights, Columns}
 
 -- a step, whose best place is b
@@ -62,15 +60,19 @@ beside-plan C n s r m w is = record { weights = w; as-many = ap length is ∙ le
 pub as-long : (r : List ℕ) (s : ℕ) (before after : List ℕ) → before ≡ replicate (length r) 0 → after ≡ plan r s → length after ≡ length before
 as-long r s before after zeros is = ap length is ∙ length-plan r s ∙ sym (ap length zeros ∙ length-replicate (length r) 0)
 
--- a record's entries, the plan in front
-module _ (C : Code) (n : ℕ) (r : List ℕ) (w : Weights C n r) where
-  pub zeros-in-front : take (C .symbols * n) (noEntries C) ≡ replicate (length r) 0
-  zeros-in-front =
-      let within : C .symbols * n ≤ places C = mul-le-mul-left (C .symbols) (w .small) in
-      let used = length-take-le (C .symbols * n) (noEntries C) (rw (length-replicate {A = ℕ} (places C) 0) within) in
-      ext-getD 0 (take (C .symbols * n) (noEntries C)) (replicate (length r) 0) (used ∙ sym (length-replicate (length r) 0 ∙ w .full))
-      (λ j l. getD-take (C .symbols * n) (noEntries C) j 0 (rw used at l) ∙ zero-at (places C) j ∙ sym (zero-at (length r) j))
+-- a place lies in the column of its quotient
+pub column-of : (C : Code) (q n b : ℕ) → q ≡ C .symbols → 0 < C .symbols → b < C .symbols * n
+    → (b / q < n) × (C .symbols * (b / q) ≤ b) × (b < C .symbols * (b / q) + C .symbols)
+column-of C q n b e some within =
+    let i = b / C .symbols in
+    let swapped = mul-comm (C .symbols) n in
+    let whole = div-add-mod b (C .symbols) in
+    let rest = mod-lt b some in
+    rw e ((div-lt-iff-lt-mul {k = C .symbols} {x = b} {y = n} some) .1 (omega arith), omega arith, omega arith)
 
-  pub plan-in-front : (s : ℕ) (front : List ℕ) → front ≡ plan r s
-      → front ++ drop (C .symbols * n) (noEntries C) ≡ filled C (plan r s)
-  plan-in-front s front is = ap₂ (λ (m : List ℕ) (j : ℕ). m ++ drop j (noEntries C)) is (sym (length-plan r s ∙ w .full))
+-- what leads the first column leads all places before the second
+pub first-column : (C : Code) (r m : List ℕ) (x : ℕ) → LeadsColumn C r m 0 x → Leads r m 0 (C .symbols * 1) x
+first-column C r m x l =
+    let none : C .symbols * 0 ≡ 0 = omega arith in
+    let one : C .symbols * 0 + C .symbols ≡ C .symbols * 1 = omega arith in
+    subst (λ (a : ℕ). Leads r m a (C .symbols * 1) x) none (subst (λ (z : ℕ). Leads r m (C .symbols * 0) z x) one l)

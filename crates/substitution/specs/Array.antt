@@ -6,12 +6,14 @@ use mathlib.Core.Path.{_≡_}
 use Prim.Native.Nat.{ℕ, _+_, _-_, _*_, _≤_, _<_}
 use lib.Dec.{eqb}
 use lib.ListN.{getD}
+use Rattle.alphabet.specs.Codes.{codeOn}
+use Rattle.alphabet.specs.declared.Alphabet.{Alphabet}
 use Rattle.definitions.specs.Code.{Symbols}
 use Rattle.definitions.specs.Field.{Code, numbers}
 use Rattle.definitions.specs.Limits.{greatestCount}
 use Rattle.root_tree.specs.Columns.{coefficient, shift, substitute, columns}
 use Rattle.root_tree.specs.Fold.{folded}
-use Rattle.root_tree.specs.Tree.{Same, strip}
+use Rattle.root_tree.specs.Tree.{Same, strip, constantsZero}
 
 -- the places of a polynomial's array: of w columns of height h, which are at most twice as many as its coefficients
 abbrev pub places : ℕ
@@ -30,6 +32,14 @@ pub record Spread (h w n : ℕ) (l r : List ℕ) : Type 0 where
 -- an entry other than zero
 abbrev pub isOther : List ℕ → ℕ → Bool
 isOther l i = not (eqb (getD l i 0) 0)
+
+-- of either alphabet: what was symbols is symbols
+abbrev pub SymbolsKept : List ℕ → List ℕ → Type 0
+SymbolsKept l r = (w : Alphabet) → Symbols (codeOn w) l → Symbols (codeOn w) r
+
+-- and a column laid over l
+abbrev pub SymbolsLaid : List ℕ → List ℕ → List ℕ → Type 0
+SymbolsLaid column l r = (w : Alphabet) → Symbols (codeOn w) column → Symbols (codeOn w) l → Symbols (codeOn w) r
 
 module _ (C : Code) where
   -- r is l with c times entry `from` added to entry `to`, in the first n columns
@@ -62,3 +72,11 @@ module _ (C : Code) where
   -- r is what the search hands on after the symbol c
   abbrev pub Handed : ℕ → ℕ → ℕ → List ℕ → List ℕ → Type 0
   Handed h w c l r = (x : List ℕ) × Symbols C x × Substituted h w c l x × Freed h w x r
+
+-- r is the array l freed of its powers of x, whichever alphabet its entries are of
+abbrev pub FreedOfEither : ℕ → ℕ → List ℕ → List ℕ → Type 0
+FreedOfEither h w l r = (c : Alphabet) → Freed (codeOn c) h w l r
+
+-- b tells whether every coefficient of y^0 is zero
+abbrev pub ConstantsZero : ℕ → ℕ → List ℕ → Bool → Type 0
+ConstantsZero h w l b = (c : Alphabet) → b ≡ constantsZero (polynomial (codeOn c) h w l)

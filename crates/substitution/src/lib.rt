@@ -3,90 +3,99 @@ ghost use mathlib.Core.List.{_++_};
 ghost use mathlib.Core.Path.{_≡_};
 ghost use Prim.Native.Nat.{_+_, _-_, _*_, _≤_, _<_};
 ghost use lib.ListN.{length, take, drop};
+ghost use Rattle.alphabet.specs.Codes.{codeOn};
 ghost use Rattle.definitions.specs.Code.{Symbols};
-ghost use Rattle.definitions.specs.Field.{numbers, value, sixteen};
+ghost use Rattle.definitions.specs.Field.{numbers, value};
 ghost use Rattle.definitions.specs.Tools.{smallest};
-ghost use Rattle.field.specs.Table.{Products};
-ghost use Rattle.root_tree.specs.Tree.{zeros, constantsZero};
-ghost use Rattle.substitution.specs.Array.{places, polynomial, Added, Folded, Shifted, Laid, Spread, Substituted, Freed, Handed, isOther};
+ghost use Rattle.field.specs.Table.{Tabled};
+ghost use Rattle.root_tree.specs.Tree.{zeros};
+ghost use Rattle.substitution.specs.Array.{places, Added, Folded, Shifted, Laid, Spread, Substituted, Handed, isOther, SymbolsKept, SymbolsLaid, FreedOfEither, ConstantsZero};
+use alphabet::Alphabet;
 use refusals::limits::GREATEST_COUNT;
 
 // The places of a polynomial's array: of w columns of height h, which are at most twice as many as its coefficients.
 pub const PLACES: usize = 2 * GREATEST_COUNT;
 
 // The value of the first column at g.
-pub fn first_value(table: &[u8; 256], p: &[u8; PLACES], h: usize, g: u8) -> u8
-    requires { ⌜ Products sixteen (now table) ⌝ }
-    requires { ⌜ Symbols sixteen (now p) ⌝ }
-    requires { ⌜ (h ≤ places) × (g < sixteen .symbols) × (length (now p) ≡ places) ⌝ }
-    ensures { λ r. ⌜ r ≡ value (numbers sixteen) g (take h (now (p .entry))) ⌝ }
+pub fn first_value(alphabet: Alphabet, table: &[u8], p: &[u8; PLACES], h: usize, g: u8) -> u8
+    requires { ⌜ Tabled (codeOn alphabet) (now table) ⌝ }
+    requires { ⌜ Symbols (codeOn alphabet) (now p) ⌝ }
+    requires { ⌜ (h ≤ places) × (g < codeOn alphabet .symbols) × (length (now p) ≡ places) ⌝ }
+    ensures { λ r. ⌜ r ≡ value (numbers (codeOn alphabet)) g (take h (now (p .entry))) ⌝ }
 {
     let mut y = 0u8;
     let mut b = h;
     while 0 < b {
         b -= 1;
-        y = p[b] ^ field::inside::look(table, g, y);
+        y = p[b] ^ field::inside::look(alphabet, table, g, y);
     }
     y
 }
 
 // To entry `to` of each column, g times its entry `from` is added.
-fn add_multiple(table: &[u8; 256], p: &mut [u8], h: usize, w: usize, to: usize, from: usize, g: u8)
-    requires { ⌜ Products sixteen (now table) ⌝ }
-    requires { ⌜ Symbols sixteen (now p) ⌝ }
-    requires { ⌜ (to < from) × (from < h) × (w * h ≤ length (now p)) × (g < sixteen .symbols) ⌝ }
-    ensures added { λ _. ⌜ Added sixteen h w w to from g (now (p .entry)) (now (p .exit)) ⌝ }
-    ensures symbols { λ _. ⌜ Symbols sixteen (now (p .exit)) ⌝ }
+fn add_multiple(
+    alphabet: Alphabet,
+    table: &[u8],
+    p: &mut [u8],
+    h: usize,
+    w: usize,
+    to: usize,
+    from: usize,
+    g: u8,
+)
+    requires { ⌜ Tabled (codeOn alphabet) (now table) ⌝ }
+    requires { ⌜ Symbols (codeOn alphabet) (now p) ⌝ }
+    requires { ⌜ (to < from) × (from < h) × (w * h ≤ length (now p)) × (g < codeOn alphabet .symbols) ⌝ }
+    ensures added { λ _. ⌜ Added (codeOn alphabet) h w w to from g (now (p .entry)) (now (p .exit)) ⌝ }
+    ensures symbols { λ _. ⌜ Symbols (codeOn alphabet) (now (p .exit)) ⌝ }
 {
     let mut a = 0;
     while a < w {
         let column = a * h;
-        p[column + to] ^= field::inside::look(table, g, p[column + from]);
+        p[column + to] ^= field::inside::look(alphabet, table, g, p[column + from]);
         a += 1;
     }
 }
 
 // To each entry of a column whose place lacks the bit, g times the one that has it is added.
-fn fold(table: &[u8; 256], p: &mut [u8], h: usize, w: usize, bit: usize, g: u8)
-    requires { ⌜ Products sixteen (now table) ⌝ }
-    requires { ⌜ Symbols sixteen (now p) ⌝ }
-    requires { ⌜ (0 < bit) × (bit < h) × (h ≤ places) × (w * h ≤ length (now p)) × (g < sixteen .symbols) ⌝ }
-    ensures folded { λ _. ⌜ Folded sixteen h w bit g (now (p .entry)) (now (p .exit)) ⌝ }
-    ensures symbols { λ _. ⌜ Symbols sixteen (now (p .exit)) ⌝ }
+fn fold(alphabet: Alphabet, table: &[u8], p: &mut [u8], h: usize, w: usize, bit: usize, g: u8)
+    requires { ⌜ Tabled (codeOn alphabet) (now table) ⌝ }
+    requires { ⌜ Symbols (codeOn alphabet) (now p) ⌝ }
+    requires { ⌜ (0 < bit) × (bit < h) × (h ≤ places) × (w * h ≤ length (now p)) × (g < codeOn alphabet .symbols) ⌝ }
+    ensures folded { λ _. ⌜ Folded (codeOn alphabet) h w bit g (now (p .entry)) (now (p .exit)) ⌝ }
+    ensures symbols { λ _. ⌜ Symbols (codeOn alphabet) (now (p .exit)) ⌝ }
 {
     let mut b = 0;
     while b + bit < h {
         if b & bit == 0 {
-            add_multiple(table, p, h, w, b, b + bit, g);
+            add_multiple(alphabet, table, p, h, w, b, b + bit, g);
         }
         b += 1;
     }
 }
 
 // Each column with y + g put for y, in place: a fold for each bit of a place.
-fn shift(table: &[u8; 256], p: &mut [u8], h: usize, w: usize, g: u8)
-    requires { ⌜ Products sixteen (now table) ⌝ }
-    requires { ⌜ Symbols sixteen (now p) ⌝ }
-    requires { ⌜ (h ≤ places) × (w * h ≤ length (now p)) × (g < sixteen .symbols) ⌝ }
-    ensures shifted { λ _. ⌜ Shifted sixteen h w g (now (p .entry)) (now (p .exit)) ⌝ }
-    ensures symbols { λ _. ⌜ Symbols sixteen (now (p .exit)) ⌝ }
+fn shift(alphabet: Alphabet, table: &[u8], p: &mut [u8], h: usize, w: usize, g: u8)
+    requires { ⌜ Tabled (codeOn alphabet) (now table) ⌝ }
+    requires { ⌜ Symbols (codeOn alphabet) (now p) ⌝ }
+    requires { ⌜ (h ≤ places) × (w * h ≤ length (now p)) × (g < codeOn alphabet .symbols) ⌝ }
+    ensures shifted { λ _. ⌜ Shifted (codeOn alphabet) h w g (now (p .entry)) (now (p .exit)) ⌝ }
+    ensures symbols { λ _. ⌜ Symbols (codeOn alphabet) (now (p .exit)) ⌝ }
 {
     let mut bit = 1;
     let mut power = g;
     while bit < h {
-        fold(table, p, h, w, bit, power);
-        power = field::inside::look(table, power, power);
+        fold(alphabet, table, p, h, w, bit, power);
+        power = field::inside::look(alphabet, table, power, power);
         bit *= 2;
     }
 }
 
 // The column with x y put for y, laid from x^a on.
 fn lay(p: &mut [u8], col: &[u8], a: usize, h: usize, w: usize)
-    requires { ⌜ Symbols sixteen (now p) ⌝ }
-    requires { ⌜ Symbols sixteen (now col) ⌝ }
     requires { ⌜ (h ≤ length (now col)) × (a < w) × (w * h ≤ length (now p)) ⌝ }
     ensures laid { λ _. ⌜ Laid h w a h (now (col .entry)) (now (p .entry)) (now (p .exit)) ⌝ }
-    ensures symbols { λ _. ⌜ Symbols sixteen (now (p .exit)) ⌝ }
+    ensures symbols { λ _. ⌜ SymbolsLaid (now (col .entry)) (now (p .entry)) (now (p .exit)) ⌝ }
 {
     let mut b = 0;
     while b < h {
@@ -100,10 +109,9 @@ fn lay(p: &mut [u8], col: &[u8], a: usize, h: usize, w: usize)
 
 // The polynomial with x y put for y, as far as w columns go.
 fn spread(p: &[u8], h: usize, w: usize) -> [u8; PLACES]
-    requires { ⌜ Symbols sixteen (now p) ⌝ }
     requires { ⌜ (w * h ≤ places) × (w * h ≤ length (now p)) ⌝ }
     ensures spread { λ r. ⌜ Spread h w w (now (p .entry)) r ⌝ }
-    ensures symbols { λ r. ⌜ Symbols sixteen r ⌝ }
+    ensures symbols { λ r. ⌜ SymbolsKept (now (p .entry)) r ⌝ }
 {
     let mut q = [0u8; PLACES];
     let mut a = 0;
@@ -117,15 +125,22 @@ fn spread(p: &[u8], h: usize, w: usize) -> [u8; PLACES]
 }
 
 // The polynomial with x y + g put for y, as far as w columns go.
-fn substituted(table: &[u8; 256], p: [u8; PLACES], h: usize, w: usize, g: u8) -> [u8; PLACES]
-    requires { ⌜ Products sixteen (now table) ⌝ }
-    requires { ⌜ Symbols sixteen p ⌝ }
-    requires { ⌜ (h ≤ places) × (g < sixteen .symbols) × (w * h ≤ places) ⌝ }
-    ensures polynomial { λ r. ⌜ Substituted sixteen h w g p r ⌝ }
-    ensures symbols { λ r. ⌜ Symbols sixteen r ⌝ }
+fn substituted(
+    alphabet: Alphabet,
+    table: &[u8],
+    p: [u8; PLACES],
+    h: usize,
+    w: usize,
+    g: u8,
+) -> [u8; PLACES]
+    requires { ⌜ Tabled (codeOn alphabet) (now table) ⌝ }
+    requires { ⌜ Symbols (codeOn alphabet) p ⌝ }
+    requires { ⌜ (h ≤ places) × (g < codeOn alphabet .symbols) × (w * h ≤ places) ⌝ }
+    ensures polynomial { λ r. ⌜ Substituted (codeOn alphabet) h w g p r ⌝ }
+    ensures symbols { λ r. ⌜ Symbols (codeOn alphabet) r ⌝ }
 {
     let mut shifted = p;
-    shift(table, &mut shifted, h, w, g);
+    shift(alphabet, table, &mut shifted, h, w, g);
     spread(&shifted, h, w)
 }
 
@@ -160,10 +175,9 @@ fn moved(p: &[u8; PLACES], from: usize, n: usize) -> [u8; PLACES]
 
 // The polynomial freed of its powers of x.
 pub fn freed(p: &[u8; PLACES], h: usize, w: usize) -> [u8; PLACES]
-    requires { ⌜ Symbols sixteen (now p) ⌝ }
     requires { ⌜ (0 < h) × (w * h ≤ places) × (length (now p) ≡ places) ⌝ }
-    ensures polynomial { λ r. ⌜ Freed sixteen h w (now (p .entry)) r ⌝ }
-    ensures symbols { λ r. ⌜ Symbols sixteen r ⌝ }
+    ensures polynomial { λ r. ⌜ FreedOfEither h w (now (p .entry)) r ⌝ }
+    ensures symbols { λ r. ⌜ SymbolsKept (now (p .entry)) r ⌝ }
 {
     let n = w * h;
     let first = first_other(p, n);
@@ -171,21 +185,28 @@ pub fn freed(p: &[u8; PLACES], h: usize, w: usize) -> [u8; PLACES]
 }
 
 // What the search hands on after the symbol g: x y + g put for y, and freed of powers of x.
-pub fn handed(table: &[u8; 256], p: [u8; PLACES], h: usize, w: usize, g: u8) -> [u8; PLACES]
-    requires { ⌜ Products sixteen (now table) ⌝ }
-    requires { ⌜ Symbols sixteen p ⌝ }
-    requires { ⌜ (0 < h) × (h ≤ places) × (g < sixteen .symbols) × (w * h ≤ places) ⌝ }
-    ensures polynomial { λ r. ⌜ Handed sixteen h w g p r ⌝ }
-    ensures symbols { λ r. ⌜ Symbols sixteen r ⌝ }
+pub fn handed(
+    alphabet: Alphabet,
+    table: &[u8],
+    p: [u8; PLACES],
+    h: usize,
+    w: usize,
+    g: u8,
+) -> [u8; PLACES]
+    requires { ⌜ Tabled (codeOn alphabet) (now table) ⌝ }
+    requires { ⌜ Symbols (codeOn alphabet) p ⌝ }
+    requires { ⌜ (0 < h) × (h ≤ places) × (g < codeOn alphabet .symbols) × (w * h ≤ places) ⌝ }
+    ensures polynomial { λ r. ⌜ Handed (codeOn alphabet) h w g p r ⌝ }
+    ensures symbols { λ r. ⌜ Symbols (codeOn alphabet) r ⌝ }
 {
-    let q = substituted(table, p, h, w, g);
+    let q = substituted(alphabet, table, p, h, w, g);
     freed(&q, h, w)
 }
 
 // Whether every coefficient of y^0 is zero.
 pub fn constants_zero(p: &[u8; PLACES], h: usize, w: usize) -> bool
     requires { ⌜ (0 < h) × (w * h ≤ places) ⌝ }
-    ensures { λ r. ⌜ r ≡ constantsZero (polynomial sixteen h w (now (p .entry))) ⌝ }
+    ensures { λ r. ⌜ ConstantsZero h w (now (p .entry)) r ⌝ }
 {
     let mut a = 0;
     while a < w {

@@ -1,36 +1,23 @@
 -- Texts that are put one behind the other.
 -- Assumes nothing.
-use mathlib.Core.List.{List, [], _++_, map}
+use mathlib.Core.List.{List, [], _∷_, _++_, append-nil}
 use mathlib.Core.Path.{_≡_, refl, sym, _∙_, ap, subst}
 use Prim.Native.Nat.{ℕ, suc, _+_, _*_, _-_, _≤_, _<_}
 use native.Mathlib.Numerals.{add-one}
 use native.Mathlib.Omega.{arith}
-use lib.ListN.{length, take, drop, getD, set, length-append, length-drop, length-map}
-use lib.Seq.{length-take-le, take-all, take-at}
-use Rattle.definitions.proofs.Tools.{map-at}
-use Rattle.definitions.specs.Field.{sixteen}
-use Rattle.memory.proofs.Laid.{length-laid, laid-none, laid-turned, laid-behind, laid-within, laid-front}
+use lib.ListN.{length, take, drop, getD, length-append, length-drop}
+use lib.Seq.{length-take-le, take-all, take-at, take-suc}
+use Rattle.alphabet.specs.Codes.{mostPositions}
+use Rattle.definitions.proofs.Joined.{join-nil, join-cons, join-append}
+use Rattle.definitions.specs.Field.{Code}
+use Rattle.memory.proofs.Laid.{length-laid, laid-none, laid-behind, laid-within, laid-front}
 use Rattle.memory.specs.Laid.{laid}
 use Rattle.text.specs.Rooms.{rowRoom, longestRowRoom}
-use Rattle.text.specs.Text.{Puts, hexDigit, rowLine, lineOf, rowLines}
+use Rattle.text.specs.Text.{Puts, symbolText, messageText, rowLine, lineOf, rowLines}
 
 -- words that are laid are put
 pub puts : (out after words : List ℕ) (at : ℕ) → at + length words ≤ length out → after ≡ laid out at words → Puts out at words (at + length words) after
 puts out after words at fits e = (refl, ap length e ∙ length-laid out at words fits, e)
-
--- a loop that puts the digit of one symbol after the other: a turn, and its end
-pub digit-turned : (out message now : List ℕ) (at j x : ℕ) → at + j < length out → j < length message → now ≡ laid out at (take j (map hexDigit message))
-    → x ≡ hexDigit (getD message j 0) → set now (at + j) x ≡ laid out at (take (j + 1) (map hexDigit message))
-digit-turned out message now at j x h l e ex =
-    let size : length (map hexDigit message) ≡ length message = length-map message hexDigit in
-    laid-turned out (map hexDigit message) now at j x h (omega arith) e (ex ∙ sym (map-at hexDigit message j 0 0 l))
-
-pub digits-put : (out message now : List ℕ) (at j : ℕ) → at + length message ≤ length out → j ≡ length message → now ≡ laid out at (take j (map hexDigit message))
-    → Puts out at (map hexDigit message) (at + length message) now
-digits-put out message now at j fits ej e =
-    let size : length (map hexDigit message) ≡ length message = length-map message hexDigit in
-    let all : take j (map hexDigit message) ≡ map hexDigit message = take-all j (map hexDigit message) (omega arith) in
-    subst (λ (n : ℕ). Puts out at (map hexDigit message) (at + n) now) size (puts out now (map hexDigit message) at (omega arith) (e ∙ ap (laid out at) all))
 
 -- words behind words, in the promises
 pub puts-more : (out middle after u w : List ℕ) (at end last : ℕ) → at ≤ length out → Puts out at u end middle → Puts middle end w last after
@@ -44,35 +31,54 @@ puts-more out middle after u w at end last h p q =
       q .2 ∙ ap (λ (m : List ℕ). laid m end w) (p .2) ∙ laid-behind out at u w end h e,
     )
 
+-- the text of a message, symbol after symbol: no symbol, and one more
+pub text-begun : (C : Code) (message out : List ℕ) (at : ℕ) → Puts out at (messageText C (take 0 message)) at out
+text-begun C message out at = rw (join-nil (symbolText C)) (omega arith, refl, laid-none out at)
+
+pub text-more : (C : Code) (message out middle after : List ℕ) (at end last j : ℕ) → at ≤ length out → j < length message
+    → Puts out at (messageText C (take j message)) end middle → Puts middle end (symbolText C (getD message j 0)) last after
+    → Puts out at (messageText C (take (j + 1) message)) last after
+text-more C message out middle after at end last j h l p q =
+    let x = getD message j 0 in
+    let one : messageText C (x ∷ []) ≡ symbolText C x = join-cons (symbolText C) x [] ∙ ap (λ (u : List ℕ). symbolText C x ++ u) (join-nil (symbolText C)) ∙ append-nil (symbolText C x) in
+    let e : messageText C (take (j + 1) message) ≡ messageText C (take j message) ++ symbolText C x =
+    ap (λ (n : ℕ). messageText C (take n message)) (add-one j) ∙ ap (messageText C) (take-suc message j 0 l)
+    ∙ join-append (symbolText C) (take j message) (x ∷ []) ∙ ap (λ (u : List ℕ). messageText C (take j message) ++ u) one in
+    subst (λ (w : List ℕ). Puts out at w last after) (sym e) (puts-more out middle after (messageText C (take j message)) (symbolText C x) at end last h p q)
+
+pub text-whole : (C : Code) (message out after : List ℕ) (at end j : ℕ) → j ≡ length message → Puts out at (messageText C (take j message)) end after
+    → Puts out at (messageText C message) end after
+text-whole C message out after at end j e p = subst (λ (l : List ℕ). Puts out at (messageText C l) end after) (take-all j message (omega arith)) p
+
 -- the lines of rows: no row, and one row more
-module _ (k : ℕ) (rows scores : List ℕ) where
-  pub none-lines : rowLines k rows scores 0 ≡ []
+module _ (C : Code) (k : ℕ) (rows scores : List ℕ) where
+  pub none-lines : rowLines C k rows scores 0 ≡ []
   unfolding rowLines
   none-lines = refl
 
-  pub more-lines : (j : ℕ) → rowLines k rows scores (suc j) ≡ rowLines k rows scores j ++ lineOf k rows scores j
+  pub more-lines : (j : ℕ) → rowLines C k rows scores (suc j) ≡ rowLines C k rows scores j ++ lineOf C k rows scores j
   unfolding rowLines
   more-lines j = refl
 
-  pub lines-begun : (out : List ℕ) (at : ℕ) → Puts out at (rowLines k rows scores 0) at out
+  pub lines-begun : (out : List ℕ) (at : ℕ) → Puts out at (rowLines C k rows scores 0) at out
   lines-begun out at = rw none-lines (omega arith, refl, laid-none out at)
 
-  pub lines-more : (out middle after : List ℕ) (at end last j : ℕ) → at ≤ length out → Puts out at (rowLines k rows scores j) end middle
-      → Puts middle end (lineOf k rows scores j) last after → Puts out at (rowLines k rows scores (j + 1)) last after
+  pub lines-more : (out middle after : List ℕ) (at end last j : ℕ) → at ≤ length out → Puts out at (rowLines C k rows scores j) end middle
+      → Puts middle end (lineOf C k rows scores j) last after → Puts out at (rowLines C k rows scores (j + 1)) last after
   lines-more out middle after at end last j h p q =
-      let e : rowLines k rows scores (j + 1) ≡ rowLines k rows scores j ++ lineOf k rows scores j = ap (λ (n : ℕ). rowLines k rows scores n) (add-one j) ∙ more-lines j in
-      subst (λ (w : List ℕ). Puts out at w last after) (sym e) (puts-more out middle after (rowLines k rows scores j) (lineOf k rows scores j) at end last h p q)
+      let e : rowLines C k rows scores (j + 1) ≡ rowLines C k rows scores j ++ lineOf C k rows scores j = ap (λ (n : ℕ). rowLines C k rows scores n) (add-one j) ∙ more-lines j in
+      subst (λ (w : List ℕ). Puts out at w last after) (sym e) (puts-more out middle after (rowLines C k rows scores j) (lineOf C k rows scores j) at end last h p q)
 
   -- a row is the part of the memory that was lent
-  pub row-put : (out after : List ℕ) (at j score end : ℕ) → k ≤ sixteen .positions → score ≡ getD scores j 0 → k * j + k ≤ length rows
-      → Puts out at (rowLine score (take (k * j + k - k * j) (drop (k * j) rows))) end after
-      → end ≤ at + rowRoom (length (take (k * j + k - k * j) (drop (k * j) rows))) → Puts out at (lineOf k rows scores j) end after × (end ≤ at + longestRowRoom)
+  pub row-put : (out after : List ℕ) (at j score end : ℕ) → k ≤ mostPositions → score ≡ getD scores j 0 → k * j + k ≤ length rows
+      → Puts out at (rowLine C score (take (k * j + k - k * j) (drop (k * j) rows))) end after
+      → end ≤ at + rowRoom (length (take (k * j + k - k * j) (drop (k * j) rows))) → Puts out at (lineOf C k rows scores j) end after × (end ≤ at + longestRowRoom)
   row-put out after at j score end hk es h p l =
       let size : k * j + k - k * j ≡ k = omega arith in
       let rest = length-drop (k * j) rows in
       let long : length (take k (drop (k * j) rows)) ≡ k = length-take-le k (drop (k * j) rows) (omega arith) in
-      let same : rowLine score (take (k * j + k - k * j) (drop (k * j) rows)) ≡ lineOf k rows scores j =
-      ap (λ (n : ℕ). rowLine score (take n (drop (k * j) rows))) size ∙ ap (λ (s : ℕ). rowLine s (take k (drop (k * j) rows))) es in
+      let same : rowLine C score (take (k * j + k - k * j) (drop (k * j) rows)) ≡ lineOf C k rows scores j =
+      ap (λ (n : ℕ). rowLine C score (take n (drop (k * j) rows))) size ∙ ap (λ (s : ℕ). rowLine C s (take k (drop (k * j) rows))) es in
       let end-size : length (take (k * j + k - k * j) (drop (k * j) rows)) ≡ k = ap (λ (n : ℕ). length (take n (drop (k * j) rows))) size ∙ long in
       (subst (λ (w : List ℕ). Puts out at w end after) same p, omega arith)
 

@@ -1,7 +1,7 @@
 -- What a text tells: a blank or a line feed ends a word of digits, and the digits tell the number or the message that they were written for.
 -- Assumes nothing.
 use mathlib.Core.Bool.{cond}
-use mathlib.Core.List.{List, [], _∷_, _++_, map, append-assoc, append-cancel-left, head-eq-of-cons-eq, tail-eq-of-cons-eq, List·Memᴰ, List·Memᴰ·head, List·Memᴰ·tail, List·Memᴰ·not-nil, List·Memᴰ·append-cases, List·Memᴰ·eq-of-singleton, Memᴰ·of-map}
+use mathlib.Core.List.{List, [], _∷_, _++_, append-assoc, append-cancel-left, head-eq-of-cons-eq, tail-eq-of-cons-eq, List·Memᴰ, List·Memᴰ·head, List·Memᴰ·tail, List·Memᴰ·not-nil, List·Memᴰ·append-cases, List·Memᴰ·eq-of-singleton}
 use mathlib.Core.Logic.{⊎-elim}
 use mathlib.Core.Path.{_≡_, refl, sym, _∙_, ap, ap₂}
 use Prim.Native.Nat.{ℕ, zero, suc, _+_, _*_, _-_, _/_, _%_, _≤_, _<_}
@@ -9,12 +9,15 @@ use native.Mathlib.Decide.{decLt}
 use native.Mathlib.Omega.{arith}
 use borrow.Author.Tests.{ltb-true, ltb-false, lt-ltb, le-ltb}
 use lib.Dec.{ltb}
-use lib.ListN.{drop}
+use lib.ListN.{length, drop}
+use Rattle.alphabet.specs.Codes.{codeOn}
+use Rattle.alphabet.specs.declared.Alphabet.the-variants.{Sixteen, ThirtyTwo}
+use Rattle.alphabet.specs.declared.Alphabet.{Alphabet}
+use Rattle.definitions.proofs.Joined.{join-nil, join-cons}
 use Rattle.definitions.proofs.Tools.{split}
 use Rattle.definitions.specs.Code.{Symbols}
-use Rattle.definitions.specs.Field.{sixteen}
 use Rattle.text.proofs.Decimal.{within-none, within-one, within-more}
-use Rattle.text.specs.Text.{hexDigit, decimalWithin, decimal, listedWord, scoreWord, messageWord, refusedWord, atWord, lineFeed, listedLine, rowLine, refusedLine}
+use Rattle.text.specs.Text.{hexDigit, symbolText, messageText, decimalWithin, decimal, listedWord, scoreWord, messageWord, refusedWord, atWord, lineFeed, listedLine, rowLine, refusedLine}
 
 -- no code is below that of the digit 0: neither a blank's nor a line feed's
 abbrev Digits : List ℕ → Type 0
@@ -86,27 +89,63 @@ decimal-told x y e = sym (read-within (suc x) x (omega arith)) ∙ ap (readOnto 
 hex-least : (x : ℕ) → 48 ≤ hexDigit x
 hex-least x = split (ltb (x % 16) 10) (λ t. rw t (omega arith)) (λ f. rw f (omega arith))
 
-hex-digits : (f : List ℕ) → Digits (map hexDigit f)
-hex-digits f d m = let (x, _, e) = Memᴰ·of-map hexDigit f m in let least = hex-least x in omega arith
+symbol-digits : (w : Alphabet) (x : ℕ) → Digits (symbolText (codeOn w) x)
+symbol-digits Sixteen x d m = let e = List·Memᴰ·eq-of-singleton m in let least = hex-least x in omega arith
+symbol-digits ThirtyTwo x d m =
+    ⊎-elim (λ a. let e = List·Memᴰ·eq-of-singleton a in let least = hex-least (x / 16) in omega arith)
+    (λ b. let e = List·Memᴰ·eq-of-singleton b in let least = hex-least x in omega arith)
+    (List·Memᴰ·append-cases (hexDigit (x / 16) ∷ []) m)
 
--- the symbol that it says
+message-digits : (w : Alphabet) (f : List ℕ) → Digits (messageText (codeOn w) f)
+message-digits w [] d m = absurd (List·Memᴰ·not-nil (rw (join-nil (symbolText (codeOn w))) at m))
+message-digits w (x ∷ f) d m =
+    ⊎-elim (symbol-digits w x d) (message-digits w f d)
+    (List·Memᴰ·append-cases (symbolText (codeOn w) x) (rw (join-cons (symbolText (codeOn w)) x f) at m))
+
+-- what a digit says
 symbolOf : ℕ → ℕ
 symbolOf d = cond (ltb d 58) (d - 48) (d - 87)
 
-symbol-told : (x : ℕ) → x < sixteen .symbols → symbolOf (hexDigit x) ≡ x
+digit-back : (x : ℕ) → symbolOf (hexDigit x) ≡ x % 16
 unfolding symbolOf
-symbol-told x h =
+digit-back x =
     split (ltb (x % 16) 10)
     (λ t. let low = ltb-true (x % 16) 10 t in rw (t, lt-ltb (48 + x % 16) 58 (omega arith)) (omega arith))
     (λ f. let high = ltb-false (x % 16) 10 f in rw (f, le-ltb (87 + x % 16) 58 (omega arith)) (omega arith))
 
--- the digits of a message say it
-message-back : (f : List ℕ) → Symbols sixteen f → map symbolOf (map hexDigit f) ≡ f
-message-back [] s = refl
-message-back (x ∷ f) s = ap₂ _∷_ (symbol-told x (s 0)) (message-back f (λ j. s (suc j)))
+digit-told : (x y : ℕ) → hexDigit x ≡ hexDigit y → x % 16 ≡ y % 16
+digit-told x y e = sym (digit-back x) ∙ ap symbolOf e ∙ digit-back y
 
-message-told : (f g : List ℕ) → Symbols sixteen f → Symbols sixteen g → map hexDigit f ≡ map hexDigit g → f ≡ g
-message-told f g s t e = sym (message-back f s) ∙ ap (map symbolOf) e ∙ message-back g t
+-- the digits of a symbol, in front of others, say it
+symbol-told : (w : Alphabet) (x y : ℕ) (u v : List ℕ) → x < codeOn w .symbols → y < codeOn w .symbols → symbolText (codeOn w) x ++ u ≡ symbolText (codeOn w) y ++ v
+    → (x ≡ y) × (u ≡ v)
+symbol-told Sixteen x y u v hx hy e = let a = digit-told x y (head-eq-of-cons-eq e) in (omega arith, tail-eq-of-cons-eq e)
+symbol-told ThirtyTwo x y u v hx hy e =
+    let t = tail-eq-of-cons-eq e in
+    let a = digit-told (x / 16) (y / 16) (head-eq-of-cons-eq e) in
+    let b = digit-told x y (head-eq-of-cons-eq t) in
+    (omega arith, tail-eq-of-cons-eq t)
+
+-- and are not nothing
+symbol-there : (w : Alphabet) (x : ℕ) (u : List ℕ) → 0 < length (symbolText (codeOn w) x ++ u)
+symbol-there Sixteen x u = omega arith
+symbol-there ThirtyTwo x u = omega arith
+
+-- the digits of a message say it
+message-told : (w : Alphabet) (f g : List ℕ) → Symbols (codeOn w) f → Symbols (codeOn w) g → messageText (codeOn w) f ≡ messageText (codeOn w) g → f ≡ g
+message-told w [] [] s t e = refl
+message-told w [] (y ∷ g) s t e =
+    let n : 0 ≡ length (symbolText (codeOn w) y ++ messageText (codeOn w) g) = ap length (sym (join-nil (symbolText (codeOn w))) ∙ e ∙ join-cons (symbolText (codeOn w)) y g) in
+    let h = symbol-there w y (messageText (codeOn w) g) in
+    let z : ⊥ = omega arith in absurd z
+message-told w (x ∷ f) [] s t e =
+    let n : 0 ≡ length (symbolText (codeOn w) x ++ messageText (codeOn w) f) = ap length (sym (join-nil (symbolText (codeOn w))) ∙ sym e ∙ join-cons (symbolText (codeOn w)) x f) in
+    let h = symbol-there w x (messageText (codeOn w) f) in
+    let z : ⊥ = omega arith in absurd z
+message-told w (x ∷ f) (y ∷ g) s t e =
+    let (heads, tails) = symbol-told w x y (messageText (codeOn w) f) (messageText (codeOn w) g) (s 0) (t 0)
+    (sym (join-cons (symbolText (codeOn w)) x f) ∙ e ∙ join-cons (symbolText (codeOn w)) y g) in
+    ap₂ _∷_ heads (message-told w f g (λ j. s (suc j)) (λ j. t (suc j)) tails)
 
 -- ---- lines
 
@@ -127,12 +166,12 @@ module _ (name between : List ℕ) where
       (first, second, behind)
 
 -- the line of a row tells its score and its message
-pub row-told : (s t : ℕ) (f g rest other : List ℕ) → Symbols sixteen f → Symbols sixteen g → rowLine s f ++ rest ≡ rowLine t g ++ other
-    → (s ≡ t) × (f ≡ g) × (rest ≡ other)
-row-told s t f g rest other sf sg e =
-    let (scores, messages, behind) = two-told scoreWord (drop 1 messageWord) (decimal s) (map hexDigit f) (decimal t) (map hexDigit g) rest other
-    (decimal-digits s) (hex-digits f) (decimal-digits t) (hex-digits g) e in
-    (decimal-told s t scores, message-told f g sf sg messages, behind)
+pub row-told : (w : Alphabet) (s t : ℕ) (f g rest other : List ℕ) → Symbols (codeOn w) f → Symbols (codeOn w) g
+    → rowLine (codeOn w) s f ++ rest ≡ rowLine (codeOn w) t g ++ other → (s ≡ t) × (f ≡ g) × (rest ≡ other)
+row-told w s t f g rest other sf sg e =
+    let (scores, messages, behind) = two-told scoreWord (drop 1 messageWord) (decimal s) (messageText (codeOn w) f) (decimal t) (messageText (codeOn w) g) rest other
+    (decimal-digits s) (message-digits w f) (decimal-digits t) (message-digits w g) e in
+    (decimal-told s t scores, message-told w f g sf sg messages, behind)
 
 -- the line of a refusal tells its number and its place
 pub refused-told : (number place other at : ℕ) → refusedLine number place ≡ refusedLine other at → (number ≡ other) × (place ≡ at)

@@ -2,7 +2,7 @@
 -- Assumes nothing.
 use Prim.Native.Nat.{ℕ, _+_, _*_}
 use lib.ListN.{length}
-use Rattle.definitions.specs.Field.{sixteen}
+use Rattle.alphabet.specs.Codes.{mostPositions}
 use Rattle.definitions.specs.Limits.{greatestRows}
 use Rattle.text.specs.Text.{listedWord, scoreWord, messageWord, refusedWord, atWord, lineFeed}
 
@@ -18,12 +18,12 @@ listedRoom = length listedWord + greatestDigits + length lineFeed
 abbrev pub refusedRoom : ℕ
 refusedRoom = length refusedWord + greatestDigits + length atWord + greatestDigits + length lineFeed
 
--- the line of a row of k symbols, of the longest row, and of as many as there can be
+-- the line of a row of k symbols of the greater alphabet, of the longest row, and of as many as there can be
 abbrev pub rowRoom : ℕ → ℕ
-rowRoom k = length scoreWord + greatestDigits + length messageWord + k + length lineFeed
+rowRoom k = length scoreWord + greatestDigits + length messageWord + 2 * k + length lineFeed
 
 abbrev pub longestRowRoom : ℕ
-longestRowRoom = rowRoom (sixteen .positions)
+longestRowRoom = rowRoom mostPositions
 
 abbrev pub rowsRoom : ℕ
 rowsRoom = greatestRows * longestRowRoom

@@ -1,16 +1,25 @@
 -- What the program writes: numbers and rows as text. A text is the list of its ASCII codes.
 -- Assumes nothing.
 use mathlib.Core.Bool.{cond}
-use mathlib.Core.List.{List, [], _∷_, _++_, map}
+use mathlib.Core.List.{List, [], _∷_, _++_, flatMap}
 use mathlib.Core.Path.{_≡_}
 use Prim.Native.Nat.{ℕ, zero, suc, _+_, _*_, _/_, _%_}
 use lib.Dec.{ltb}
 use lib.ListN.{length, take, drop, getD}
+use Rattle.definitions.specs.Field.{Code}
 use Rattle.memory.specs.Laid.{laid}
 
--- the last hexadecimal digit of a number, "lower case": a symbol has no other
+-- the last hexadecimal digit of a number, "lower case"
 abbrev pub hexDigit : ℕ → ℕ
 hexDigit x = cond (ltb (x % 16) 10) (48 + x % 16) (87 + x % 16)
+
+-- one digit says each of sixteen symbols; of thirty-two "each symbol as two hexadecimal digits" (document 02, order 13)
+abbrev pub symbolText : Code → ℕ → List ℕ
+symbolText C x = cond (ltb 16 (C .symbols)) (hexDigit (x / 16) ∷ hexDigit x ∷ []) (hexDigit x ∷ [])
+
+-- of a message, f₀ first
+abbrev pub messageText : Code → List ℕ → List ℕ
+messageText C f = flatMap (symbolText C) f
 
 -- a number in decimal, of at most w digits
 unfoldable pub decimalWithin : ℕ → ℕ → List ℕ
@@ -44,17 +53,18 @@ lineFeed = 10 ∷ []
 abbrev pub listedLine : ℕ → List ℕ
 listedLine count = listedWord ++ decimal count ++ lineFeed
 
--- "`score S message H`, H being k hexadecimal digits, lower case, f₀ first"
-abbrev pub rowLine : ℕ → List ℕ → List ℕ
-rowLine score message = scoreWord ++ decimal score ++ messageWord ++ map hexDigit message ++ lineFeed
+module _ (C : Code) where
+  -- "`score S message H`, H being k hexadecimal digits, lower case, f₀ first"
+  abbrev pub rowLine : ℕ → List ℕ → List ℕ
+  rowLine score message = scoreWord ++ decimal score ++ messageWord ++ messageText C message ++ lineFeed
 
--- the line of row j of k symbols that lie one after the other, and the lines of the first rows
-abbrev pub lineOf : ℕ → List ℕ → List ℕ → ℕ → List ℕ
-lineOf k rows scores j = rowLine (getD scores j 0) (take k (drop (k * j) rows))
+  -- the line of row j of k symbols that lie one after the other, and the lines of the first rows
+  abbrev pub lineOf : ℕ → List ℕ → List ℕ → ℕ → List ℕ
+  lineOf k rows scores j = rowLine (getD scores j 0) (take k (drop (k * j) rows))
 
-unfoldable pub rowLines : ℕ → List ℕ → List ℕ → ℕ → List ℕ
-rowLines k rows scores zero = []
-rowLines k rows scores (suc j) = rowLines k rows scores j ++ lineOf k rows scores j
+  unfoldable pub rowLines : ℕ → List ℕ → List ℕ → ℕ → List ℕ
+  rowLines k rows scores zero = []
+  rowLines k rows scores (suc j) = rowLines k rows scores j ++ lineOf k rows scores j
 
 -- "or `refused R at P`"
 abbrev pub refusedLine : ℕ → ℕ → List ℕ

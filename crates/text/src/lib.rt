@@ -1,15 +1,15 @@
 // Numbers and rows as text: text is put in memory at a place, and the place where it ends is answered.
-ghost use mathlib.Core.List.{map};
 ghost use mathlib.Core.Path.{_≡_};
 ghost use Prim.Native.Nat.{_+_, _*_, _≤_, _<_};
 ghost use lib.ListN.{length};
-ghost use Rattle.definitions.specs.Field.{sixteen};
+ghost use Rattle.alphabet.specs.Codes.{codeOn};
 ghost use Rattle.definitions.specs.Limits.{greatestRows};
 ghost use Rattle.text.specs.Rooms.{greatestDigits, listedRoom, refusedRoom, rowRoom, longestRowRoom, rowsRoom};
-ghost use Rattle.text.specs.Text.{hexDigit, decimal, listedLine, rowLine, refusedLine, lineOf, rowLines, Puts};
+ghost use Rattle.text.specs.Text.{hexDigit, symbolText, messageText, decimal, listedLine, rowLine, refusedLine, lineOf, rowLines, Puts};
 
 pub mod rooms;
 
+use alphabet::Alphabet;
 use rooms::AT_WORD;
 use rooms::GREATEST_DIGITS;
 use rooms::LINE_FEED;
@@ -58,16 +58,33 @@ fn digit(x: u8) -> u8
     LETTERS + last
 }
 
-fn put_digits(out: &mut [u8], at: usize, message: &[u8]) -> usize
-    requires { ⌜ at + length (now message) ≤ length (now out) ⌝ }
-    ensures { λ r. ⌜ Puts (now (out .entry)) at (map hexDigit (now (message .entry))) r (now (out .exit)) ⌝ }
+// One digit of sixteen symbols, two of thirty-two.
+fn put_symbol(alphabet: Alphabet, out: &mut [u8], at: usize, x: u8) -> usize
+    requires { ⌜ at + 2 ≤ length (now out) ⌝ }
+    ensures text { λ r. ⌜ Puts (now (out .entry)) at (symbolText (codeOn alphabet) x) r (now (out .exit)) ⌝ }
+    ensures short { λ r. ⌜ r ≤ at + 2 ⌝ }
 {
+    if let Alphabet::ThirtyTwo = alphabet {
+        let first = digit(x / BASE);
+        let two = [first, digit(x)];
+        return put(out, at, &two);
+    }
+    let one = [digit(x)];
+    put(out, at, &one)
+}
+
+fn put_symbols(alphabet: Alphabet, out: &mut [u8], at: usize, message: &[u8]) -> usize
+    requires { ⌜ at + 2 * length (now message) ≤ length (now out) ⌝ }
+    ensures text { λ r. ⌜ Puts (now (out .entry)) at (messageText (codeOn alphabet) (now (message .entry))) r (now (out .exit)) ⌝ }
+    ensures short { λ r. ⌜ r ≤ at + 2 * length (now (message .entry)) ⌝ }
+{
+    let mut end = at;
     let mut j = 0;
     while j < message.len() {
-        out[at + j] = digit(message[j]);
+        end = put_symbol(alphabet, out, end, message[j]);
         j += 1;
     }
-    at + message.len()
+    end
 }
 
 // The line that says how many rows are listed.
@@ -94,15 +111,15 @@ pub fn put_refused(out: &mut [u8], at: usize, number: usize, place: usize) -> us
 }
 
 // The line of a row.
-pub fn put_row(out: &mut [u8], at: usize, score: usize, message: &[u8]) -> usize
+pub fn put_row(alphabet: Alphabet, out: &mut [u8], at: usize, score: usize, message: &[u8]) -> usize
     requires { ⌜ at + rowRoom (length (now message)) ≤ length (now out) ⌝ }
-    ensures text { λ r. ⌜ Puts (now (out .entry)) at (rowLine score (now (message .entry))) r (now (out .exit)) ⌝ }
+    ensures text { λ r. ⌜ Puts (now (out .entry)) at (rowLine (codeOn alphabet) score (now (message .entry))) r (now (out .exit)) ⌝ }
     ensures short { λ r. ⌜ r ≤ at + rowRoom (length (now (message .entry))) ⌝ }
 {
     let named = put(out, at, &SCORE_WORD);
     let scored = put_decimal(out, named, score);
     let joined = put(out, scored, &MESSAGE_WORD);
-    let written = put_digits(out, joined, message);
+    let written = put_symbols(alphabet, out, joined, message);
     put(out, written, &LINE_FEED)
 }
 
@@ -113,19 +130,28 @@ fn full(score: u16) -> usize
 }
 
 // The line of row j of k symbols.
-fn put_row_of(out: &mut [u8], at: usize, k: usize, j: usize, rows: &[u8], scores: &[u16]) -> usize
-    requires { ⌜ (k ≤ sixteen .positions) × (j < greatestRows) × (k * j + k ≤ length (now rows)) × (j < length (now scores)) × (at + longestRowRoom ≤ length (now out)) ⌝ }
-    ensures text { λ r. ⌜ Puts (now (out .entry)) at (lineOf k (now (rows .entry)) (now (scores .entry)) j) r (now (out .exit)) ⌝ }
+fn put_row_of(
+    alphabet: Alphabet,
+    out: &mut [u8],
+    at: usize,
+    k: usize,
+    j: usize,
+    rows: &[u8],
+    scores: &[u16],
+) -> usize
+    requires { ⌜ (k ≤ codeOn alphabet .positions) × (j < greatestRows) × (k * j + k ≤ length (now rows)) × (j < length (now scores)) × (at + longestRowRoom ≤ length (now out)) ⌝ }
+    ensures text { λ r. ⌜ Puts (now (out .entry)) at (lineOf (codeOn alphabet) k (now (rows .entry)) (now (scores .entry)) j) r (now (out .exit)) ⌝ }
     ensures short { λ r. ⌜ r ≤ at + longestRowRoom ⌝ }
 {
     let from = k * j;
     let to = from + k;
     let score = full(scores[j]);
-    put_row(out, at, score, &rows[from..to])
+    put_row(alphabet, out, at, score, &rows[from..to])
 }
 
 // The lines of the first `count` rows of k symbols.
 pub fn put_rows(
+    alphabet: Alphabet,
     out: &mut [u8],
     at: usize,
     k: usize,
@@ -133,13 +159,13 @@ pub fn put_rows(
     rows: &[u8],
     scores: &[u16],
 ) -> usize
-    requires { ⌜ (k ≤ sixteen .positions) × (count ≤ greatestRows) × (k * count ≤ length (now rows)) × (count ≤ length (now scores)) × (at + rowsRoom ≤ length (now out)) ⌝ }
-    ensures { λ r. ⌜ Puts (now (out .entry)) at (rowLines k (now (rows .entry)) (now (scores .entry)) count) r (now (out .exit)) ⌝ }
+    requires { ⌜ (k ≤ codeOn alphabet .positions) × (count ≤ greatestRows) × (k * count ≤ length (now rows)) × (count ≤ length (now scores)) × (at + rowsRoom ≤ length (now out)) ⌝ }
+    ensures { λ r. ⌜ Puts (now (out .entry)) at (rowLines (codeOn alphabet) k (now (rows .entry)) (now (scores .entry)) count) r (now (out .exit)) ⌝ }
 {
     let mut end = at;
     let mut j = 0;
     while j < count {
-        end = put_row_of(out, end, k, j, rows, scores);
+        end = put_row_of(alphabet, out, end, k, j, rows, scores);
         j += 1;
     }
     end

@@ -1,6 +1,6 @@
 // The words of the lines, and the most bytes that each line takes.
+use alphabet::MOST_POSITIONS;
 use refusals::limits::GREATEST_ROWS;
-use refusals::limits::POSITIONS;
 
 pub const LISTED_WORD: [u8; 7] = *b"listed ";
 
@@ -19,11 +19,11 @@ pub const GREATEST_DIGITS: usize = 20;
 
 pub const LISTED_ROOM: usize = LISTED_WORD.len() + GREATEST_DIGITS + LINE_FEED.len();
 
-// The line of the longest row.
+// The line of the longest row, of two digits a symbol.
 pub const ROW_ROOM: usize = SCORE_WORD.len()
     + GREATEST_DIGITS
     + MESSAGE_WORD.len()
-    + POSITIONS
+    + 2 * MOST_POSITIONS
     + LINE_FEED.len();
 
 pub const ROWS_ROOM: usize = GREATEST_ROWS * ROW_ROOM;

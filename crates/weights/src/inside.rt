@@ -3,13 +3,12 @@ ghost use mathlib.Core.List.{_++_};
 ghost use mathlib.Core.Path.{_≡_};
 ghost use Prim.Native.Nat.{_≤_};
 ghost use lib.ListN.{length, drop};
-ghost use Rattle.definitions.specs.Field.{sixteen};
-ghost use Rattle.definitions.specs.Held.{places, heldOf, filled};
+ghost use Rattle.alphabet.specs.Codes.{codeOn, mostPlaces};
+ghost use Rattle.definitions.specs.Held.{places};
 ghost use Rattle.definitions.specs.Limits.{greatestLevel};
 ghost use Rattle.definitions.specs.Weights.{multiplicity, matrix};
-ghost use Rattle.matrix.specs.Record.{heldBy};
-use matrix::Matrix;
-use refusals::limits::ENTRIES;
+ghost use Rattle.edits.specs.Turned.{Turned};
+use alphabet::Alphabet;
 use refusals::limits::GREATEST_SUM;
 
 fn multiplicity_of(level: usize, reliability: u16) -> u8
@@ -31,12 +30,11 @@ pub fn multiplicities_into(level: usize, reliabilities: &[u16], out: &mut [u8])
     }
 }
 
-// The record of the matrix of the reliabilities.
-pub fn weighed(level: usize, reliabilities: &[u16], n: usize) -> Matrix
-    requires { ⌜ (level ≤ greatestLevel) × (length (now reliabilities) ≤ places sixteen) ⌝ }
-    ensures { λ r. ⌜ heldBy r ≡ heldOf sixteen n (filled sixteen (matrix level (now (reliabilities .entry)))) ⌝ }
+// Reliabilities are turned into the record of their multiplicities, whose entries stand in the room that is lent; answers its cost.
+pub fn weigh(alphabet: Alphabet, level: usize, reliabilities: &[u16], entries: &mut [u8]) -> usize
+    requires { ⌜ (level ≤ greatestLevel) × (length (now reliabilities) ≤ places (codeOn alphabet)) × (mostPlaces ≤ length (now entries)) ⌝ }
+    ensures { λ r. ⌜ Turned (matrix level (now (reliabilities .entry))) r (now (entries .exit)) ⌝ }
 {
-    let mut entries = [0u8; ENTRIES];
-    multiplicities_into(level, reliabilities, &mut entries);
-    matrix::counted(n, entries)
+    multiplicities_into(level, reliabilities, entries);
+    edits::turn_in_place(alphabet, reliabilities.len(), entries)
 }

@@ -1,5 +1,6 @@
 // Weights to multiplicities, and a matrix's cost and bound.
 ghost use mathlib.Core.Path.{_≡_};
+ghost use Rattle.alphabet.specs.Codes.{codeOn};
 ghost use Rattle.refusals.specs.Counted.{toldCounted};
 ghost use Rattle.definitions.specs.Answers.{multiplicitiesAnswer, multiplicitiesOut, costAnswer};
 ghost use Rattle.definitions.specs.Editing.{heldCostAnswer};
@@ -10,61 +11,72 @@ ghost use Rattle.weights.specs.Costed.{toldCosted};
 
 pub mod inside;
 
+use alphabet::Alphabet;
+use alphabet::MOST_PLACES;
 use matrix::Matrix;
 use refusals::Checked;
 use refusals::Counted;
 use refusals::Refusal;
 use refusals::limits::GREATEST_ENTRY;
-use refusals::limits::SYMBOLS;
 
 pub enum Costed {
     Of { cost: usize, bound: usize },
     Refused(Refusal),
 }
 
-pub fn multiplicities(n: usize, level: usize, reliabilities: &[u16], out: &mut [u8]) -> Counted
-    ensures answer { λ r. ⌜ toldCounted r ≡ multiplicitiesAnswer sixteen n level (now (reliabilities .entry)) (now (out .entry)) ⌝ }
-    ensures memory { λ _. ⌜ now (out .exit) ≡ multiplicitiesOut sixteen n level (now (reliabilities .entry)) (now (out .entry)) ⌝ }
+pub fn multiplicities(
+    alphabet: Alphabet,
+    n: usize,
+    level: usize,
+    reliabilities: &[u16],
+    out: &mut [u8],
+) -> Counted
+    ensures answer { λ r. ⌜ toldCounted r ≡ multiplicitiesAnswer (codeOn alphabet) n level (now (reliabilities .entry)) (now (out .entry)) ⌝ }
+    ensures memory { λ _. ⌜ now (out .exit) ≡ multiplicitiesOut (codeOn alphabet) n level (now (reliabilities .entry)) (now (out .entry)) ⌝ }
 {
-    let settled = Checked::size(n)
+    let settled = Checked::size(alphabet, n)
         .level(level)
-        .length(reliabilities.len(), SYMBOLS, n)
-        .room(out.len(), SYMBOLS, n);
-    let checked = columns::columns_checked(settled, reliabilities, n);
+        .entries(alphabet, reliabilities.len(), n)
+        .entries_room(alphabet, out.len(), n);
+    let checked = columns::columns_checked(alphabet, settled, reliabilities, n);
     if let Checked::Refused(r) = checked {
         return Counted::Refused(r);
     }
     inside::multiplicities_into(level, reliabilities, out);
-    Counted::Count(SYMBOLS * n)
+    Counted::Count(reliabilities.len())
 }
 
-pub fn cost_and_bound(n: usize, k: usize, matrix: &[u8]) -> Costed
-    ensures { λ r. ⌜ toldCosted r ≡ costAnswer sixteen n k (now (matrix .entry)) ⌝ }
+pub fn cost_and_bound(alphabet: Alphabet, n: usize, k: usize, matrix: &[u8]) -> Costed
+    ensures { λ r. ⌜ toldCosted r ≡ costAnswer (codeOn alphabet) n k (now (matrix .entry)) ⌝ }
 {
-    let checked = Checked::sizes(n, k)
-        .length(matrix.len(), SYMBOLS, n)
+    let checked = Checked::sizes(alphabet, n, k)
+        .entries(alphabet, matrix.len(), n)
         .symbols(GREATEST_ENTRY, matrix);
     if let Checked::Refused(r) = checked {
         return Costed::Refused(r);
     }
-    let m = matrix::of_bytes(n, matrix);
-    let cost = m.cost;
+    let mut entries = [0u8; MOST_PLACES];
+    let cost = edits::turn(alphabet, matrix, &mut entries);
     let bound = bound::bound(k - 1, cost);
     Costed::Of { cost, bound }
 }
 
 // Of a matrix record whose parts are lent.
 pub fn cost_and_bound_of_parts(
+    alphabet: Alphabet,
     n: usize,
     cost: usize,
     totals: &[u16],
     entries: &[u8],
     k: usize,
 ) -> Costed
-    ensures { λ r. ⌜ toldCosted r ≡ heldCostAnswer sixteen (held n cost (now (totals .entry)) (now (entries .entry))) k ⌝ }
+    ensures { λ r. ⌜ toldCosted r ≡ heldCostAnswer (codeOn alphabet) (held n cost (now (totals .entry)) (now (entries .entry))) k ⌝ }
 {
-    let checked = Checked::sizes(n, k)
-        .or(!matrix::rightly(n, cost, totals, entries), Refusal::Length)
+    let checked = Checked::sizes(alphabet, n, k)
+        .or(
+            !matrix::rightly(alphabet, n, cost, totals, entries),
+            Refusal::Length,
+        )
         .symbols(GREATEST_ENTRY, entries);
     if let Checked::Refused(r) = checked {
         return Costed::Refused(r);
@@ -78,5 +90,5 @@ pub fn cost_and_bound_of_matrix(m: Matrix, k: usize) -> Costed
 {
     let totals = m.totals;
     let entries = m.entries;
-    cost_and_bound_of_parts(m.n, m.cost, &totals, &entries, k)
+    cost_and_bound_of_parts(Alphabet::Sixteen, m.n, m.cost, &totals, &entries, k)
 }

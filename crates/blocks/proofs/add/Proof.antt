@@ -3,7 +3,7 @@ use mathlib.Core.Path.{_≡_, ap, ap₂, subst}
 use Prim.Native.Nat.{ℕ, _+_, _-_, _≤_, _<_}
 use native.Mathlib.Omega.{arith}
 use lib.ListN.{length, getD}
-use Rattle.definitions.specs.Field.{sixteen, sumOf}
+use Rattle.definitions.specs.Field.{sumOf}
 use Rattle.blocks.proofs.Blocks.{changed-none, changed-more}
 use Rattle.blocks.specs.Row.{block, Changed}
 use borrow.Author.Needs.{needs}
@@ -11,7 +11,7 @@ use Rattle.blocks.proofs.add.Statement.{statement}
 use Rattle.blocks.proofs.add.Tie as tie
 
 abbrev Inv-loop : tie.InvT-loop
-Inv-loop row₀ at part i₀ row i = (i ≤ block) × Changed at i (λ k. sixteen .plus (getD row₀ k 0) (getD part (k - at) 0)) row₀ row
+Inv-loop row₀ at part i₀ row i = (i ≤ block) × Changed at i (λ k. sumOf (getD row₀ k 0) (getD part (k - at) 0)) row₀ row
 
 abbrev μ-loop : tie.MeasureT-loop
 μ-loop row₀ at part i₀ row i = block - i
@@ -19,7 +19,7 @@ abbrev μ-loop : tie.MeasureT-loop
 loop-holds : tie.Need-loop-holds Inv-loop μ-loop
 loop-holds c =
     let a = c .args in
-    (omega arith, changed-none (a .at) (λ k. sixteen .plus (getD (a .row .now) k 0) (getD (a .part .now) (k - a .at) 0)) (a .row .now))
+    (omega arith, changed-none (a .at) (λ k. sumOf (getD (a .row .now) k 0) (getD (a .part .now) (k - a .at) 0)) (a .row .now))
 
 loop-again : tie.Need-loop-again Inv-loop μ-loop
 unfolding sumOf
@@ -30,8 +30,8 @@ loop-again c =
     let e : l .loop .i ≡ a .at + l .loop .i - a .at = omega arith in
     let d = l .loop .inv .1 in (
       omega arith,
-      changed-more (a .at) (l .loop .i) _ (λ k. sixteen .plus (getD (a .row .now) k 0) (getD (a .part .now) (k - a .at) 0)) (a .row .now) (l .loop .row) h d
-          (ap₂ (sixteen .plus) (d .patched .after (a .at + l .loop .i) (omega arith)) (ap (λ (k : ℕ). getD (a .part .now) k 0) e)),
+      changed-more (a .at) (l .loop .i) _ (λ k. sumOf (getD (a .row .now) k 0) (getD (a .part .now) (k - a .at) 0)) (a .row .now) (l .loop .row) h d
+          (ap₂ (sumOf) (d .patched .after (a .at + l .loop .i) (omega arith)) (ap (λ (k : ℕ). getD (a .part .now) k 0) e)),
     )
 
 returns : tie.Need-returns Inv-loop μ-loop
@@ -39,7 +39,7 @@ returns c =
     let l = c .before in
     let a = l .before .args in
     let e : l .loop .i ≡ block = omega arith in
-    subst (λ (n : ℕ). Changed (a .at) n (λ k. sixteen .plus (getD (a .row .now) k 0) (getD (a .part .now) (k - a .at) 0)) (a .row .now) (l .loop .row)) e (l .loop .inv .1)
+    subst (λ (n : ℕ). Changed (a .at) n (λ k. sumOf (getD (a .row .now) k 0) (getD (a .part .now) (k - a .at) 0)) (a .row .now) (l .loop .row)) e (l .loop .inv .1)
 
 pub add-spec : {M : Type 1} → statement M
 add-spec =

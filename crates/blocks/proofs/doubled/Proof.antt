@@ -3,7 +3,7 @@ use mathlib.Core.Path.{_≡_, refl, _∙_}
 use Prim.Native.Nat.{ℕ, _-_, _≤_, _<_}
 use native.Mathlib.Omega.{arith}
 use lib.ListN.{length, getD, replicate, length-set}
-use Rattle.definitions.specs.Field.{sixteen}
+use Rattle.alphabet.specs.Codes.{codeOn}
 use Rattle.blocks.proofs.Blocks.{front-none, front-more}
 use Rattle.blocks.specs.Row.{block, Front}
 use borrow.Author.Needs.{needs}
@@ -11,13 +11,13 @@ use Rattle.blocks.proofs.doubled.Statement.{statement}
 use Rattle.blocks.proofs.doubled.Tie as tie
 
 abbrev Inv-loop : tie.InvT-loop
-Inv-loop a times₀ i₀ times i = (i ≤ block) × (length times ≡ block) × Front i (λ (k : ℕ). sixteen .times 2 (getD a k 0)) times
+Inv-loop alphabet a times₀ i₀ times i = (i ≤ block) × (length times ≡ block) × Front i (λ (k : ℕ). codeOn alphabet .times 2 (getD a k 0)) times
 
 abbrev μ-loop : tie.MeasureT-loop
-μ-loop a times₀ i₀ times i = block - i
+μ-loop alphabet a times₀ i₀ times i = block - i
 
 loop-holds : tie.Need-loop-holds Inv-loop μ-loop
-loop-holds c = (omega arith, refl, front-none (λ k. sixteen .times 2 (getD (c .args .a .now) k 0)) (replicate block 0))
+loop-holds c = (omega arith, refl, front-none (λ k. codeOn (c .args .alphabet) .times 2 (getD (c .args .a .now) k 0)) (replicate block 0))
 
 twice-requires : tie.Need-twice-requires Inv-loop μ-loop
 twice-requires c κs =
@@ -31,7 +31,7 @@ loop-again c =
     let h : l .loop .i < length (l .loop .times) = omega arith in (
       omega arith,
       length-set (l .loop .times) (l .loop .i) _ ∙ l .loop .inv .1,
-      front-more (l .loop .i) _ (λ k. sixteen .times 2 (getD (a .a .now) k 0)) (l .loop .times) h (l .loop .inv .2) (c .twice .ensures),
+      front-more (l .loop .i) _ (λ k. codeOn (a .alphabet) .times 2 (getD (a .a .now) k 0)) (l .loop .times) h (l .loop .inv .2) (c .twice .ensures),
     )
 
 returns : tie.Need-returns Inv-loop μ-loop

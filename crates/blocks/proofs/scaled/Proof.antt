@@ -3,7 +3,7 @@ use mathlib.Core.Path.{_≡_, refl, _∙_}
 use Prim.Native.Nat.{ℕ, _-_, _≤_, _<_}
 use native.Mathlib.Omega.{arith}
 use lib.ListN.{length, getD, replicate, length-set}
-use Rattle.definitions.specs.Field.{sixteen}
+use Rattle.alphabet.specs.Codes.{codeOn}
 use Rattle.blocks.proofs.Blocks.{front-none, front-more}
 use Rattle.blocks.specs.Row.{block, Front}
 use borrow.Author.Needs.{needs}
@@ -11,29 +11,29 @@ use Rattle.blocks.proofs.scaled.Statement.{statement}
 use Rattle.blocks.proofs.scaled.Tie as tie
 
 abbrev Inv-loop : tie.InvT-loop
-Inv-loop table a u times₀ i₀ times i = (i ≤ block) × (length times ≡ block) × Front i (λ (k : ℕ). sixteen .times u (getD a k 0)) times
+Inv-loop alphabet table a u times₀ i₀ times i = (i ≤ block) × (length times ≡ block) × Front i (λ (k : ℕ). codeOn alphabet .times u (getD a k 0)) times
 
 abbrev μ-loop : tie.MeasureT-loop
-μ-loop table a u times₀ i₀ times i = block - i
+μ-loop alphabet table a u times₀ i₀ times i = block - i
 
 loop-holds : tie.Need-loop-holds Inv-loop μ-loop
 loop-holds c =
-    let a = c .args in
-    (omega arith, refl, front-none (λ k. sixteen .times (a .u) (getD (a .a .now) k 0)) (replicate block 0))
+    let a = c .before .args in
+    (omega arith, refl, front-none (λ k. codeOn (a .alphabet) .times (a .u) (getD (a .a .now) k 0)) (replicate block 0))
 
 look-requires : tie.Need-look-requires Inv-loop μ-loop
 look-requires c κs =
-    let s = c .before .before .before in
+    let s = c .before .before .before .before in
     (s .pre .0, (s .pre .1 .0, s .pre .1 .1 (c .before .before .loop .i) (omega arith)))
 
 loop-again : tie.Need-loop-again Inv-loop μ-loop
 loop-again c =
     let l = c .before .before .before in
-    let a = l .before .args in
+    let a = l .before .before .args in
     let h : l .loop .i < length (l .loop .times) = omega arith in (
       omega arith,
       length-set (l .loop .times) (l .loop .i) _ ∙ l .loop .inv .1,
-      front-more (l .loop .i) _ (λ k. sixteen .times (a .u) (getD (a .a .now) k 0)) (l .loop .times) h (l .loop .inv .2) (c .look .ensures),
+      front-more (l .loop .i) _ (λ k. codeOn (a .alphabet) .times (a .u) (getD (a .a .now) k 0)) (l .loop .times) h (l .loop .inv .2) (c .look .ensures),
     )
 
 returns : tie.Need-returns Inv-loop μ-loop

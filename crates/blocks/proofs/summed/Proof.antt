@@ -3,7 +3,7 @@ use mathlib.Core.Path.{_≡_, refl, _∙_}
 use Prim.Native.Nat.{ℕ, _-_, _≤_, _<_}
 use native.Mathlib.Omega.{arith}
 use lib.ListN.{length, getD, replicate, length-set}
-use Rattle.definitions.specs.Field.{sixteen, sumOf}
+use Rattle.definitions.specs.Field.{sumOf}
 use Rattle.blocks.proofs.Blocks.{front-none, front-more}
 use Rattle.blocks.specs.Row.{block, Front}
 use borrow.Author.Needs.{needs}
@@ -11,7 +11,7 @@ use Rattle.blocks.proofs.summed.Statement.{statement}
 use Rattle.blocks.proofs.summed.Tie as tie
 
 abbrev Inv-loop : tie.InvT-loop
-Inv-loop a b sum₀ i₀ sum i = (i ≤ block) × (length sum ≡ block) × Front i (λ (k : ℕ). sixteen .plus (getD a k 0) (getD b k 0)) sum
+Inv-loop a b sum₀ i₀ sum i = (i ≤ block) × (length sum ≡ block) × Front i (λ (k : ℕ). sumOf (getD a k 0) (getD b k 0)) sum
 
 abbrev μ-loop : tie.MeasureT-loop
 μ-loop a b sum₀ i₀ sum i = block - i
@@ -19,7 +19,7 @@ abbrev μ-loop : tie.MeasureT-loop
 loop-holds : tie.Need-loop-holds Inv-loop μ-loop
 loop-holds c =
     let a = c .args in
-    (omega arith, refl, front-none (λ k. sixteen .plus (getD (a .a .now) k 0) (getD (a .b .now) k 0)) (replicate block 0))
+    (omega arith, refl, front-none (λ k. sumOf (getD (a .a .now) k 0) (getD (a .b .now) k 0)) (replicate block 0))
 
 loop-again : tie.Need-loop-again Inv-loop μ-loop
 unfolding sumOf
@@ -29,7 +29,7 @@ loop-again c =
     let h : l .loop .i < length (l .loop .sum) = omega arith in (
       omega arith,
       length-set (l .loop .sum) (l .loop .i) _ ∙ l .loop .inv .1,
-      front-more (l .loop .i) _ (λ k. sixteen .plus (getD (a .a .now) k 0) (getD (a .b .now) k 0)) (l .loop .sum) h (l .loop .inv .2) refl,
+      front-more (l .loop .i) _ (λ k. sumOf (getD (a .a .now) k 0) (getD (a .b .now) k 0)) (l .loop .sum) h (l .loop .inv .2) refl,
     )
 
 returns : tie.Need-returns Inv-loop μ-loop

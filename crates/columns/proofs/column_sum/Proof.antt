@@ -1,63 +1,62 @@
 -- The loop has added up the first b reliabilities of the column.
-use Rattle.definitions.proofs.Loops.{sum-none, sum-more}
-use mathlib.Core.Path.{_≡_}
-use Prim.Native.Nat.{_*_, _-_, _≤_}
-use Rattle.definitions.specs.Field.{sixteen}
-use Rattle.definitions.specs.Tools.{sum}
-use Rattle.definitions.specs.Weights.{entry}
+use mathlib.Core.Path.{_≡_, _∙_, ap, ap₂}
+use Prim.Native.Nat.{ℕ, _+_, _*_, _-_, _≤_}
 use native.Mathlib.Omega.{arith}
 use borrow.Author.Needs.{needs}
+use lib.ListN.{length, getD}
+use Rattle.alphabet.proofs.Sizes.{sized}
+use Rattle.definitions.proofs.Loops.{sum-none, sum-more}
+use Rattle.definitions.specs.Tools.{sum}
 use Rattle.columns.proofs.column_sum.Statement.{statement}
 use Rattle.columns.proofs.column_sum.Tie as tie
 
 abbrev Inv-loop : tie.InvT-loop
-Inv-loop reliabilities i total₀ b₀ total b = (b ≤ sixteen .symbols) × (total ≡ sum b (entry sixteen reliabilities i)) × (total ≤ 65535 * b)
+Inv-loop reliabilities i symbols first total₀ b₀ total b = (b ≤ symbols) × (total ≡ sum b (λ (j : ℕ). getD reliabilities (first + j) 0)) × (total ≤ 65535 * b)
 
 abbrev μ-loop : tie.MeasureT-loop
-μ-loop reliabilities i total₀ b₀ total b = sixteen .symbols - b
+μ-loop reliabilities i symbols first total₀ b₀ total b = symbols - b
+
+-- the column begins, and ends, within the reliabilities
+column : (c : tie.After-symbols Inv-loop μ-loop) → (let s = c .before .before in c .symbols .result * s .args .i + c .symbols .result ≤ length (s .args .reliabilities .now)) × (c .symbols .result ≤ 32)
+column c =
+    let s = c .before .before in
+    let e = c .symbols .ensures in
+    let f = ap (λ (q : ℕ). q * s .args .i) e in
+    let most = sized (s .args .alphabet) .most in
+    (omega arith, omega arith)
+
+mul-first : tie.Need-mul-first Inv-loop μ-loop
+mul-first c = let h = column c in omega arith
 
 loop-holds : tie.Need-loop-holds Inv-loop μ-loop
-loop-holds c = (omega arith, sum-none (entry sixteen (c .before .args .reliabilities .now) (c .before .args .i)), omega arith)
-
-mul-wide : tie.Need-mul-wide Inv-loop μ-loop
-mul-wide c = omega arith
+loop-holds c = (omega arith, sum-none _, omega arith)
 
 add-wide : tie.Need-add-wide Inv-loop μ-loop
-add-wide c = omega arith
+add-wide c = let h = column (c .before .before) in omega arith
 
-mul-wide-2 : tie.Need-mul-wide-2 Inv-loop μ-loop
-mul-wide-2 c = omega arith
+mul-wide : tie.Need-mul-wide Inv-loop μ-loop
+mul-wide c = let h = column (c .before .before) in omega arith
 
 shared-slice-read-wide : tie.Need-shared-slice-read-wide Inv-loop μ-loop
-shared-slice-read-wide c = omega arith
-
-wide-requires : tie.Need-wide-requires Inv-loop μ-loop
-wide-requires c κs = search needs
+shared-slice-read-wide c = let h = column (c .before .before .before) in omega arith
 
 add-total : tie.Need-add-total Inv-loop μ-loop
-add-total c = omega arith
-
-add-b : tie.Need-add-b Inv-loop μ-loop
-add-b c = omega arith
-
-loop-less : tie.Need-loop-less Inv-loop μ-loop
-loop-less c = omega arith
+add-total c = let h = column (c .before .before .before .before) .1 in omega arith
 
 loop-again : tie.Need-loop-again Inv-loop μ-loop
 loop-again c =
     let l = c .before .before .before in
-    let s = l .before .before in
-    let small = c .wide .ensures .1 in (
-      omega arith,
-      sum-more (entry sixteen (s .args .reliabilities .now) (s .args .i)) (l .loop .b) (l .loop .total) (c .wide .result) (l .loop .inv .1) (c .wide .ensures .0),
-      omega arith,
-    )
+    let small = c .wide .ensures .1 in
+    (omega arith, sum-more _ (l .loop .b) (l .loop .total) (c .wide .result) (l .loop .inv .1) (c .wide .ensures .0), omega arith)
 
 returns : tie.Need-returns Inv-loop μ-loop
 returns c =
     let l = c .before in
-    let e : l .loop .b ≡ sixteen .symbols = omega arith in
-    rw e at (l .loop .inv .1)
+    let q = l .before in
+    let s = q .before .before in
+    let e : l .loop .b ≡ q .symbols .result = omega arith in
+    l .loop .inv .1
+    ∙ ap₂ (λ (n x : ℕ). sum n (λ (j : ℕ). getD (s .args .reliabilities .now) (x * s .args .i + j) 0)) (e ∙ q .symbols .ensures) (q .symbols .ensures)
 
 pub column-sum-spec : {M : Type 1} → statement M
 column-sum-spec =
@@ -65,14 +64,15 @@ column-sum-spec =
     (tie.spec
     Inv-loop
     μ-loop
+    (λ c κs. search needs)
+    mul-first
     loop-holds
-    mul-wide
     add-wide
-    mul-wide-2
+    mul-wide
     shared-slice-read-wide
-    wide-requires
+    (λ c κs. search needs)
     add-total
-    add-b
-    loop-less
+    (λ c. search needs)
+    (λ c. search needs)
     loop-again
     returns)

@@ -1,5 +1,5 @@
 -- What is refused stays so; otherwise the scan finds the first bad column, or none.
-use Rattle.definitions.specs.Field.{sixteen}
+use Rattle.alphabet.specs.Codes.{codeOn}
 use Rattle.definitions.specs.Refusals.{badColumn, columns}
 use Rattle.definitions.specs.Tools.{smallest}
 use Rattle.refusals.proofs.Lines.{refusal-kept, bad-found, none-found}
@@ -13,17 +13,17 @@ first-bad-column-requires c κs = c .before .before .before .pre (c .enum-told .
 returns : tie.Need-returns
 returns c =
     let a = c .before .before .before .before .args in
-    refusal-kept (a .checked) (columns sixteen (a .n) (a .reliabilities .now)) _ (c .before .checked .given .1)
+    refusal-kept (a .checked) (columns (codeOn (a .alphabet)) (a .n) (a .reliabilities .now)) _ (c .before .checked .given .1)
 
 returns-2 : tie.Need-returns-2
 returns-2 c =
     let a = c .before .before .before .before .before .args in
-    bad-found (a .checked) (c .before .before .enum-told .given .1) 6 (smallest (badColumn sixteen (a .reliabilities .now)) (a .n)) (a .n) (λ i. i) (c .before .first-bad-column .result) (c .before .first-bad-column .ensures) (c .if1 .taken)
+    bad-found (a .checked) (c .before .before .enum-told .given .1) 6 (smallest (badColumn (codeOn (a .alphabet)) (a .reliabilities .now)) (a .n)) (a .n) (λ i. i) (c .before .first-bad-column .result) (c .before .first-bad-column .ensures) (c .if1 .taken)
 
 returns-3 : tie.Need-returns-3
 returns-3 c =
     let a = c .before .before .before .before .before .args in
-    none-found (a .checked) (c .before .before .enum-told .given .1) 6 (smallest (badColumn sixteen (a .reliabilities .now)) (a .n)) (a .n) (λ i. i) (c .before .first-bad-column .result) (c .before .first-bad-column .ensures) (c .if1 .left)
+    none-found (a .checked) (c .before .before .enum-told .given .1) 6 (smallest (badColumn (codeOn (a .alphabet)) (a .reliabilities .now)) (a .n)) (a .n) (λ i. i) (c .before .first-bad-column .result) (c .before .first-bad-column .ensures) (c .if1 .left)
 
 pub columns-checked-spec : {M : Type 1} → statement M
 columns-checked-spec =

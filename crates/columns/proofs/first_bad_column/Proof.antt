@@ -1,32 +1,38 @@
 -- The loop has passed good columns only.
 use mathlib.Core.Bool.{false}
 use mathlib.Core.Path.{_≡_}
-use Prim.Native.Nat.{ℕ, _-_, _<_}
+use Prim.Native.Nat.{ℕ, _*_, _-_, _<_}
 use native.Mathlib.Nat.{not-suc-le-zero}
+use Rattle.alphabet.specs.Codes.{codeOn}
 use Rattle.columns.proofs.Passed.{column-found, column-passed, no-column}
-use Rattle.definitions.specs.Field.{sixteen}
+use Rattle.definitions.proofs.Loops.{row-within}
 use Rattle.definitions.specs.Refusals.{badColumn}
 use native.Mathlib.Omega.{arith}
 use Rattle.columns.proofs.first_bad_column.Statement.{statement}
 use Rattle.columns.proofs.first_bad_column.Tie as tie
 
 abbrev Inv-loop : tie.InvT-loop
-Inv-loop reliabilities n position₀ position = (j : ℕ) → j < position → badColumn sixteen reliabilities j ≡ false
+Inv-loop alphabet reliabilities n position₀ position = (j : ℕ) → j < position → badColumn (codeOn alphabet) reliabilities j ≡ false
 
 abbrev μ-loop : tie.MeasureT-loop
-μ-loop reliabilities n position₀ position = n - position
+μ-loop alphabet reliabilities n position₀ position = n - position
 
 loop-holds : tie.Need-loop-holds Inv-loop μ-loop
 loop-holds c j h = absurd (not-suc-le-zero h)
 
 column-sum-requires : tie.Need-column-sum-requires Inv-loop μ-loop
-column-sum-requires c κs = omega arith
+column-sum-requires c κs =
+    let l = c .before in
+    let s = l .before .before in
+    let C = codeOn (s .args .alphabet) in
+    let w = row-within (C .symbols) (l .loop .position) (s .args .n) (C .symbols * s .args .n) (c .loop-test .taken) (omega arith) in
+    omega arith
 
 returns : tie.Need-returns Inv-loop μ-loop
 returns c =
     let l = c .before .before .before in
     let s = l .before .before in
-    column-found sixteen (s .args .reliabilities .now) (s .args .n) (l .loop .position) (l .loop .inv) (c .before .column-sum .result) (c .before .before .loop-test .taken)
+    column-found (codeOn (s .args .alphabet)) (s .args .reliabilities .now) (s .args .n) (l .loop .position) (l .loop .inv) (c .before .column-sum .result) (c .before .before .loop-test .taken)
     (c .before .column-sum .ensures) (c .if1 .taken)
 
 add-position : tie.Need-add-position Inv-loop μ-loop
@@ -39,14 +45,14 @@ loop-again : tie.Need-loop-again Inv-loop μ-loop
 loop-again c =
     let l = c .before .before .before in
     let s = l .before .before in
-    column-passed sixteen (s .args .reliabilities .now) (s .args .n) (l .loop .position) (l .loop .inv) (c .before .column-sum .result)
+    column-passed (codeOn (s .args .alphabet)) (s .args .reliabilities .now) (s .args .n) (l .loop .position) (l .loop .inv) (c .before .column-sum .result)
     (c .before .column-sum .ensures) (c .if1 .left)
 
 returns-2 : tie.Need-returns-2 Inv-loop μ-loop
 returns-2 c =
     let l = c .before in
     let s = l .before .before in
-    no-column sixteen (s .args .reliabilities .now) (s .args .n) (l .loop .position) (l .loop .inv) (c .loop-test .left)
+    no-column (codeOn (s .args .alphabet)) (s .args .reliabilities .now) (s .args .n) (l .loop .position) (l .loop .inv) (c .loop-test .left)
 
 pub first-bad-column-spec : {M : Type 1} → statement M
 first-bad-column-spec =

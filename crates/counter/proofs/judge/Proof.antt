@@ -4,33 +4,34 @@ use mathlib.Core.Path.{_∙_}
 use Prim.Native.Nat.{ℕ, _<_}
 use native.Mathlib.Omega.{arith}
 use borrow.Author.Needs.{needs}
+use Rattle.alphabet.specs.Codes.{codeOn}
 use Rattle.counter.specs.Judging.{judged, lead, judgeTable}
 use Rattle.definitions.proofs.Table.{Accepts, next, end, size-means}
 use Rattle.definitions.specs.Answers.{refused, valued}
-use Rattle.definitions.specs.Field.{sixteen}
+use Rattle.definitions.specs.Field.{Code}
 use Rattle.definitions.specs.Refusals.{size}
 use Rattle.refusals.proofs.Chain.{Came, start, _▸_, accepted, answers, goes-on}
 use Rattle.refusals.specs.Checked.{toldChecked}
 use Rattle.counter.proofs.judge.Statement.{statement}
 use Rattle.counter.proofs.judge.Tie as tie
 
-sized : (k g : ℕ) → Accepts (size sixteen k ∷ lead g ∷ []) → 0 < k
-sized k g (next s (next l end)) = let h = size-means sixteen k s in omega arith
+sized : (C : Code) (k g : ℕ) → Accepts (size C k ∷ lead g ∷ []) → 0 < k
+sized C k g (next s (next l end)) = let h = size-means C k s in omega arith
 
 listed-requires : tie.Need-listed-requires
 listed-requires c κs passed =
     let a = c .before .before .before .before .args in
-    sized (a .k) (a .lead) (accepted (start ▸ c .before .size .ensures ▸ c .or .ensures) passed)
+    sized (codeOn (a .alphabet)) (a .k) (a .lead) (accepted (start ▸ c .before .size .ensures ▸ c .or .ensures) passed)
 
-abbrev entry : tie.After-symbols → tie.Start
+abbrev entry : tie.After-symbols-of → tie.Start
 entry c = c .before .before .before .before .before .before
 
-came : (c : tie.After-symbols)
-    → (let a = entry c .args in Came (judgeTable sixteen (a .k) (a .rows .now) (a .scores .now) (a .lead)) [] (toldChecked (c .symbols .result)))
+came : (c : tie.After-symbols-of)
+    → (let a = entry c .args in Came (judgeTable (codeOn (a .alphabet)) (a .k) (a .rows .now) (a .scores .now) (a .lead)) [] (toldChecked (c .symbols-of .result)))
 came c =
     let listed = c .before in
     let lead = listed .before in
-    start ▸ lead .before .size .ensures ▸ lead .or .ensures ▸ listed .listed .ensures ▸ c .symbols .ensures
+    start ▸ lead .before .size .ensures ▸ lead .or .ensures ▸ listed .listed .ensures ▸ c .symbols-of .ensures
 
 returns : tie.Need-returns
 returns c = answers (came (c .before .before .before)) [] _ (c .before .checked .given .1)

@@ -5,10 +5,10 @@ use mathlib.Core.Path.{_∙_, ap}
 use native.Mathlib.Omega.{arith}
 use lib.ListN.{length}
 use borrow.Author.Needs.{needs}
+use Rattle.alphabet.specs.Codes.{codeOn}
 use Rattle.counter.specs.Judging.{bothJudged, bothTable}
 use Rattle.counter.proofs.Both.{settledTable, first-sized, second-sized, both-full}
 use Rattle.definitions.specs.Answers.{refused, valued}
-use Rattle.definitions.specs.Field.{sixteen}
 use Rattle.definitions.specs.Refusals.{Line, line, symbols, runsOn}
 use Rattle.refusals.proofs.Chain.{Came, start, _▸_, further, accepted, accepts-front, answers, goes-on}
 use Rattle.refusals.specs.Checked.{orLine, toldChecked}
@@ -19,7 +19,7 @@ use Rattle.counter.proofs.judge_both.Tie as tie
 abbrev entry : tie.After-or2 → tie.Start
 entry c = c .before .before .before .before .before .before .before .before .before .before .before
 
-settled : (c : tie.After-or2) → (let a = entry c .args in Came (settledTable sixteen (a .first) (a .second) (a .lead)) [] (toldChecked (c .or2 .result)))
+settled : (c : tie.After-or2) → (let a = entry c .args in Came (settledTable (codeOn (a .alphabet)) (a .first) (a .second) (a .lead)) [] (toldChecked (c .or2 .result)))
 settled c =
     let same = c .before in
     let lead = same .before in
@@ -32,30 +32,32 @@ settled c =
 listed-requires : tie.Need-listed-requires
 listed-requires c κs passed =
     let a = entry c .args in
-    first-sized sixteen (a .first) (a .second) (a .lead) (accepted (settled c) passed)
+    first-sized (codeOn (a .alphabet)) (a .first) (a .second) (a .lead) (accepted (settled c) passed)
 
 listed-requires-2 : tie.Need-listed-requires-2
 listed-requires-2 c κs passed =
     let a = entry (c .before) .args in
+    let C = codeOn (a .alphabet) in
     let line = listed (a .first .k) (a .rows .now) (a .scores .now) in
-    second-sized sixteen (a .first) (a .second) (a .lead)
-    (accepts-front (settledTable sixteen (a .first) (a .second) (a .lead)) (line ∷ []) (accepted (further (line ∷ []) (settled (c .before)) ▸ c .listed .ensures) passed))
+    second-sized C (a .first) (a .second) (a .lead)
+    (accepts-front (settledTable C (a .first) (a .second) (a .lead)) (line ∷ []) (accepted (further (line ∷ []) (settled (c .before)) ▸ c .listed .ensures) passed))
 
-symbols-after-requires : tie.Need-symbols-after-requires
-symbols-after-requires c κs = let g = entry (c .before .before .before) .good in omega arith
+symbols-of-after-requires : tie.Need-symbols-of-after-requires
+symbols-of-after-requires c κs = let g = entry (c .before .before .before) .good in omega arith
 
-came : (c : tie.After-symbols-after)
+came : (c : tie.After-symbols-of-after)
     → (let a = entry (c .before .before .before .before) .args in
-    Came (bothTable sixteen (a .first) (a .rows .now) (a .scores .now) (a .second) (a .others .now) (a .other-scores .now) (a .lead)) [] (toldChecked (c .symbols-after .result)))
+    Came (bothTable (codeOn (a .alphabet)) (a .first) (a .rows .now) (a .scores .now) (a .second) (a .others .now) (a .other-scores .now) (a .lead)) [] (toldChecked (c .symbols-of-after .result)))
 came c =
     let symbols-of-first = c .before in
     let second = symbols-of-first .before in
     let first = second .before in
     let a = entry (first .before) .args in
+    let C = codeOn (a .alphabet) in
     let lists : List Line =
-    listed (a .first .k) (a .rows .now) (a .scores .now) ∷ listed (a .second .k) (a .others .now) (a .other-scores .now) ∷ symbols sixteen (a .rows .now)
-    ∷ runsOn (length (a .rows .now)) (symbols sixteen (a .others .now)) ∷ [] in
-    further lists (settled (first .before)) ▸ first .listed .ensures ▸ second .listed2 .ensures ▸ symbols-of-first .symbols .ensures ▸ c .symbols-after .ensures
+    listed (a .first .k) (a .rows .now) (a .scores .now) ∷ listed (a .second .k) (a .others .now) (a .other-scores .now) ∷ symbols C (a .rows .now)
+    ∷ runsOn (length (a .rows .now)) (symbols C (a .others .now)) ∷ [] in
+    further lists (settled (first .before)) ▸ first .listed .ensures ▸ second .listed2 .ensures ▸ symbols-of-first .symbols-of .ensures ▸ c .symbols-of-after .ensures
 
 returns : tie.Need-returns
 returns c = answers (came (c .before .before .before)) [] _ (c .before .checked .given .1)
@@ -64,7 +66,7 @@ both-judged-requires : tie.Need-both-judged-requires
 both-judged-requires c κs =
     let w = c .before .before in
     let a = entry (w .before .before .before .before) .args in
-    let full = both-full sixteen (a .first) (a .second) (a .rows .now) (a .scores .now) (a .others .now) (a .other-scores .now) (a .lead) (accepted (came w) (c .enum-told .given .1)) in
+    let full = both-full (codeOn (a .alphabet)) (a .first) (a .second) (a .rows .now) (a .scores .now) (a .others .now) (a .other-scores .now) (a .lead) (accepted (came w) (c .enum-told .given .1)) in
     (omega arith, omega arith)
 
 returns-2 : tie.Need-returns-2
@@ -90,7 +92,7 @@ judge-both-spec =
     listed-requires
     listed-requires-2
     (λ c κs. search needs)
-    symbols-after-requires
+    symbols-of-after-requires
     (λ c. search needs)
     returns
     (λ c. search needs)

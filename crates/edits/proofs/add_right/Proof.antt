@@ -6,10 +6,11 @@ use Prim.Native.Nat.{ℕ}
 use native.Mathlib.Omega.{arith}
 use borrow.Author.Needs.{needs}
 use lib.ListN.{length}
+use Rattle.alphabet.specs.Codes.{codeOn}
 use Rattle.definitions.proofs.Editing.{length-added}
 use Rattle.definitions.proofs.Held.{Rightly, rightly-means, length-stored}
-use Rattle.definitions.specs.Editing.{inOrOut}
-use Rattle.definitions.specs.Field.{sixteen}
+use Rattle.definitions.specs.Editing.{lowestAbove, inOrOut}
+use Rattle.definitions.specs.Field.{Code}
 use Rattle.definitions.specs.Held.{Held, held, totalsOf, heldOf, withAdded}
 use Rattle.definitions.specs.Weights.{cost}
 use Rattle.edits.proofs.Edits.{above-refused, not-given, none-above-done}
@@ -17,45 +18,54 @@ use Rattle.edits.proofs.Entries.{low-sum}
 use Rattle.edits.proofs.add_right.Statement.{statement}
 use Rattle.edits.proofs.add_right.Tie as tie
 
+abbrev code : tie.Start → Code
+code s = codeOn (s .args .alphabet)
+
 abbrev handed : tie.Start → Held
 handed s = held (s .args .n) (s .args .cost) (s .args .totals .now) (s .args .entries .now)
 
 abbrev sum : tie.Start → List ℕ
 sum s = withAdded (s .args .entries .now) (s .args .others .now)
 
-right : (s : tie.Start) → Rightly sixteen (handed s)
-right s = rightly-means sixteen (handed s) (s .pre .0)
+right : (s : tie.Start) → Rightly (code s) (handed s)
+right s = rightly-means (code s) (handed s) (s .pre .0)
 
 lowest-sum-requires : tie.Need-lowest-sum-requires
-lowest-sum-requires c κs = let s = c .before .before .before .before in (right s .full, s .pre .1)
+lowest-sum-requires c κs = let s = c .before .before .before .before in let e = right s .full in let o = s .pre .1 in omega arith
+
+-- the lowest of what goes in and comes out
+lowest : (b : tie.After-lowest-sum)
+    → (let s = b .before .before .before .before .before in
+    b .lowest-sum .result ≡ lowestAbove (code s) (s .args .entries .now ∷ s .args .others .now ∷ sum s ∷ []))
+lowest b = let s = b .before .before .before .before .before in b .lowest-sum .ensures (code s) (right s .full)
 
 returns : tie.Need-returns
 returns c =
     let b = c .before in
     let s = b .before .before .before .before .before in
-    above-refused sixteen (s .args .entries .now ∷ s .args .others .now ∷ sum s ∷ []) (handed s) (heldOf sixteen (s .args .n) (sum s)) (b .lowest-sum .result) (b .lowest-sum .ensures)
-    (c .if1 .taken)
+    above-refused (code s) (s .args .entries .now ∷ s .args .others .now ∷ sum s ∷ []) (handed s) (heldOf (code s) (s .args .n) (sum s)) (b .lowest-sum .result) (lowest b)
+    (let f = right s .full in omega arith)
 
 -- no entry is above 5
-passed : (c : tie.Else1) → (let s = c .before .before .before .before .before .before in inOrOut sixteen (s .args .entries .now ∷ s .args .others .now ∷ sum s ∷ []) .given ≡ false)
+passed : (c : tie.Else1) → (let s = c .before .before .before .before .before .before in inOrOut (code s) (s .args .entries .now ∷ s .args .others .now ∷ sum s ∷ []) .given ≡ false)
 passed c =
     let b = c .before in
     let s = b .before .before .before .before .before in
-    not-given sixteen (s .args .entries .now ∷ s .args .others .now ∷ sum s ∷ []) (handed s) (heldOf sixteen (s .args .n) (sum s)) (b .lowest-sum .result) (b .lowest-sum .ensures)
-    (c .if1 .left)
+    not-given (code s) (s .args .entries .now ∷ s .args .others .now ∷ sum s ∷ []) (handed s) (heldOf (code s) (s .args .n) (sum s)) (b .lowest-sum .result) (lowest b)
+    (let f = right s .full in omega arith)
 
 add-entries-requires : tie.Need-add-entries-requires
 add-entries-requires c κs =
     let s = c .before .before .before .before .before .before .before in
     let full = right s .full in
     let others = s .pre .1 in
-    (omega arith, low-sum sixteen (s .args .entries .now) (s .args .others .now) full (passed (c .before)))
+    (omega arith, low-sum (code s) (s .args .entries .now) (s .args .others .now) full (passed (c .before)))
 
 count-requires : tie.Need-count-requires
 count-requires c κs =
     let a = c .before .before .before .before in
     let s = a .before .before .before .before .before .before .before .before in (
-      length-stored sixteen (handed s) (right s),
+      length-stored (code s) (handed s) (right s),
       ap length (a .add-entries .ensures) ∙ length-added (s .args .entries .now) (s .args .others .now) ∙ right s .full,
     )
 
@@ -66,8 +76,8 @@ returns-2 c =
     let b = a .before .before .before in
     let s = b .before .before .before .before .before in
     let e = a .add-entries .ensures in
-    none-above-done sixteen (s .args .entries .now ∷ s .args .others .now ∷ sum s ∷ []) (handed s) (heldOf sixteen (s .args .n) (sum s)) (b .lowest-sum .result) (b .lowest-sum .ensures)
-    (a .before .before .if1 .left) _ _ _ (q .count .ensures .0 ∙ ap cost e) (q .count .ensures .1 ∙ ap (totalsOf sixteen) e) e
+    none-above-done (code s) (s .args .entries .now ∷ s .args .others .now ∷ sum s ∷ []) (handed s) (heldOf (code s) (s .args .n) (sum s)) (b .lowest-sum .result) (lowest b)
+    (let f = right s .full in omega arith) _ _ _ (q .count .ensures .0 ∙ ap cost e) (q .count .ensures .1 ∙ ap (totalsOf (code s)) e) e
 
 pub add-right-spec : {M : Type 1} → statement M
 add-right-spec =

@@ -3,29 +3,28 @@ use mathlib.Core.Path.{_∙_}
 use native.Mathlib.Omega.{arith}
 use borrow.Author.Needs.{needs}
 use Rattle.definitions.proofs.Editing.{lowest-old, lowest-new}
-use Rattle.definitions.specs.Field.{sixteen}
 use Rattle.edits.proofs.lowest_set.Statement.{statement}
 use Rattle.edits.proofs.lowest_set.Tie as tie
 
 returns : tie.Need-returns
-returns c =
+returns c C full =
     let f = c .before in
     let s = f .before .before in
-    f .first-above .ensures ∙ lowest-old sixteen (s .args .entries .now) (s .pre .0) (s .args .at) (s .args .entry) (omega arith) (λ _. omega arith)
+    f .first-above .ensures ∙ lowest-old C (s .args .entries .now) full (s .args .at) (s .args .entry) (s .pre) (λ _. omega arith)
 
 returns-2 : tie.Need-returns-2
-returns-2 c =
+returns-2 c C full =
     let f = c .before .before in
     let s = f .before .before in
     let e = f .first-above .ensures in
-    e ∙ lowest-old sixteen (s .args .entries .now) (s .pre .0) (s .args .at) (s .args .entry) (omega arith) (λ l. let z : ⊥ = omega arith in absurd z)
+    e ∙ lowest-old C (s .args .entries .now) full (s .args .at) (s .args .entry) (s .pre) (λ l. let z : ⊥ = omega arith in absurd z)
 
 returns-3 : tie.Need-returns-3
-returns-3 c =
+returns-3 c C full =
     let f = c .before .before in
     let s = f .before .before in
     let e = f .first-above .ensures in
-    lowest-new sixteen (s .args .entries .now) (s .pre .0) (s .args .at) (s .args .entry) (omega arith) (omega arith) (omega arith)
+    lowest-new C (s .args .entries .now) full (s .args .at) (s .args .entry) (s .pre) (omega arith) (omega arith)
 
 pub lowest-set-spec : {M : Type 1} → statement M
 lowest-set-spec = tie.close (tie.spec (λ c κs. search needs) returns returns-2 returns-3)

@@ -1,50 +1,47 @@
--- The loop has passed places where no entry of either matrix or of their sum is above 5.
-use mathlib.Core.Bool.{false}
-use mathlib.Core.List.{[], _∷_}
-use mathlib.Core.Path.{_≡_}
-use Prim.Native.Nat.{ℕ, _-_, _<_}
+-- The loop has passed places where no sum is above 5, so none of either matrix is.
+use mathlib.Core.Path.{_∙_}
+use Prim.Native.Nat.{ℕ, _+_, _-_, _≤_, _<_}
 use native.Mathlib.Nat.{not-suc-le-zero}
 use native.Mathlib.Omega.{arith}
 use borrow.Author.Count.{below-more}
 use borrow.Author.Needs.{needs}
-use lib.ListN.{length}
+use lib.ListN.{length, getD}
 use Rattle.definitions.proofs.Editing.{sum-found, sum-passed, none-found}
-use Rattle.definitions.specs.Editing.{anyAbove}
-use Rattle.definitions.specs.Field.{sixteen}
-use Rattle.definitions.specs.Held.{withAdded}
+use Rattle.definitions.specs.Limits.{greatestLevel}
 use Rattle.edits.proofs.lowest_sum.Statement.{statement}
 use Rattle.edits.proofs.lowest_sum.Tie as tie
 
 abbrev Inv-loop : tie.InvT-loop
-Inv-loop entries others j₀ j = (t : ℕ) → t < j → anyAbove (entries ∷ others ∷ withAdded entries others ∷ []) t ≡ false
+Inv-loop entries others j₀ j = (t : ℕ) → t < j → getD entries t 0 + getD others t 0 ≤ greatestLevel
 
 abbrev μ-loop : tie.MeasureT-loop
 μ-loop entries others j₀ j = length entries - j
 
 returns : tie.Need-returns Inv-loop μ-loop
-returns c =
+returns c C full =
     let w = c .before in
     let l = w .before .before .before .before .before in
-    let s = l .before .before .before in
+    let a = l .before .before .before .args in
     let e = w .wide2 .ensures .0 in
     let d = w .before .before .wide .ensures .0 in
-    sum-found sixteen (s .args .entries .now) (s .pre .0) (s .args .others .now) (l .loop .j) (l .loop .inv) (omega arith) (omega arith)
+    sum-found C (a .entries .now) full (a .others .now) (l .loop .j) (λ t h. sum-passed C (a .entries .now) full (a .others .now) t (omega arith) (l .loop .inv t h)) (omega arith) (omega arith)
 
 loop-again : tie.Need-loop-again Inv-loop μ-loop
 loop-again c =
     let w = c .before in
     let l = w .before .before .before .before .before in
-    let s = l .before .before .before in
+    let a = l .before .before .before .args in
     let e = w .wide2 .ensures .0 in
     let d = w .before .before .wide .ensures .0 in
-    below-more (λ (t : ℕ). anyAbove (s .args .entries .now ∷ s .args .others .now ∷ withAdded (s .args .entries .now) (s .args .others .now) ∷ []) t ≡ false) (l .loop .j) (l .loop .inv)
-    (sum-passed sixteen (s .args .entries .now) (s .pre .0) (s .args .others .now) (l .loop .j) (omega arith) (omega arith))
+    below-more (λ (t : ℕ). getD (a .entries .now) t 0 + getD (a .others .now) t 0 ≤ greatestLevel) (l .loop .j) (l .loop .inv) (omega arith)
 
 returns-2 : tie.Need-returns-2 Inv-loop μ-loop
-returns-2 c =
+returns-2 c C full =
     let l = c .before in
-    let s = l .before .before .before in
-    none-found sixteen (s .args .entries .now) (s .pre .0) (s .args .others .now) (l .loop .j) (l .loop .inv) (omega arith)
+    let a = l .before .before .before .args in
+    full
+    ∙ none-found C (a .entries .now) full (a .others .now) (length (a .entries .now))
+    (λ t h. sum-passed C (a .entries .now) full (a .others .now) t h (l .loop .inv t (omega arith))) (omega arith)
 
 pub lowest-sum-spec : {M : Type 1} → statement M
 lowest-sum-spec =

@@ -2,7 +2,7 @@
 use mathlib.Core.Path.{_≡_}
 use Prim.Native.Nat.{_+_, _*_, _-_, _≤_, _<_}
 use native.Mathlib.Omega.{arith}
-use Rattle.definitions.specs.Field.{sixteen}
+use Rattle.alphabet.specs.Codes.{codeOn}
 use Rattle.elimination.proofs.Steps.{ZeroFrom, none-zero, zero-more, eliminated-none, eliminated-more}
 use Rattle.pivots.specs.System.{Eliminated, Within}
 use Rattle.blocks.specs.Row.{block}
@@ -11,21 +11,21 @@ use Rattle.elimination.proofs.first_dependent.Statement.{statement}
 use Rattle.elimination.proofs.first_dependent.Tie as tie
 
 abbrev Inv-down : tie.InvT-down
-Inv-down system table rows blocks j r₀ r = (j ≤ r) × (r ≤ rows) × ZeroFrom j r system
+Inv-down alphabet system table rows blocks j r₀ r = (j ≤ r) × (r ≤ rows) × ZeroFrom j r system
 
 abbrev μ-down : tie.MeasureT-down
-μ-down system table rows blocks j r₀ r = rows - r
+μ-down alphabet system table rows blocks j r₀ r = rows - r
 
 abbrev Inv-search : tie.InvT-search
-Inv-search system₀ table rows blocks j₀ system j = (j ≤ rows) × Eliminated sixteen rows (blocks * block) j system₀ system
+Inv-search alphabet system₀ table rows blocks j₀ system j = (j ≤ rows) × Eliminated (codeOn alphabet) rows (blocks * block) j system₀ system
 
 abbrev μ-search : tie.MeasureT-search
-μ-search system₀ table rows blocks j₀ system j = rows - j
+μ-search alphabet system₀ table rows blocks j₀ system j = rows - j
 
 search-holds : tie.Need-search-holds Inv-down μ-down Inv-search μ-search
 search-holds c =
-    let a = c .args in
-    (omega arith, eliminated-none sixteen (a .rows) (a .blocks * block) (a .system .now) (c .pre .0))
+    let a = c .before .args in
+    (omega arith, eliminated-none (codeOn (a .alphabet)) (a .rows) (a .blocks * block) (a .system .now) (c .before .pre .0))
 
 down-holds : tie.Need-down-holds Inv-down μ-down Inv-search μ-search
 down-holds c =
@@ -33,9 +33,9 @@ down-holds c =
     (omega arith, omega arith, none-zero (l .j) (l .system))
 
 -- the rows and blocks that are worked on are there still
-within : (c : tie.At-search Inv-down μ-down Inv-search μ-search) → (let a = c .before .args in Within (a .rows) (a .blocks) (c .search .system))
+within : (c : tie.At-search Inv-down μ-down Inv-search μ-search) → (let a = c .before .before .args in Within (a .rows) (a .blocks) (c .search .system))
 within c =
-    let w = c .before .pre .1 .1 in
+    let w = c .before .before .pre .1 .1 in
     let e = c .search .inv .1 .size in
     record { there = let t = w .there in omega arith; few = w .few; fewer = w .fewer; inside = w .inside }
 
@@ -49,18 +49,18 @@ pivot-requires : tie.Need-pivot-requires Inv-down μ-down Inv-search μ-search
 pivot-requires c κs =
     let d = c .before .before .before .before in
     let l = d .before in
-    let r : d .down .r < l .before .args .rows = omega arith in
+    let r : d .down .r < l .before .before .args .rows = omega arith in
     let e = l .search .inv .1 in
-    (e .system, (l .before .pre .1 .0, (within l, ((d .down .inv .0, r), (e .triangle, c .before .if2 .taken)))))
+    (e .system, (l .before .before .pre .1 .0, (within l, ((d .down .inv .0, r), (e .triangle, c .before .if2 .taken)))))
 
 search-again : tie.Need-search-again Inv-down μ-down Inv-search μ-search
 search-again c =
     let p = c .before in
     let d = p .before .before .before .before .before in
     let l = d .before .search in
-    let a = d .before .before .args in
+    let a = d .before .before .before .args in
     let h : l .j + 1 ≤ a .rows = omega arith in
-    (h, eliminated-more sixteen (a .rows) (a .blocks * block) (l .j) (l .j + 1) (a .system .now) (l .system) (p .pivot .last .0) (l .inv .1) (p .pivot .ensures))
+    (h, eliminated-more (codeOn (a .alphabet)) (a .rows) (a .blocks * block) (l .j) (l .j + 1) (a .system .now) (l .system) (p .pivot .last .1 .0) (l .inv .1) (p .pivot .ensures))
 
 same-length : tie.Need-same-length Inv-down μ-down Inv-search μ-search
 same-length c = c .before .before .search .inv .1 .size
@@ -69,7 +69,7 @@ returns : tie.Need-returns Inv-down μ-down Inv-search μ-search
 returns c =
     let d = c .before .down in
     let l = c .before .before in
-    let e : d .r ≡ l .before .args .rows = c .if1 .taken in
+    let e : d .r ≡ l .before .before .args .rows = c .if1 .taken in
     let i = l .search .inv in
     (i .0, (i .1, (i .1 .triangle, λ t h k. d .inv .2 t h (omega arith))))
 

@@ -1,65 +1,54 @@
--- Each pass finds the entry before those that are found.
-use mathlib.Core.Path.{_≡_, refl, subst}
-use Prim.Native.Nat.{ℕ, _-_, _≤_}
-use native.Mathlib.Omega.{arith}
-use lib.ListN.{length}
-use Rattle.definitions.specs.Field.{sixteen}
-use Rattle.elimination.proofs.Solving.{SymbolsFrom, solve-none, solve-more}
-use Rattle.linear.specs.Rows.{Solved}
-use Rattle.instances.proofs.Codes.{sixteen-field}
+-- In either case what is found solves the triangle over the alphabet.
+use mathlib.Core.Path.{sym, subst}
+use Rattle.alphabet.specs.Codes.{codeOn}
+use Rattle.alphabet.specs.declared.Alphabet.{Alphabet}
+use Rattle.field.specs.Table.{Tabled}
+use Rattle.linear.specs.Rows.{SymbolRows, Solved}
 use borrow.Author.Needs.{needs}
 use Rattle.elimination.proofs.solve.Statement.{statement}
 use Rattle.elimination.proofs.solve.Tie as tie
 
-abbrev Inv-loop : tie.InvT-loop
-Inv-loop system table j out₀ s₀ out s = (s ≤ j) × (length out ≡ length out₀) × (Solved sixteen j s system out₀ out × SymbolsFrom sixteen s j out)
-
-abbrev μ-loop : tie.MeasureT-loop
-μ-loop system table j out₀ s₀ out s = s
-
-loop-holds : tie.Need-loop-holds Inv-loop μ-loop
-loop-holds c =
-    let a = c .before .args in
-    (omega arith, refl, solve-none sixteen (a .j) (a .system .now) (a .out .now))
-
-back-requires : tie.Need-back-requires Inv-loop μ-loop
-back-requires c κs =
-    let l = c .before .before .before in
-    let s = l .before .before in
-    (s .pre .0, ((omega arith, omega arith, omega arith), (s .pre .1 .0 (l .loop .s - 1), λ k g h. l .loop .inv .2 .1 k (omega arith) h)))
-
-loop-again : tie.Need-loop-again Inv-loop μ-loop
-loop-again c =
-    let l = c .before .before .before .before in
-    let s = l .before .before in
+solve-by-requires : tie.Need-solve-by-requires
+solve-by-requires c κs =
+    let s = c .before .before .before .before .before in
     let a = s .args in
-    let d = solve-more sixteen sixteen-field (a .j) (l .loop .s) (c .back .result) (a .system .now) (a .out .now) (l .loop .out) (s .pre .1 .0) (omega arith) (omega arith)
-    (omega arith) (l .loop .inv .2 .0) (l .loop .inv .2 .1) (c .back .ensures) in
-    (omega arith, d .0 .size, d)
+    let e = c .before .enum-told .given .1 in (
+      subst (λ (w : Alphabet). Tabled (codeOn w) (a .table .now)) e (s .pre .0),
+      (subst (λ (w : Alphabet). SymbolRows (codeOn w) (a .system .now)) e (s .pre .1 .0), s .pre .1 .1),
+    )
 
-same-length : tie.Need-same-length Inv-loop μ-loop
-same-length c = c .before .loop .inv .1
+solve-by-requires-2 : tie.Need-solve-by-requires-2
+solve-by-requires-2 c κs =
+    let s = c .before .before .before .before .before in
+    let a = s .args in
+    let e = c .before .enum-told2 .given .1 in (
+      subst (λ (w : Alphabet). Tabled (codeOn w) (a .table .now)) e (s .pre .0),
+      (subst (λ (w : Alphabet). SymbolRows (codeOn w) (a .system .now)) e (s .pre .1 .0), s .pre .1 .1),
+    )
 
-returns : tie.Need-returns Inv-loop μ-loop
+returns : tie.Need-returns
 returns c =
-    let l = c .before in
-    let a = l .before .before .args in
-    let e : l .loop .s ≡ 0 = omega arith in
-    subst (λ (n : ℕ). Solved sixteen (a .j) n (a .system .now) (a .out .now) (l .loop .out)) e (l .loop .inv .2 .0)
+    let p = c .before .before in
+    let s = p .before .before .before .before .before .before in
+    let a = s .args in
+    subst (λ (w : Alphabet). Solved (codeOn w) (a .j) 0 (a .system .now) (a .out .now) (p .solve-by .last .1 .1 .1 .1 .0)) (sym (p .before .before .enum-told .given .1)) (p .solve-by .ensures)
+
+returns-2 : tie.Need-returns-2
+returns-2 c =
+    let p = c .before .before in
+    let s = p .before .before .before .before .before .before in
+    let a = s .args in
+    subst (λ (w : Alphabet). Solved (codeOn w) (a .j) 0 (a .system .now) (a .out .now) (p .solve-by2 .last .1 .1 .1 .1 .0)) (sym (p .before .before .enum-told2 .given .1)) (p .solve-by2 .ensures)
 
 pub solve-spec : {M : Type 1} → statement M
 solve-spec =
     tie.close
     (tie.spec
-    Inv-loop
-    μ-loop
-    loop-holds
     (λ c. search needs)
+    solve-by-requires
     (λ c. search needs)
+    solve-by-requires-2
     (λ c. search needs)
-    back-requires
+    returns
     (λ c. search needs)
-    (λ c. search needs)
-    loop-again
-    same-length
-    returns)
+    returns-2)

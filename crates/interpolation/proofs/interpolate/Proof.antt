@@ -4,11 +4,10 @@ use mathlib.Core.Path.{_≡_}
 use Prim.Native.Nat.{_*_}
 use native.Mathlib.Omega.{arith}
 use lib.ListN.{length}
-use Rattle.definitions.specs.Field.{sixteen}
+use Rattle.alphabet.specs.Codes.{codeOn}
+use Rattle.edits.proofs.Turned.{bytes-within, turned-bytes, turned-costs}
 use Rattle.interpolation.proofs.Answers.{front, fits, refused-by-check, passed-on}
 use Rattle.interpolation.specs.Answered.{Fit}
-use Rattle.matrix.proofs.Columns.{turned-front, turned-priced}
-use Rattle.matrix.specs.Record.{heldBy}
 use Rattle.refusals.proofs.Chain.{Came, start, _▸_, accepted}
 use Rattle.refusals.specs.Checked.{toldChecked}
 use borrow.Author.Needs.{needs}
@@ -19,46 +18,56 @@ abbrev entry : tie.After-symbols → tie.Start
 entry c = c .before .before .before .before .before .before .before
 
 came : (c : tie.After-symbols)
-    → (let a = entry c .args in Came (front sixteen (a .n) (a .k) (a .limit) (a .matrix .now) (length (a .out .now))) [] (toldChecked (c .symbols .result)))
+    → (let a = entry c .args in Came (front (codeOn (a .alphabet)) (a .n) (a .k) (a .limit) (a .matrix .now) (length (a .out .now))) [] (toldChecked (c .symbols .result)))
 came c =
     let room = c .before in
     let given = room .before in
     let limit = given .before in
-    start ▸ limit .before .sizes .ensures ▸ limit .or .ensures ▸ given .length .ensures ▸ room .or2 .ensures ▸ c .symbols .ensures
+    start ▸ limit .before .sizes .ensures ▸ limit .or .ensures ▸ given .entries .ensures ▸ room .or2 .ensures ▸ c .symbols .ensures
 
 returns : tie.Need-returns
 returns c =
     let w = c .before .before .before in
     let a = entry w .args in
-    refused-by-check sixteen (a .n) (a .k) (a .limit) (a .matrix .now) (a .out .now) (came w) (c .before .checked .given .1)
+    refused-by-check (codeOn (a .alphabet)) (a .n) (a .k) (a .limit) (a .matrix .now) (a .out .now) (came w) (c .before .checked .given .1)
 
-fit : (c : tie.After-enum-told)
-    → (let a = entry (c .before .before) .args in
-    Fit sixteen (a .n) (a .k) (a .limit) (length (a .out .now)) × (length (a .matrix .now) ≡ sixteen .symbols * a .n))
-fit c =
-    let a = entry (c .before .before) .args in
-    fits sixteen (a .n) (a .k) (a .limit) (a .matrix .now) (length (a .out .now)) (accepted (came (c .before .before)) (c .enum-told .given .1))
+abbrev passed : tie.After-enum-told → tie.Start
+passed t = entry (t .before .before)
 
-of-bytes-requires : tie.Need-of-bytes-requires
-of-bytes-requires c κs = let f = fit c in let s = f .0 .sized in let e = f .1 in omega arith
+fit : (t : tie.After-enum-told)
+    → (let a = passed t .args in
+    Fit (codeOn (a .alphabet)) (a .n) (a .k) (a .limit) (length (a .out .now)) × (length (a .matrix .now) ≡ codeOn (a .alphabet) .symbols * a .n))
+fit t =
+    let a = passed t .args in
+    fits (codeOn (a .alphabet)) (a .n) (a .k) (a .limit) (a .matrix .now) (length (a .out .now)) (accepted (came (t .before .before)) (t .enum-told .given .1))
+
+turn-requires : tie.Need-turn-requires
+turn-requires c κs =
+    let t = c .before in
+    let a = passed t .args in
+    let f = fit t in
+    (bytes-within (codeOn (a .alphabet)) (a .n) (a .matrix .now) (f .0 .sized .2) (f .1), omega arith)
+
+abbrev told : tie.After-turn → tie.After-enum-told
+told c = c .before .before
 
 interpolate-priced-requires : tie.Need-interpolate-priced-requires
 interpolate-priced-requires c κs =
-    let m = c .before .before .before in
-    let a = entry (m .before .before .before) .args in
-    let f = fit (m .before) in
-    (f .0, turned-priced sixteen (heldBy (m .of-bytes .result)) (a .n) (a .matrix .now) (f .0 .sized .2) (f .1) (m .of-bytes .ensures))
+    let l = c .before .before .before in
+    let f = fit (told l) in
+    let a = passed (told l) .args in
+    (f .0, turned-costs (codeOn (a .alphabet)) (a .n) (f .1) (l .turn .ensures))
 
 returns-2 : tie.Need-returns-2
 returns-2 c =
     let q = c .before .before in
-    let m = q .before .before .before .before in
-    let t = m .before in
+    let l = q .before .before .before .before in
+    let t = told l in
     let w = t .before .before in
     let a = entry w .args in
-    let f = fit t in
-    passed-on sixteen (a .n) (a .k) (a .limit) (a .matrix .now) (a .out .now) (came w) (t .enum-told .given .1)
-    (turned-front sixteen (heldBy (m .of-bytes .result)) (a .n) (a .matrix .now) (f .0 .sized .2) (f .1) (m .of-bytes .ensures)) _ _ (q .interpolate-priced .ensures)
+    let C = codeOn (a .alphabet) in
+    passed-on C (a .n) (a .k) (a .limit) (a .matrix .now) (a .out .now) (came w) (t .enum-told .given .1)
+    (turned-bytes C (a .n) (fit t .1) (l .turn .ensures)) _ _ (q .interpolate-priced .ensures)
 
 pub interpolate-spec : {M : Type 1} → statement M
 interpolate-spec =
@@ -72,7 +81,8 @@ interpolate-spec =
     (λ c. search needs)
     returns
     (λ c. search needs)
-    of-bytes-requires
+    (λ c. search needs)
+    turn-requires
     (λ c. search needs)
     interpolate-priced-requires
     (λ c. search needs)

@@ -2,8 +2,8 @@
 use mathlib.Core.List.{[]}
 use mathlib.Core.Path.{refl}
 use lib.ListN.{length}
+use Rattle.alphabet.specs.Codes.{codeOn}
 use Rattle.definitions.proofs.Held.{Rightly}
-use Rattle.definitions.specs.Field.{sixteen}
 use Rattle.definitions.specs.Held.{Held, held, bytesOf}
 use Rattle.interpolation.proofs.Answers.{heldFront, held-fits, refused-by-check, passed-on}
 use Rattle.interpolation.specs.Answered.{Fit}
@@ -23,32 +23,33 @@ abbrev given : tie.After-symbols → Held
 given c = let a = entry c .args in held (a .n) (a .cost) (a .totals .now) (a .entries .now)
 
 came : (c : tie.After-symbols)
-    → (let a = entry c .args in Came (heldFront sixteen (given c) (a .k) (a .limit) (length (a .out .now))) [] (toldChecked (c .symbols .result)))
+    → (let a = entry c .args in Came (heldFront (codeOn (a .alphabet)) (given c) (a .k) (a .limit) (length (a .out .now))) [] (toldChecked (c .symbols .result)))
 came c =
     let room = c .before in
     let stored = room .before in
     let limit = stored .before .before in
     start ▸ limit .before .sizes .ensures ▸ limit .or .ensures
-    ▸ stored-tried sixteen (given c) (toldChecked (limit .or .result)) (stored .or2 .ensures) (stored .before .rightly .ensures) ▸ room .or3 .ensures ▸ c .symbols .ensures
+    ▸ stored-tried (codeOn (entry c .args .alphabet)) (given c) (toldChecked (limit .or .result)) (stored .or2 .ensures) (stored .before .rightly .ensures) ▸ room .or3 .ensures ▸ c .symbols .ensures
 
 returns : tie.Need-returns
 returns c =
     let w = c .before .before .before in
     let a = entry w .args in
-    refused-by-check sixteen (a .n) (a .k) (a .limit) (bytesOf sixteen (given w)) (a .out .now) (came w) (c .before .checked .given .1)
+    let C = codeOn (a .alphabet) in
+    refused-by-check C (a .n) (a .k) (a .limit) (bytesOf C (given w)) (a .out .now) (came w) (c .before .checked .given .1)
 
 fit : (c : tie.After-enum-told)
-    → (let a = entry (c .before .before) .args in Fit sixteen (a .n) (a .k) (a .limit) (length (a .out .now)) × Rightly sixteen (given (c .before .before)))
+    → (let a = entry (c .before .before) .args in Fit (codeOn (a .alphabet)) (a .n) (a .k) (a .limit) (length (a .out .now)) × Rightly (codeOn (a .alphabet)) (given (c .before .before)))
 fit c =
     let w = c .before .before in
     let a = entry w .args in
-    held-fits sixteen (given w) (a .k) (a .limit) (length (a .out .now)) (accepted (came w) (c .enum-told .given .1))
+    held-fits (codeOn (a .alphabet)) (given w) (a .k) (a .limit) (length (a .out .now)) (accepted (came w) (c .enum-told .given .1))
 
 interpolate-priced-requires : tie.Need-interpolate-priced-requires
 interpolate-priced-requires c κs =
     let t = c .before in
     let f = fit t in
-    (f .0, rightly-priced sixteen (given (t .before .before)) (f .1) (f .0 .sized .2))
+    (f .0, rightly-priced (codeOn (entry (t .before .before) .args .alphabet)) (given (t .before .before)) (f .1) (f .0 .sized .2))
 
 returns-2 : tie.Need-returns-2
 returns-2 c =
@@ -56,7 +57,8 @@ returns-2 c =
     let t = q .before .before in
     let w = t .before .before in
     let a = entry w .args in
-    passed-on sixteen (a .n) (a .k) (a .limit) (bytesOf sixteen (given w)) (a .out .now) (came w) (t .enum-told .given .1) refl _ _ (q .interpolate-priced .ensures)
+    let C = codeOn (a .alphabet) in
+    passed-on C (a .n) (a .k) (a .limit) (bytesOf C (given w)) (a .out .now) (came w) (t .enum-told .given .1) refl _ _ (q .interpolate-priced .ensures)
 
 pub interpolate-parts-spec : {M : Type 1} → statement M
 interpolate-parts-spec =

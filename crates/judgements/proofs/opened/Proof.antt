@@ -1,9 +1,10 @@
--- On Open k fits sixteen bits, for it is at most fifteen.
+-- On Open k fits 16 bits, for it is at most the positions of either alphabet.
 use mathlib.Core.Path.{sym, _∙_, ap}
 use native.Mathlib.Omega.{arith}
 use borrow.Author.Needs.{needs}
+use Rattle.alphabet.proofs.Sizes.{sized}
+use Rattle.alphabet.specs.Codes.{codeOn}
 use Rattle.definitions.specs.Answers.{Answer}
-use Rattle.definitions.specs.Field.{sixteen}
 use Rattle.judgements.proofs.opened.Statement.{statement}
 use Rattle.judgements.proofs.opened.Tie as tie
 use Rattle.judgements.specs.Held.{heldAnswer}
@@ -13,7 +14,8 @@ use Rattle.opening.specs.Handing.{isOpen}
 held-requires : tie.Need-held-requires
 held-requires c κs opens =
     let a = c .before .before .before .before .args in
-    let sized = open-sized sixteen (a .k) (a .rows .now) (a .scores .now) (a .lead) (sym (ap isOpen (c .judged .ensures ∙ c .before .judge .ensures)) ∙ opens) in
+    let small = open-sized (codeOn (a .alphabet)) (a .k) (a .rows .now) (a .scores .now) (a .lead) (sym (ap isOpen (c .judged .ensures ∙ c .before .judge .ensures)) ∙ opens) in
+    let z = sized (a .alphabet) in
     omega arith
 
 returns : tie.Need-returns

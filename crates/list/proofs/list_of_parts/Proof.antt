@@ -2,8 +2,8 @@
 use mathlib.Core.List.{[]}
 use mathlib.Core.Path.{refl}
 use lib.ListN.{length}
+use Rattle.alphabet.specs.Codes.{codeOn}
 use Rattle.definitions.proofs.Held.{Rightly}
-use Rattle.definitions.specs.Field.{sixteen}
 use Rattle.definitions.specs.Held.{Held, held, bytesOf}
 use Rattle.list.proofs.Answers.{costLeft, heldFront, held-fits}
 use Rattle.listing.proofs.Answers.{refused-by-check, passed-on}
@@ -25,35 +25,36 @@ given c = let a = entry c .args in held (a .n) (a .cost) (a .totals .now) (a .en
 
 came : (c : tie.After-symbols)
     → (let a = entry c .args in
-    Came (heldFront sixteen (given c) (a .k) (a .limit) (length (a .rows .now)) (length (a .scores .now))) [] (toldChecked (c .symbols .result)))
+    Came (heldFront (codeOn (a .alphabet)) (given c) (a .k) (a .limit) (length (a .rows .now)) (length (a .scores .now))) [] (toldChecked (c .symbols .result)))
 came c =
     let scores = c .before in
     let rows = scores .before in
     let stored = rows .before in
     let limit = stored .before .before in
     start ▸ limit .before .sizes .ensures ▸ limit .or .ensures
-    ▸ stored-tried sixteen (given c) (toldChecked (limit .or .result)) (stored .or2 .ensures) (stored .before .rightly .ensures) ▸ rows .room .ensures ▸ scores .or3 .ensures
+    ▸ stored-tried (codeOn (entry c .args .alphabet)) (given c) (toldChecked (limit .or .result)) (stored .or2 .ensures) (stored .before .rightly .ensures) ▸ rows .room .ensures ▸ scores .or3 .ensures
     ▸ c .symbols .ensures
 
 returns : tie.Need-returns
 returns c =
     let w = c .before .before .before in
     let a = entry w .args in
-    refused-by-check sixteen (a .n) (a .k) (costLeft (a .limit)) (bytesOf sixteen (given w)) (a .rows .now) (a .scores .now) (came w) (c .before .checked .given .1)
+    let C = codeOn (a .alphabet) in
+    refused-by-check C (a .n) (a .k) (costLeft (a .limit)) (bytesOf C (given w)) (a .rows .now) (a .scores .now) (came w) (c .before .checked .given .1)
 
 fit : (c : tie.After-enum-told)
     → (let a = entry (c .before .before) .args in
-    Fit sixteen (a .n) (a .k) (a .limit) (length (a .rows .now)) (length (a .scores .now)) × Rightly sixteen (given (c .before .before)))
+    Fit (codeOn (a .alphabet)) (a .n) (a .k) (a .limit) (length (a .rows .now)) (length (a .scores .now)) × Rightly (codeOn (a .alphabet)) (given (c .before .before)))
 fit c =
     let w = c .before .before in
     let a = entry w .args in
-    held-fits sixteen (given w) (a .k) (a .limit) (length (a .rows .now)) (length (a .scores .now)) (accepted (came w) (c .enum-told .given .1))
+    held-fits (codeOn (a .alphabet)) (given w) (a .k) (a .limit) (length (a .rows .now)) (length (a .scores .now)) (accepted (came w) (c .enum-told .given .1))
 
 list-priced-requires : tie.Need-list-priced-requires
 list-priced-requires c κs =
     let t = c .before .before in
     let f = fit t in
-    (f .0, rightly-priced sixteen (given (t .before .before)) (f .1) (f .0 .sized .2))
+    (f .0, rightly-priced (codeOn (entry (t .before .before) .args .alphabet)) (given (t .before .before)) (f .1) (f .0 .sized .2))
 
 returns-2 : tie.Need-returns-2
 returns-2 c =
@@ -61,7 +62,8 @@ returns-2 c =
     let t = q .before .before .before in
     let w = t .before .before in
     let a = entry w .args in
-    passed-on sixteen (a .n) (a .k) (costLeft (a .limit)) (bytesOf sixteen (given w)) (a .rows .now) (a .scores .now) (came w) (t .enum-told .given .1) refl _ _ _ (q .list-priced .ensures)
+    let C = codeOn (a .alphabet) in
+    passed-on C (a .n) (a .k) (costLeft (a .limit)) (bytesOf C (given w)) (a .rows .now) (a .scores .now) (came w) (t .enum-told .given .1) refl _ _ _ (q .list-priced .ensures)
 
 pub list-of-parts-spec : {M : Type 1} → statement M
 list-of-parts-spec =

@@ -5,7 +5,7 @@ use Prim.Native.Nat.{ℕ, _*_}
 use native.Mathlib.Omega.{arith}
 use lib.ListN.{length, take}
 use lib.Seq.{length-take-le}
-use Rattle.definitions.specs.Field.{sixteen}
+use Rattle.alphabet.specs.Codes.{codeOn}
 use Rattle.listing.proofs.Answers.{refused-by-cost, listed}
 use Rattle.matrix.proofs.Columns.{opened-front, opened-cost}
 use Rattle.matrix.specs.Columns.{matrixOf}
@@ -15,27 +15,27 @@ use Rattle.listing.proofs.list_priced.Tie as tie
 
 -- the bytes in front of the entries
 abbrev bytes : tie.Start → List ℕ
-bytes s = take (sixteen .symbols * s .args .n) (s .args .entries .now)
+bytes s = take (codeOn (s .args .alphabet) .symbols * s .args .n) (s .args .entries .now)
 
-full : (s : tie.Start) → length (bytes s) ≡ sixteen .symbols * s .args .n
-full s = length-take-le (sixteen .symbols * s .args .n) (s .args .entries .now) (s .pre .1 .within)
+full : (s : tie.Start) → length (bytes s) ≡ codeOn (s .args .alphabet) .symbols * s .args .n
+full s = length-take-le (codeOn (s .args .alphabet) .symbols * s .args .n) (s .args .entries .now) (s .pre .1 .within)
 
 returns : tie.Need-returns
 returns c =
     let s = c .before .before .before .before in
     let a = s .args in
     let paid = s .pre .1 .paid in
-    refused-by-cost sixteen (a .n) (a .k) (a .limit) (bytes s) (a .rows .now) (a .scores .now) [] (omega arith)
+    refused-by-cost (codeOn (a .alphabet)) (a .n) (a .k) (a .limit) (bytes s) (a .rows .now) (a .scores .now) [] (omega arith)
 
 abbrev entry : tie.After-opened → tie.Start
 entry c = c .before .before .before .before .before
 
 -- the columns are those of the bytes
-loaded : (c : tie.After-opened) → c .opened .result ≡ matrixOf sixteen (bytes (entry c)) (entry c .args .n)
+loaded : (c : tie.After-opened) → c .opened .result ≡ matrixOf (codeOn (entry c .args .alphabet)) (bytes (entry c)) (entry c .args .n)
 loaded c =
     let s = entry c in
     let a = s .args in
-    opened-front sixteen (a .n) (a .cost) (a .entries .now) (s .pre .0 .sized .2) (s .pre .1) (c .opened .result) (c .opened .ensures)
+    opened-front (codeOn (a .alphabet)) (a .n) (a .cost) (a .entries .now) (s .pre .0 .sized .2) (s .pre .1) (c .opened .result) (c .opened .ensures)
 
 list-within-requires : tie.Need-list-within-requires
 list-within-requires c κs =
@@ -44,7 +44,7 @@ list-within-requires c κs =
     let a = s .args in
     let f = s .pre .0 in
     let low = f .low in (
-      (f .sized .0, f .sized .1, f .sized .2, opened-cost sixteen (a .n) (a .cost) (a .entries .now) (f .sized .2) (s .pre .1) (o .opened .result) (o .opened .ensures), omega arith),
+      (f .sized .0, f .sized .1, f .sized .2, opened-cost (codeOn (a .alphabet)) (a .n) (a .cost) (a .entries .now) (f .sized .2) (s .pre .1) (o .opened .result) (o .opened .ensures), omega arith),
       ((f .room-for-rows, f .room-for-scores), (bytes s, full s, loaded o)),
     )
 
@@ -55,7 +55,7 @@ returns-2 c =
     let s = entry o in
     let a = s .args in
     let paid = s .pre .1 .paid in
-    listed sixteen (a .n) (a .k) (a .limit) (bytes s) (a .rows .now) (a .scores .now) (omega arith) (q .list-within .result) _ _
+    listed (codeOn (a .alphabet)) (a .n) (a .k) (a .limit) (bytes s) (a .rows .now) (a .scores .now) (omega arith) (q .list-within .result) _ _
     (q .list-within .ensures (bytes s) (full s) (loaded o))
 
 pub list-priced-spec : {M : Type 1} → statement M

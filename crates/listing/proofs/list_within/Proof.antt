@@ -5,12 +5,12 @@ use Prim.Native.Nat.{ℕ, _*_, _-_, _/_, _≤_}
 use native.Mathlib.Omega.{arith}
 use lib.ListN.{length, take, replicate}
 use lib.Seq.{length-take-le}
+use Rattle.alphabet.specs.Codes.{codeOn}
 use Rattle.definitions.proofs.Powers.{powers-of-y}
 use Rattle.definitions.specs.Bound.{bound}
-use Rattle.definitions.specs.Field.{sixteen}
 use Rattle.definitions.specs.Limits.{coefficientRoom, greatestRows}
 use Rattle.definitions.specs.Polynomial.{Interpolates}
-use Rattle.instances.proofs.Codes.{sixteen-field}
+use Rattle.instances.proofs.Codes.{field-on}
 use Rattle.listing.proofs.Found.{degree-small, bound-of-cost, prefix, length-after}
 use Rattle.listing.proofs.Listing.{lists}
 use Rattle.listing.specs.Within.{Rooted}
@@ -58,7 +58,7 @@ degree c = c .before .before .before
 
 -- the memory after the polynomial is found
 abbrev written : tie.After-polynomial2 → List ℕ
-written c = c .polynomial2 .last .1 .1 .1 .1 .1 .0
+written c = c .polynomial2 .last .1 .1 .1 .1 .1 .1 .0
 
 -- is as long as before
 long : (c : tie.After-polynomial2) → length (written c) ≡ coefficientRoom
@@ -66,21 +66,22 @@ long c =
     let s = entry (degree c) in
     let small = few (c .before .before) in
     let n = c .before .before .count .ensures in
-    length-after sixteen (s .args .matrix .now) (s .args .k - 1) (degree c .bound .result) (c .polynomial2 .result) (replicate coefficientRoom 0) (written c) (c .polynomial2 .ensures) (omega arith)
+    length-after (codeOn (s .args .alphabet)) (s .args .matrix .now) (s .args .k - 1) (degree c .bound .result) (c .polynomial2 .result) (replicate coefficientRoom 0) (written c) (c .polynomial2 .ensures) (omega arith)
 
 -- and its front interpolates the bytes that the matrix was loaded from
-front : (c : tie.After-polynomial2) (m : List ℕ) → length m ≡ sixteen .symbols * entry (degree c) .args .n → entry (degree c) .args .matrix .now ≡ matrixOf sixteen m (entry (degree c) .args .n)
-    → (let a = entry (degree c) .args in Interpolates sixteen (a .n) (a .k - 1) (degree c .bound .result) m (take (c .before .before .count .result) (written c)))
+front : (c : tie.After-polynomial2) (m : List ℕ) → (let a = entry (degree c) .args in length m ≡ codeOn (a .alphabet) .symbols * a .n → a .matrix .now ≡ matrixOf (codeOn (a .alphabet)) m (a .n)
+    → Interpolates (codeOn (a .alphabet)) (a .n) (a .k - 1) (degree c .bound .result) m (take (c .before .before .count .result) (written c)))
 front c m size loaded =
     let s = entry (degree c) in
     let a = s .args in
+    let C = codeOn (a .alphabet) in
     let n = c .before .before in
-    subst (Interpolates sixteen (a .n) (a .k - 1) (degree c .bound .result) m)
-    (sym (prefix sixteen (a .matrix .now) (a .k - 1) (degree c .bound .result) (c .polynomial2 .result) (replicate coefficientRoom 0) (written c) (c .polynomial2 .ensures) (n .count .result) (n .count .ensures)))
+    subst (Interpolates C (a .n) (a .k - 1) (degree c .bound .result) m)
+    (sym (prefix C (a .matrix .now) (a .k - 1) (degree c .bound .result) (c .polynomial2 .result) (replicate coefficientRoom 0) (written c) (c .polynomial2 .ensures) (n .count .result) (n .count .ensures)))
     (c .polynomial2 .ensures .interpolates m (a .n) (s .pre .0 .2) size loaded)
 
 rooted : (c : tie.After-polynomial2)
-    → (let a = entry (degree c) .args in Rooted sixteen (a .n) (a .k) (degree c .bound .result) (degree c .bound .result) (take (c .before .before .count .result) (written c)))
+    → (let a = entry (degree c) .args in Rooted (codeOn (a .alphabet)) (a .n) (a .k) (degree c .bound .result) (degree c .bound .result) (take (c .before .before .count .result) (written c)))
 rooted c =
     let s = entry (degree c) in
     let a = s .args in
@@ -123,10 +124,11 @@ returns c m size loaded =
     let p = l .before .before .before .before .before in
     let s = entry (degree p) in
     let a = s .args in
+    let C = codeOn (a .alphabet) in
     let z = s .pre .0 in
     let d = degree p .bound .result in
-    lists sixteen sixteen-field (a .n) (a .k) d d (take (p .before .before .count .result) (written p)) (rooted p) m size (front p m size loaded .through) (omega arith) _
-    (bound-of-cost sixteen (a .n) (a .k - 1) (a .cost) d (a .matrix .now) m (z .2) (degree p .bound .ensures) (z .3) size loaded) (l .listed .ensures m size loaded)
+    lists C (field-on (a .alphabet)) (a .n) (a .k) d d (take (p .before .before .count .result) (written p)) (rooted p) m size (front p m size loaded .through) (omega arith) _
+    (bound-of-cost C (a .n) (a .k - 1) (a .cost) d (a .matrix .now) m (z .2) (degree p .bound .ensures) (z .3) size loaded) (l .listed .ensures m size loaded)
 
 pub list-within-spec : {M : Type 1} → statement M
 list-within-spec =

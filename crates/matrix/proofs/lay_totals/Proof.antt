@@ -1,42 +1,56 @@
 -- The loop has laid the totals of the first i columns.
 use mathlib.Core.List.{_++_, map}
 use mathlib.Core.Path.{_≡_, refl, _∙_}
-use Prim.Native.Nat.{_-_, _≤_}
+use Prim.Native.Nat.{_-_, _≤_, _<_}
 use native.Mathlib.Omega.{arith}
+use borrow.Author.Needs.{needs}
 use lib.ListN.{length, drop, length-set}
-use Rattle.definitions.proofs.Loops.{map-none, map-more, map-whole}
-use Rattle.definitions.specs.Field.{sixteen}
+use Rattle.alphabet.proofs.Sizes.{sized}
+use Rattle.alphabet.specs.Codes.{codeOn}
+use Rattle.definitions.proofs.Loops.{map-none, map-more, map-whole, row-within}
 use Rattle.definitions.specs.Tools.{below}
 use Rattle.definitions.specs.Weights.{sumOfColumn}
 use Rattle.matrix.proofs.lay_totals.Statement.{statement}
 use Rattle.matrix.proofs.lay_totals.Tie as tie
 
 abbrev Inv-loop : tie.InvT-loop
-Inv-loop entries totals₀ i₀ totals i =
-    (i ≤ sixteen .positions) × (length totals ≡ length totals₀) × (totals ≡ map (sumOfColumn sixteen entries) (below i) ++ drop i totals₀)
+Inv-loop alphabet entries totals₀ positions i₀ totals i =
+    (i ≤ (codeOn alphabet) .positions) × (length totals ≡ length totals₀) × (totals ≡ map (sumOfColumn (codeOn alphabet) entries) (below i) ++ drop i totals₀)
 
 abbrev μ-loop : tie.MeasureT-loop
-μ-loop entries totals₀ i₀ totals i = sixteen .positions - i
+μ-loop alphabet entries totals₀ positions i₀ totals i = (codeOn alphabet) .positions - i
 
 loop-holds : tie.Need-loop-holds Inv-loop μ-loop
 loop-holds c =
-    let a = c .before .before .args in
-    (omega arith, refl, map-none (sumOfColumn sixteen (a .entries .now)) (a .totals .now))
+    let a = c .before .before .before .args in
+    (omega arith, refl, map-none (sumOfColumn (codeOn (a .alphabet)) (a .entries .now)) (a .totals .now))
+
+column-total-requires : tie.Need-column-total-requires Inv-loop μ-loop
+column-total-requires c κs =
+    let l = c .before in
+    let s = l .before .before .before .before in
+    let C = codeOn (s .args .alphabet) in
+    let i : l .loop .i < C .positions = omega arith in
+    (i, row-within (C .symbols) (l .loop .i) (C .positions) (length (s .args .entries .now)) i (omega arith))
+
+mul-totals : tie.Need-mul-totals Inv-loop μ-loop
+mul-totals c = let z = sized (c .before .before .before .before .before .before .args .alphabet) in omega arith
 
 loop-again : tie.Need-loop-again Inv-loop μ-loop
 loop-again c =
     let l = c .before .before in
-    let a = l .before .before .before .args in (
+    let a = l .before .before .before .before .args in (
       omega arith,
       length-set (l .loop .totals) (l .loop .i) (c .column-total .result) ∙ l .loop .inv .1,
-      map-more (sumOfColumn sixteen (a .entries .now)) (a .totals .now) (l .loop .totals) (l .loop .i) (c .column-total .result) (omega arith) (l .loop .inv .2) (c .column-total .ensures),
+      map-more (sumOfColumn (codeOn (a .alphabet)) (a .entries .now)) (a .totals .now) (l .loop .totals) (l .loop .i) (c .column-total .result) (omega arith) (l .loop .inv .2) (c .column-total .ensures),
     )
 
 returns : tie.Need-returns Inv-loop μ-loop
 returns c =
     let l = c .before in
-    let a = l .before .before .before .args in
-    map-whole (sumOfColumn sixteen (a .entries .now)) (a .totals .now) (l .loop .totals) (l .loop .i) (sixteen .positions) (omega arith) (omega arith) (l .loop .inv .2)
+    let a = l .before .before .before .before .args in
+    let C = codeOn (a .alphabet) in
+    map-whole (sumOfColumn C (a .entries .now)) (a .totals .now) (l .loop .totals) (l .loop .i) (C .positions) (omega arith) (omega arith) (l .loop .inv .2)
 
 pub lay-totals-spec : {M : Type 1} → statement M
 lay-totals-spec =
@@ -44,9 +58,10 @@ lay-totals-spec =
     (tie.spec
     Inv-loop
     μ-loop
+    (λ c κs. search needs)
     loop-holds
-    (λ c κs. omega arith)
-    (λ c. omega arith)
+    column-total-requires
+    mul-totals
     (λ c. omega arith)
     (λ c. omega arith)
     (λ c. omega arith)

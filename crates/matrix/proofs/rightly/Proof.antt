@@ -4,8 +4,11 @@ use mathlib.Core.Path.{_≡_, sym, _∙_}
 use native.Mathlib.Omega.{arith}
 use borrow.Author.Needs.{needs}
 use borrow.Author.Tests.{eq-eqb, ne-eqb, not-true, not-false}
-use Rattle.definitions.specs.Field.{sixteen}
-use Rattle.definitions.specs.Held.{Held, held, totalsRight}
+use Rattle.alphabet.specs.Codes.{codeOn}
+use Rattle.definitions.specs.Held.{Held, held, places, totalsRight}
+use Rattle.definitions.specs.Field.{Code}
+use lib.ListN.{length}
+use Rattle.matrix.proofs.Columns.{places-within}
 use Rattle.definitions.specs.Weights.{cost}
 use Rattle.matrix.proofs.Record.{counts, fills, wrong-count, wrong-size, wrong-total, wrong-cost, rest-decides}
 use Rattle.matrix.proofs.rightly.Statement.{statement}
@@ -14,36 +17,61 @@ use Rattle.matrix.proofs.rightly.Tie as tie
 abbrev handed : tie.Start → Held
 handed s = held (s .args .n) (s .args .cost) (s .args .totals .now) (s .args .entries .now)
 
-counted : (c : tie.Else1) → counts sixteen (handed (c .before .before .before)) ≡ true
-counted c = eq-eqb _ _ (c .if1 .left)
+abbrev code : tie.Start → Code
+code s = codeOn (s .args .alphabet)
 
-filled : (c : tie.Else2) → fills sixteen (handed (c .before .before .before .before)) ≡ true
-filled c = eq-eqb _ _ (c .if2 .left)
+counted : (c : tie.Else1) → (let s = c .before .before .before .before in counts (code s) (handed s) ≡ true)
+counted c = eq-eqb _ _ (c .if1 .left ∙ c .before .positions .ensures)
 
-totalled : (c : tie.Else3) → (let s = c .before .before .before .before .before .before in totalsRight sixteen (s .args .totals .now) (s .args .entries .now) ≡ true)
+full : (c : tie.Else2) → (let s = c .before .before .before .before .before .before in length (s .args .entries .now) ≡ places (code s))
+full c = c .if2 .left ∙ c .before .places .ensures
+
+filled : (c : tie.Else2) → (let s = c .before .before .before .before .before .before in fills (code s) (handed s) ≡ true)
+filled c = eq-eqb _ _ (full c)
+
+totalled : (c : tie.Else3) → (let s = c .before .before .before .before .before .before .before .before in totalsRight (code s) (s .args .totals .now) (s .args .entries .now) ≡ true)
 totalled c = sym (c .before .totals-right .ensures) ∙ not-false _ (c .if3 .left)
 
 returns : tie.Need-returns
-returns c = wrong-count sixteen (handed (c .before .before .before)) (ne-eqb _ _ (c .if1 .taken))
+returns c =
+    let s = c .before .before .before .before in
+    wrong-count (code s) (handed s) (ne-eqb _ _ (λ e. c .if1 .taken (e ∙ sym (c .before .positions .ensures))))
 
 returns-2 : tie.Need-returns-2
-returns-2 c = wrong-size sixteen (handed (c .before .before .before .before)) (counted (c .before)) (ne-eqb _ _ (c .if2 .taken))
+returns-2 c =
+    let s = c .before .before .before .before .before .before in
+    wrong-size (code s) (handed s) (counted (c .before .before)) (ne-eqb _ _ (λ e. c .if2 .taken (e ∙ sym (c .before .places .ensures))))
+
+totals-right-requires : tie.Need-totals-right-requires
+totals-right-requires c κs = let e = c .before .before in (e .if1 .left ∙ e .before .positions .ensures, full c)
 
 returns-3 : tie.Need-returns-3
 returns-3 c =
     let t = c .before in
     let e = t .before in
-    wrong-total sixteen (handed (e .before .before .before .before)) (counted (e .before)) (filled e) (sym (t .totals-right .ensures) ∙ not-true _ (c .if3 .taken))
+    let s = e .before .before .before .before .before .before in
+    wrong-total (code s) (handed s) (counted (e .before .before)) (filled e) (sym (t .totals-right .ensures) ∙ not-true _ (c .if3 .taken))
+
+cost-requires : tie.Need-cost-requires
+cost-requires c κs =
+    let e = c .before .before in
+    let f = full e in
+    let m = places-within (e .before .before .before .before .before .before .args .alphabet) in
+    omega arith
 
 returns-4 : tie.Need-returns-4
 returns-4 c =
     let p = c .before in
     let t = p .before in
     let e = t .before .before in
-    let h = handed (e .before .before .before .before) in
+    let s = e .before .before .before .before .before .before in
+    let h = handed s in
     let counts : p .cost .result ≡ cost (h .entries) = p .cost .ensures in
-    wrong-cost sixteen h (counted (e .before)) (filled e) (totalled t)
+    wrong-cost (code s) h (counted (e .before .before)) (filled e) (totalled t)
     (ne-eqb (h .cost) (cost (h .entries)) (λ (same : h .cost ≡ cost (h .entries)). let z : ⊥ = omega arith in z))
+
+unused-zero-requires : tie.Need-unused-zero-requires
+unused-zero-requires c κs = full (c .before .before .before .before)
 
 returns-5 : tie.Need-returns-5
 returns-5 c =
@@ -51,19 +79,22 @@ returns-5 c =
     let p = z .before in
     let t = p .before in
     let e = t .before .before in
-    let h = handed (e .before .before .before .before) in
+    let s = e .before .before .before .before .before .before in
+    let h = handed s in
     let counts : p .cost .result ≡ cost (h .entries) = p .cost .ensures in
-    rest-decides sixteen h (counted (e .before)) (filled e) (totalled t) (c .unused-zero .result) (eq-eqb (h .cost) (cost (h .entries)) (omega arith)) (c .unused-zero .ensures)
+    rest-decides (code s) h (counted (e .before .before)) (filled e) (totalled t) (c .unused-zero .result) (eq-eqb (h .cost) (cost (h .entries)) (omega arith)) (c .unused-zero .ensures)
 
 pub rightly-spec : {M : Type 1} → statement M
 rightly-spec =
     tie.close
     (tie.spec
+    (λ c κs. search needs)
     returns
+    (λ c κs. search needs)
     returns-2
-    (λ c κs. search needs)
+    totals-right-requires
     returns-3
-    (λ c κs. search needs)
+    cost-requires
     returns-4
-    (λ c κs. search needs)
+    unused-zero-requires
     returns-5)

@@ -1,47 +1,64 @@
 -- Each total that was looked at is its column's, up to the first that is not.
 use mathlib.Core.Bool.{true}
 use mathlib.Core.Path.{_≡_, sym}
-use Prim.Native.Nat.{_-_, _≤_}
+use Prim.Native.Nat.{_-_, _≤_, _<_}
 use native.Mathlib.Omega.{arith}
+use borrow.Author.Needs.{needs}
+use lib.ListN.{length}
+use Rattle.alphabet.proofs.Sizes.{sized}
+use Rattle.alphabet.specs.Codes.{codeOn}
+use Rattle.definitions.proofs.Loops.{row-within}
 use Rattle.definitions.proofs.Every.{every-none, every-more, every-but}
-use Rattle.definitions.specs.Field.{sixteen}
 use Rattle.definitions.specs.Tools.{every}
 use Rattle.matrix.proofs.Record.{isTotal, total-is, total-is-not}
 use Rattle.matrix.proofs.totals_right.Statement.{statement}
 use Rattle.matrix.proofs.totals_right.Tie as tie
 
 abbrev Inv-loop : tie.InvT-loop
-Inv-loop totals entries i₀ i = (i ≤ sixteen .positions) × (every i (isTotal sixteen totals entries) ≡ true)
+Inv-loop alphabet totals entries positions i₀ i = (i ≤ (codeOn alphabet) .positions) × (every i (isTotal (codeOn alphabet) totals entries) ≡ true)
 
 abbrev μ-loop : tie.MeasureT-loop
-μ-loop totals entries i₀ i = sixteen .positions - i
+μ-loop alphabet totals entries positions i₀ i = (codeOn alphabet) .positions - i
 
 loop-holds : tie.Need-loop-holds Inv-loop μ-loop
-loop-holds c = let a = c .before .before .args in (omega arith, every-none (isTotal sixteen (a .totals .now) (a .entries .now)))
+loop-holds c = let a = c .before .before .before .args in (omega arith, every-none (isTotal (codeOn (a .alphabet)) (a .totals .now) (a .entries .now)))
+
+mul-if1 : tie.Need-mul-if1 Inv-loop μ-loop
+mul-if1 c = let z = sized (c .before .before .before .before .before .args .alphabet) in omega arith
+
+column-total-requires : tie.Need-column-total-requires Inv-loop μ-loop
+column-total-requires c κs =
+    let s = c .before .before .before .before .before .before in
+    let C = codeOn (s .args .alphabet) in
+    let l = c .before .before in
+    let i : l .loop .i < C .positions = omega arith in
+    (i, row-within (C .symbols) (l .loop .i) (C .positions) (length (s .args .entries .now)) i (omega arith))
 
 returns : tie.Need-returns Inv-loop μ-loop
 returns c =
     let t = c .before in
     let l = t .before .before .before in
-    let a = l .before .before .before .args in
+    let a = l .before .before .before .before .args in
+    let C = codeOn (a .alphabet) in
     sym
-    (every-but (isTotal sixteen (a .totals .now) (a .entries .now)) (sixteen .positions) (l .loop .i) (omega arith)
-    (total-is-not sixteen (a .totals .now) (a .entries .now) (l .loop .i) (t .column-total .result) (t .column-total .ensures) (c .if1 .taken)))
+    (every-but (isTotal C (a .totals .now) (a .entries .now)) (C .positions) (l .loop .i) (omega arith)
+    (total-is-not C (a .totals .now) (a .entries .now) (l .loop .i) (t .column-total .result) (t .column-total .ensures) (c .if1 .taken)))
 
 loop-again : tie.Need-loop-again Inv-loop μ-loop
 loop-again c =
     let t = c .before in
     let l = t .before .before .before in
-    let a = l .before .before .before .args in (
+    let a = l .before .before .before .before .args in
+    let C = codeOn (a .alphabet) in (
       omega arith,
-      every-more (isTotal sixteen (a .totals .now) (a .entries .now)) (l .loop .i) (l .loop .inv .1)
-          (total-is sixteen (a .totals .now) (a .entries .now) (l .loop .i) (t .column-total .result) (t .column-total .ensures) (c .if1 .left)),
+      every-more (isTotal C (a .totals .now) (a .entries .now)) (l .loop .i) (l .loop .inv .1)
+          (total-is C (a .totals .now) (a .entries .now) (l .loop .i) (t .column-total .result) (t .column-total .ensures) (c .if1 .left)),
     )
 
 returns-2 : tie.Need-returns-2 Inv-loop μ-loop
 returns-2 c =
     let l = c .before in
-    let e : l .loop .i ≡ sixteen .positions = omega arith in
+    let e : l .loop .i ≡ codeOn (l .before .before .before .before .args .alphabet) .positions = omega arith in
     sym (rw e at (l .loop .inv .1))
 
 pub totals-right-spec : {M : Type 1} → statement M
@@ -50,10 +67,11 @@ totals-right-spec =
     (tie.spec
     Inv-loop
     μ-loop
+    (λ c κs. search needs)
     loop-holds
+    mul-if1
     (λ c. omega arith)
-    (λ c. omega arith)
-    (λ c κs. omega arith)
+    column-total-requires
     returns
     (λ c. omega arith)
     (λ c. omega arith)

@@ -1,35 +1,68 @@
 -- Where all columns are used nothing is left; otherwise the rest is looked through.
 use mathlib.Core.Path.{sym, _∙_, ap}
-use Prim.Native.Nat.{_*_, _-_}
+use Prim.Native.Nat.{ℕ, _*_, _-_, _≤_}
+use native.Mathlib.Nat.{mul-le-mul-left}
 use native.Mathlib.Omega.{arith}
 use borrow.Author.Needs.{needs}
 use lib.ListN.{length, drop, length-drop, drop-of-length-le}
 use lib.Seq.{take-all}
+use Rattle.alphabet.specs.Codes.{codeOn}
 use Rattle.definitions.proofs.Zeros.{isZero-nil}
-use Rattle.definitions.specs.Field.{sixteen}
 use Rattle.definitions.specs.Polynomial.{isZero}
+use Rattle.matrix.proofs.Columns.{places-within}
 use Rattle.matrix.proofs.unused_zero.Statement.{statement}
 use Rattle.matrix.proofs.unused_zero.Tie as tie
 
 returns : tie.Need-returns
 returns c =
-    let s = c .before .before in
-    sym (ap isZero (drop-of-length-le (s .args .entries .now) {i = sixteen .symbols * s .args .n} (omega arith)) ∙ isZero-nil)
+    let s = c .before .before .before in
+    let C = codeOn (s .args .alphabet) in
+    let h : C .positions ≤ s .args .n = omega arith in
+    let w : C .symbols * C .positions ≤ C .symbols * s .args .n = mul-le-mul-left (C .symbols) h in
+    sym (ap isZero (drop-of-length-le (s .args .entries .now) {i = C .symbols * s .args .n} (omega arith)) ∙ isZero-nil)
+
+-- what is used lies within the entries
+used : (c : tie.After-symbols) → (let s = c .before .before .before .before in (c .symbols .result * s .args .n ≤ length (s .args .entries .now)) × (length (s .args .entries .now) ≤ 992))
+used c =
+    let s = c .before .before .before .before in
+    let C = codeOn (s .args .alphabet) in
+    let h : s .args .n ≤ C .positions = omega arith in
+    let w : C .symbols * s .args .n ≤ C .symbols * C .positions = mul-le-mul-left (C .symbols) h in
+    let e = ap (λ (q : ℕ). q * s .args .n) (c .symbols .ensures) in
+    let m = places-within (s .args .alphabet) in
+    (omega arith, omega arith)
+
+mul-used : tie.Need-mul-used
+mul-used c = let h = used c in omega arith
+
+sub-all-zero : tie.Need-sub-all-zero
+sub-all-zero c = let h = used c in omega arith
+
+part-all-zero-start : tie.Need-part-all-zero-start
+part-all-zero-start c = let h = used c in omega arith
+
+part-all-zero-end : tie.Need-part-all-zero-end
+part-all-zero-end c = let h = used c in omega arith
 
 returns-2 : tie.Need-returns-2
 returns-2 c =
-    let s = c .before .before .before .before in
-    let rest = length-drop (sixteen .symbols * s .args .n) (s .args .entries .now) in
-    c .all-zero .ensures ∙ ap isZero (take-all (length (s .args .entries .now) - sixteen .symbols * s .args .n) (drop (sixteen .symbols * s .args .n) (s .args .entries .now)) (omega arith))
+    let q = c .before .before in
+    let s = q .before .before .before .before in
+    let x = q .symbols .result * s .args .n in
+    let m = s .args .entries .now in
+    let rest = length-drop x m in
+    c .all-zero .ensures ∙ ap isZero (take-all (length m - x) (drop x m) (omega arith)) ∙ ap (λ (y : ℕ). isZero (drop (y * s .args .n) m)) (q .symbols .ensures)
 
 pub unused-zero-spec : {M : Type 1} → statement M
 unused-zero-spec =
     tie.close
     (tie.spec
+    (λ c κs. search needs)
     returns
-    (λ c. search needs)
-    (λ c. search needs)
-    (λ c. search needs)
-    (λ c. search needs)
+    (λ c κs. search needs)
+    mul-used
+    sub-all-zero
+    part-all-zero-start
+    part-all-zero-end
     (λ c κs. search needs)
     returns-2)

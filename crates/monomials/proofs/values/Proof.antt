@@ -1,89 +1,61 @@
--- The loop fills the row from the front; the exponents are places of the rows of powers.
-use mathlib.Core.Path.{_≡_, _∙_, ap₂, subst, sym}
-use Prim.Native.Nat.{ℕ, _-_, _≤_, _<_}
-use native.Mathlib.Omega.{arith}
+-- In either case the values are those of the alphabet.
+use mathlib.Core.Path.{_≡_, sym, subst}
+use Rattle.alphabet.specs.Codes.{codeOn}
+use Rattle.alphabet.specs.declared.Alphabet.{Alphabet}
+use Rattle.definitions.specs.Code.{Symbols}
+use Rattle.field.specs.Table.{Tabled}
+use Rattle.monomials.specs.Rows.{valuesRow}
 use borrow.Author.Needs.{needs}
-use lib.ListN.{getD}
-use Rattle.algebra.specs.Grid.{entryOf}
-use Rattle.definitions.specs.Field.{sixteen}
-use Rattle.blocks.proofs.Filled.{Filling, filling-none, filling-more, filling-whole}
-use Rattle.blocks.specs.Row.{width}
 use Rattle.monomials.proofs.values.Statement.{statement}
 use Rattle.monomials.proofs.values.Tie as tie
 
-abbrev Inv-loop : tie.InvT-loop
-Inv-loop table px py es count row₀ place₀ row place =
-    (place ≤ count) × Filling count place (λ (k : ℕ). sixteen .times (getD px (entryOf es 0 k) 0) (getD py (entryOf es 1 k) 0)) row
-
-abbrev μ-loop : tie.MeasureT-loop
-μ-loop table px py es count row₀ place₀ row place = count - place
-
-loop-holds : tie.Need-loop-holds Inv-loop μ-loop
-loop-holds c =
-    let a = c .args in
-    (omega arith, filling-none (a .count) (λ k. sixteen .times (getD (a .px .now) (entryOf (a .es .now) 0 k) 0) (getD (a .py .now) (entryOf (a .es .now) 1 k) 0)) (a .row .now) (c .pre .1 .1 .2))
-
--- the exponent of x is a place
-x-place : (c : tie.After-wide Inv-loop μ-loop) → c .wide .result < width
-x-place c =
-    let l = c .before .before .before in
-    subst (λ (x : ℕ). x < width) (sym (c .wide .ensures .0)) (l .before .pre .1 .1 .0 0 (l .loop .place))
-
--- and that of y
-y-place : (c : tie.After-wide2 Inv-loop μ-loop) → c .wide2 .result < width
-y-place c =
-    let l = c .before .before .before .before .before in
-    subst (λ (y : ℕ). y < width) (sym (c .wide2 .ensures .0)) (l .before .pre .1 .1 .0 1 (l .loop .place))
-
-element-copy-out-look : tie.Need-element-copy-out-look Inv-loop μ-loop
-element-copy-out-look c = let h = x-place (c .before .before) in omega arith
-
-element-copy-out-look-2 : tie.Need-element-copy-out-look-2 Inv-loop μ-loop
-element-copy-out-look-2 c = let h = y-place (c .before) in omega arith
-
-look-requires : tie.Need-look-requires Inv-loop μ-loop
-look-requires c κs =
-    let s = c .before .before .before .before .before .before .before .before in
-    (s .pre .0, (s .pre .1 .0 .0 _, s .pre .1 .0 .1 _))
-
-loop-again : tie.Need-loop-again Inv-loop μ-loop
-loop-again c =
-    let w = c .before .before .before in
-    let l = w .before .before .before .before .before in
-    let a = l .before .args in (
-      omega arith,
-      filling-more (a .count) (λ k. sixteen .times (getD (a .px .now) (entryOf (a .es .now) 0 k) 0) (getD (a .py .now) (entryOf (a .es .now) 1 k) 0)) (l .loop .place) (c .look .result) (l .loop .row)
-          (omega arith) (omega arith) (l .loop .inv .1)
-          (c .look .ensures
-          ∙ ap₂ (λ (x y : ℕ). sixteen .times (getD (a .px .now) x 0) (getD (a .py .now) y 0)) (w .before .before .wide .ensures .0) (w .wide2 .ensures .0)),
+values-by-requires : tie.Need-values-by-requires
+values-by-requires c κs =
+    let s = c .before .before .before .before in
+    let a = s .args in
+    let e = c .before .enum-told .given .1 in (
+      subst (λ (w : Alphabet). Tabled (codeOn w) (a .table .now)) e (s .pre .0),
+      (
+        (subst (λ (w : Alphabet). Symbols (codeOn w) (a .px .now)) e (s .pre .1 .0 .0), subst (λ (w : Alphabet). Symbols (codeOn w) (a .py .now)) e (s .pre .1 .0 .1)),
+        s .pre .1 .1,
+      ),
     )
 
-returns : tie.Need-returns Inv-loop μ-loop
+values-by-requires-2 : tie.Need-values-by-requires-2
+values-by-requires-2 c κs =
+    let s = c .before .before .before .before in
+    let a = s .args in
+    let e = c .before .enum-told2 .given .1 in (
+      subst (λ (w : Alphabet). Tabled (codeOn w) (a .table .now)) e (s .pre .0),
+      (
+        (subst (λ (w : Alphabet). Symbols (codeOn w) (a .px .now)) e (s .pre .1 .0 .0), subst (λ (w : Alphabet). Symbols (codeOn w) (a .py .now)) e (s .pre .1 .0 .1)),
+        s .pre .1 .1,
+      ),
+    )
+
+returns : tie.Need-returns
 returns c =
-    let l = c .before in
-    let a = l .before .args in
-    let e : l .loop .place ≡ a .count = omega arith in
-    filling-whole (a .count) (λ k. sixteen .times (getD (a .px .now) (entryOf (a .es .now) 0 k) 0) (getD (a .py .now) (entryOf (a .es .now) 1 k) 0)) (l .loop .row) (omega arith)
-    (rw e at (l .loop .inv .1))
+    let p = c .before .before in
+    let s = c .before .before .before .before .before in
+    let a = s .args in
+    subst (λ (w : Alphabet). c .values-by .last .1 .1 .1 .1 .1 .1 .0 ≡ valuesRow (codeOn w) (a .count) (a .px .now) (a .py .now) (a .es .now)) (sym (c .before .before .enum-told .given .1))
+    (c .values-by .ensures)
+
+returns-2 : tie.Need-returns-2
+returns-2 c =
+    let p = c .before .before in
+    let s = c .before .before .before .before .before in
+    let a = s .args in
+    subst (λ (w : Alphabet). c .values-by2 .last .1 .1 .1 .1 .1 .1 .0 ≡ valuesRow (codeOn w) (a .count) (a .px .now) (a .py .now) (a .es .now)) (sym (c .before .before .enum-told2 .given .1))
+    (c .values-by2 .ensures)
 
 pub values-spec : {M : Type 1} → statement M
 values-spec =
     tie.close
     (tie.spec
-    Inv-loop
-    μ-loop
-    loop-holds
     (λ c. search needs)
+    values-by-requires
     (λ c. search needs)
-    (λ c κs. search needs)
-    (λ c. search needs)
-    (λ c. search needs)
-    (λ c κs. search needs)
-    element-copy-out-look
-    element-copy-out-look-2
-    look-requires
-    (λ c. search needs)
-    (λ c. search needs)
-    (λ c. search needs)
-    loop-again
-    returns)
+    values-by-requires-2
+    returns
+    returns-2)

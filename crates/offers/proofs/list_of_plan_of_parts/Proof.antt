@@ -4,8 +4,8 @@ use mathlib.Core.Path.{_≡_, refl}
 use Prim.Native.Nat.{_*_}
 use native.Mathlib.Omega.{arith}
 use lib.ListN.{length}
+use Rattle.alphabet.specs.Codes.{codeOn}
 use Rattle.definitions.proofs.Held.{Rightly}
-use Rattle.definitions.specs.Field.{sixteen}
 use Rattle.definitions.specs.Held.{Held, held, bytesOf}
 use Rattle.definitions.specs.Refusals.{columns}
 use Rattle.listing.proofs.Answers.{refused-by-check, passed-on}
@@ -29,7 +29,7 @@ given c = let a = entry c .args in held (a .n) (a .cost) (a .totals .now) (a .en
 
 settled : (c : tie.After-symbols)
     → (let a = entry c .args in
-    Came (heldPlanStart sixteen (given c) (a .k) (a .limit) (a .steps) (a .reliabilities .now) (length (a .rows .now)) (length (a .scores .now))) [] (toldChecked (c .symbols .result)))
+    Came (heldPlanStart (codeOn (a .alphabet)) (given c) (a .k) (a .limit) (a .steps) (a .reliabilities .now) (length (a .rows .now)) (length (a .scores .now))) [] (toldChecked (c .symbols .result)))
 settled c =
     let scores = c .before in
     let rows = scores .before in
@@ -37,42 +37,48 @@ settled c =
     let whole = stored .before .before in
     let few = whole .before in
     let limit = few .before in
-    start ▸ limit .before .sizes .ensures ▸ limit .or .ensures ▸ few .steps .ensures ▸ whole .length .ensures
-    ▸ stored-tried sixteen (given c) (toldChecked (whole .length .result)) (stored .or2 .ensures) (stored .before .rightly .ensures) ▸ rows .room .ensures ▸ scores .or3 .ensures ▸ c .symbols .ensures
+    let a = entry c .args in
+    start ▸ limit .before .sizes .ensures ▸ limit .or .ensures ▸ few .steps .ensures ▸ whole .entries .ensures
+    ▸ stored-tried (codeOn (a .alphabet)) (given c) (toldChecked (whole .entries .result)) (stored .or2 .ensures) (stored .before .rightly .ensures) ▸ rows .room .ensures ▸ scores .or3 .ensures ▸ c .symbols .ensures
 
 columns-checked-requires : tie.Need-columns-checked-requires
 columns-checked-requires c κs e =
     let a = entry c .args in
-    let f = held-plan-fits sixteen (given c) (a .k) (a .limit) (a .steps) (a .reliabilities .now) (length (a .rows .now)) (length (a .scores .now)) (accepted (settled c) e) in
+    let f = held-plan-fits (codeOn (a .alphabet)) (given c) (a .k) (a .limit) (a .steps) (a .reliabilities .now) (length (a .rows .now)) (length (a .scores .now)) (accepted (settled c) e) in
     let full = f .1 in
     (f .0 .sized .2, omega arith)
 
 came : (c : tie.After-columns-checked)
     → (let a = entry (c .before) .args in
-    Came (heldPlanStart sixteen (given (c .before)) (a .k) (a .limit) (a .steps) (a .reliabilities .now) (length (a .rows .now)) (length (a .scores .now)) ++ (columns sixteen (a .n) (a .reliabilities .now) ∷ [])) [] (toldChecked (c .columns-checked .result)))
+    Came (heldPlanStart (codeOn (a .alphabet)) (given (c .before)) (a .k) (a .limit) (a .steps) (a .reliabilities .now) (length (a .rows .now)) (length (a .scores .now)) ++ (columns (codeOn (a .alphabet)) (a .n) (a .reliabilities .now) ∷ [])) [] (toldChecked (c .columns-checked .result)))
 came c =
     let a = entry (c .before) .args in
-    further (columns sixteen (a .n) (a .reliabilities .now) ∷ []) (settled (c .before)) ▸ c .columns-checked .ensures
+    further (columns (codeOn (a .alphabet)) (a .n) (a .reliabilities .now) ∷ []) (settled (c .before)) ▸ c .columns-checked .ensures
 
 returns : tie.Need-returns
 returns c =
     let w = c .before .before .before in
     let a = entry (w .before) .args in
-    refused-by-check sixteen (a .n) (a .k) (costAndPlanLeft (a .limit) (a .reliabilities .now) (a .steps)) (bytesOf sixteen (given (w .before))) (a .rows .now) (a .scores .now) (came w) (c .before .checked .given .1)
+    let C = codeOn (a .alphabet) in
+    refused-by-check C (a .n) (a .k) (costAndPlanLeft (a .limit) (a .reliabilities .now) (a .steps)) (bytesOf C (given (w .before))) (a .rows .now) (a .scores .now) (came w) (c .before .checked .given .1)
+
+abbrev passed : tie.After-enum-told → tie.Start
+passed t = entry (t .before .before .before)
 
 fit : (c : tie.After-enum-told)
     → (let a = entry (c .before .before .before) .args in
-    Fit sixteen (a .n) (a .k) (a .limit) (length (a .rows .now)) (length (a .scores .now)) × (length (a .reliabilities .now) ≡ sixteen .symbols * a .n)
-    × Rightly sixteen (given (c .before .before .before)))
+    Fit (codeOn (a .alphabet)) (a .n) (a .k) (a .limit) (length (a .rows .now)) (length (a .scores .now)) × (length (a .reliabilities .now) ≡ codeOn (a .alphabet) .symbols * a .n)
+    × Rightly (codeOn (a .alphabet)) (given (c .before .before .before)))
 fit c =
     let a = entry (c .before .before .before) .args in
-    held-plan-fits sixteen (given (c .before .before .before)) (a .k) (a .limit) (a .steps) (a .reliabilities .now) (length (a .rows .now)) (length (a .scores .now)) (accepts-front _ (columns sixteen (a .n) (a .reliabilities .now) ∷ []) (accepted (came (c .before .before)) (c .enum-told .given .1)))
+    let C = codeOn (a .alphabet) in
+    held-plan-fits C (given (c .before .before .before)) (a .k) (a .limit) (a .steps) (a .reliabilities .now) (length (a .rows .now)) (length (a .scores .now)) (accepts-front _ (columns C (a .n) (a .reliabilities .now) ∷ []) (accepted (came (c .before .before)) (c .enum-told .given .1)))
 
 list-planned-requires : tie.Need-list-planned-requires
 list-planned-requires c κs =
     let t = c .before .before in
     let f = fit t in
-    (f .0, (rightly-priced sixteen (given (t .before .before .before)) (f .2) (f .0 .sized .2), f .1))
+    (f .0, (rightly-priced (codeOn (passed t .args .alphabet)) (given (t .before .before .before)) (f .2) (f .0 .sized .2), f .1))
 
 returns-2 : tie.Need-returns-2
 returns-2 c =
@@ -80,7 +86,8 @@ returns-2 c =
     let t = q .before .before .before in
     let w = t .before .before in
     let a = entry (w .before) .args in
-    passed-on sixteen (a .n) (a .k) (costAndPlanLeft (a .limit) (a .reliabilities .now) (a .steps)) (bytesOf sixteen (given (w .before))) (a .rows .now) (a .scores .now) (came w) (t .enum-told .given .1) refl _ _ _
+    let C = codeOn (a .alphabet) in
+    passed-on C (a .n) (a .k) (costAndPlanLeft (a .limit) (a .reliabilities .now) (a .steps)) (bytesOf C (given (w .before))) (a .rows .now) (a .scores .now) (came w) (t .enum-told .given .1) refl _ _ _
     (q .list-planned .ensures)
 
 pub list-of-plan-of-parts-spec : {M : Type 1} → statement M

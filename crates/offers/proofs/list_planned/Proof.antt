@@ -3,7 +3,7 @@ use mathlib.Core.List.{List, [], _∷_}
 use Prim.Native.Nat.{ℕ, _*_, _≤_}
 use native.Mathlib.Omega.{arith}
 use lib.ListN.{take}
-use Rattle.definitions.specs.Field.{sixteen}
+use Rattle.alphabet.specs.Codes.{codeOn}
 use Rattle.definitions.specs.Planning.{ruled}
 use Rattle.definitions.specs.Weights.{cost}
 use Rattle.listing.proofs.Answers.{refused-by-cost}
@@ -14,14 +14,14 @@ use Rattle.offers.proofs.list_planned.Tie as tie
 
 -- the bytes in front of the entries
 abbrev bytes : tie.Start → List ℕ
-bytes s = take (sixteen .symbols * s .args .n) (s .args .entries .now)
+bytes s = take (codeOn (s .args .alphabet) .symbols * s .args .n) (s .args .entries .now)
 
 returns : tie.Need-returns
 returns c =
     let s = c .before .before .before .before .before in
     let a = s .args in
     let paid = s .pre .1 .0 .paid in
-    refused-by-cost sixteen (a .n) (a .k) (a .limit) (bytes s) (a .rows .now) (a .scores .now) (ruled (a .reliabilities .now) (a .steps) (bytes s) ∷ []) (omega arith)
+    refused-by-cost (codeOn (a .alphabet)) (a .n) (a .k) (a .limit) (bytes s) (a .rows .now) (a .scores .now) (ruled (a .reliabilities .now) (a .steps) (bytes s) ∷ []) (omega arith)
 
 check-entries-requires : tie.Need-check-entries-requires
 check-entries-requires c κs =
@@ -40,7 +40,7 @@ returns-2 c =
     let v = c .before .before .before in
     let s = entry v in
     let a = s .args in
-    refused-by-plan sixteen (a .n) (a .k) (a .limit) (a .steps) (a .reliabilities .now) (bytes s) (a .rows .now) (a .scores .now) (cheap v) (v .check-entries .ensures) (c .before .verdict .given .1)
+    refused-by-plan (codeOn (a .alphabet)) (a .n) (a .k) (a .limit) (a .steps) (a .reliabilities .now) (bytes s) (a .rows .now) (a .scores .now) (cheap v) (v .check-entries .ensures) (c .before .verdict .given .1)
 
 returns-3 : tie.Need-returns-3
 returns-3 c =
@@ -49,7 +49,7 @@ returns-3 c =
     let v = t .before .before in
     let s = entry v in
     let a = s .args in
-    listed-by-plan sixteen (a .n) (a .k) (a .limit) (a .steps) (a .reliabilities .now) (bytes s) (a .rows .now) (a .scores .now) (cheap v) (v .check-entries .ensures) (t .enum-told .given .1) (l .list-priced .ensures)
+    listed-by-plan (codeOn (a .alphabet)) (a .n) (a .k) (a .limit) (a .steps) (a .reliabilities .now) (bytes s) (a .rows .now) (a .scores .now) (cheap v) (v .check-entries .ensures) (t .enum-told .given .1) (l .list-priced .ensures)
 
 pub list-planned-spec : {M : Type 1} → statement M
 list-planned-spec =

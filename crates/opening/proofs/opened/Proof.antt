@@ -3,11 +3,11 @@ use mathlib.Core.Bool.{Bool, true, false, cond}
 use mathlib.Core.Path.{_≡_, sym, _∙_, ap}
 use lib.ListN.{length}
 use borrow.Author.Needs.{needs}
+use Rattle.alphabet.specs.Codes.{codeOn}
 use Rattle.opening.proofs.Opening.{front-row, empty-front, first-row-fits, other-verdict, row-there}
 use Rattle.opening.specs.Handing.{Part, front, isOpen}
 use Rattle.counter.specs.Judging.{judgeAnswer}
 use Rattle.counter.specs.Verdict.{toldVerdict}
-use Rattle.definitions.specs.Field.{sixteen}
 use Rattle.opening.proofs.opened.Statement.{statement}
 use Rattle.opening.proofs.opened.Tie as tie
 
@@ -16,13 +16,13 @@ abbrev handed : tie.Start → Bool → Part
 handed s opens = cond opens (front (s .args .k) (s .args .rows)) (front 0 (s .args .rows))
 
 -- what was judged is Open
-opens : (c : tie.After-enum-told) → (let a = c .before .before .before .before .before .args in isOpen (judgeAnswer sixteen (a .k) (a .rows .now) (a .scores .now) (a .lead)) ≡ true)
+opens : (c : tie.After-enum-told) → (let a = c .before .before .before .before .before .args in isOpen (judgeAnswer (codeOn (a .alphabet)) (a .k) (a .rows .now) (a .scores .now) (a .lead)) ≡ true)
 opens c = ap isOpen (sym (c .before .before .judge .ensures) ∙ ap toldVerdict (c .enum-told .given .1))
 
 row-requires : tie.Need-row-requires
 row-requires c κs =
     let a = c .before .before .before .before .before .args in
-    first-row-fits (a .k) (length (a .rows .now)) (row-there sixteen (a .k) (a .rows .now) (a .scores .now) (a .lead) (opens c))
+    first-row-fits (a .k) (length (a .rows .now)) (row-there (codeOn (a .alphabet)) (a .k) (a .rows .now) (a .scores .now) (a .lead) (opens c))
 
 returns : tie.Need-returns
 returns c =

@@ -6,11 +6,11 @@ use lib.Dec.{eqb}
 use lib.ListN.{length}
 use borrow.Author.Needs.{needs}
 use borrow.Author.Tests.{eq-eqb, ne-eqb}
+use Rattle.alphabet.specs.Codes.{codeOn}
 use Rattle.opening.proofs.Opening.{front-row, empty-front, first-row-fits, other-verdict, row-in-judged}
 use Rattle.opening.specs.Handing.{Part, front, isOpen}
 use Rattle.counter.specs.Judging.{bothAnswer}
 use Rattle.counter.specs.Verdict.{toldVerdict}
-use Rattle.definitions.specs.Field.{sixteen}
 use Rattle.opening.proofs.opened_both.Statement.{statement}
 use Rattle.opening.proofs.opened_both.Tie as tie
 
@@ -26,7 +26,7 @@ handed s opens none =
 -- what was judged is Open
 opens : (c : tie.After-enum-told)
     → (let a = entry (c .before .before) .args in
-    isOpen (bothAnswer sixteen (a .first) (a .rows .now) (a .scores .now) (a .second) (a .others .now) (a .other-scores .now) (a .lead)) ≡ true)
+    isOpen (bothAnswer (codeOn (a .alphabet)) (a .first) (a .rows .now) (a .scores .now) (a .second) (a .others .now) (a .other-scores .now) (a .lead)) ≡ true)
 opens c = ap isOpen (sym (c .before .before .judge-both .ensures) ∙ ap toldVerdict (c .enum-told .given .1))
 
 there : (c : tie.After-enum-told)
@@ -34,7 +34,7 @@ there : (c : tie.After-enum-told)
     (length (a .scores .now) ≡ 0 → a .first .k ≤ length (a .others .now)) × ((length (a .scores .now) ≡ 0 → ⊥) → a .first .k ≤ length (a .rows .now)))
 there c =
     let a = entry (c .before .before) .args in
-    row-in-judged sixteen (a .first) (a .rows .now) (a .scores .now) (a .second) (a .others .now) (a .other-scores .now) (a .lead) (opens c)
+    row-in-judged (codeOn (a .alphabet)) (a .first) (a .rows .now) (a .scores .now) (a .second) (a .others .now) (a .other-scores .now) (a .lead) (opens c)
 
 row-requires : tie.Need-row-requires
 row-requires c κs =

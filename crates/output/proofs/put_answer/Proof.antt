@@ -1,6 +1,7 @@
 -- A list's text, or a refusal's line.
 use mathlib.Core.List.{List}
 use Prim.Native.Nat.{ℕ}
+use Rattle.alphabet.specs.Codes.{codeOn}
 use Rattle.output.proofs.AnswerText.{refusal-text}
 use Rattle.text.specs.Text.{Puts}
 use mathlib.Core.Path.{refl, subst}
@@ -49,7 +50,7 @@ returns-2 c =
     let p = c .before .before .put-refused in
     rw (c .before .before .before .before .before .before .before .answer2 .given .1)
     (subst (λ (w : List ℕ). Puts (s .args .out .now) 0 w (p .result) (p .last .0))
-    (refusal-text (s .args .k) (s .args .rows .now) (s .args .scores .now) (c .before .before .before .before .before .before .before .answer2 .given .0 .0)
+    (refusal-text (codeOn (s .args .alphabet)) (s .args .k) (s .args .rows .now) (s .args .scores .now) (c .before .before .before .before .before .before .before .answer2 .given .0 .0)
     (c .before .before .before .before .number .result) (c .before .before .before .place .result) (c .before .before .before .before .number .ensures .0)
     (c .before .before .before .place .ensures))
     (p .ensures))

@@ -1,5 +1,6 @@
 -- The lines of the rows are put behind the line of the count.
 use native.Mathlib.Omega.{arith}
+use Rattle.alphabet.specs.Codes.{codeOn}
 use Rattle.text.proofs.Putting.{puts-more}
 use Rattle.text.specs.Text.{listedLine, rowLines}
 use borrow.Author.Needs.{needs}
@@ -21,7 +22,7 @@ returns c =
     let a = c .before .before .before .before .before .before .put-listed in
     let d = c .before .before .put-rows in
     let out = s .args .out .now in
-    puts-more out (a .last .0) (d .last .0) (listedLine (s .args .count)) (rowLines (s .args .k) (s .args .rows .now) (s .args .scores .now) (s .args .count)) 0
+    puts-more out (a .last .0) (d .last .1 .0) (listedLine (s .args .count)) (rowLines (codeOn (s .args .alphabet)) (s .args .k) (s .args .rows .now) (s .args .scores .now) (s .args .count)) 0
     (a .result) (d .result) (omega arith) (a .ensures .0) (d .ensures)
 
 pub put-list-spec : {M : Type 1} → statement M

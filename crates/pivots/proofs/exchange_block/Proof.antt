@@ -3,23 +3,23 @@ use mathlib.Core.List.{[]}
 use Prim.Native.Nat.{_<_}
 use native.Mathlib.Omega.{arith}
 use lib.ListN.{length, getD, set, length-set}
-use Rattle.definitions.specs.Field.{sixteen}
+use Rattle.alphabet.specs.Codes.{codeOn}
 use Rattle.pivots.proofs.Blocks.{exchanged-once, exchanged-in}
 use Rattle.pivots.specs.System.{System}
-use Rattle.instances.proofs.Codes.{sixteen-field}
+use Rattle.instances.proofs.Codes.{field-on}
 use Rattle.blocks.proofs.Blocks.{block-symbols}
 use borrow.Author.Needs.{needs}
 use Rattle.pivots.proofs.exchange_block.Statement.{statement}
 use Rattle.pivots.proofs.exchange_block.Tie as tie
 
 abbrev entry : tie.After-scaled → tie.Start
-entry c = c .before .before .before .before .before .before
+entry c = c .before .before .before .before .before .before .before
 
 scaled-requires : tie.Need-scaled-requires
 scaled-requires c κs =
     let k = c .before .before .before in
-    let s = k .before .before in
-    (s .pre .1 .0, (omega arith, block-symbols sixteen (s .args .at) (getD (s .args .system .now) (s .args .r) []) (k .block .result) (s .pre .0 .symbols (s .args .r)) (k .block .ensures)))
+    let s = k .before .before .before in
+    (s .pre .1 .0, (omega arith, block-symbols (codeOn (s .args .alphabet)) (s .args .at) (getD (s .args .system .now) (s .args .r) []) (k .block .result) (s .pre .0 .symbols (s .args .r)) (k .block .ensures)))
 
 put-requires : tie.Need-put-requires
 put-requires c κs =
@@ -27,13 +27,13 @@ put-requires c κs =
     (s .pre .1 .1 .0, s .pre .0 .wide (s .args .r) (s .pre .1 .1 .1))
 
 -- with row r changed the rows are a system still
-once : (c : tie.After-put) → (let a = entry (c .before .before .before) .args in System sixteen (set (a .system .now) (a .r) (c .put .last .0)))
+once : (c : tie.After-put) → (let a = entry (c .before .before .before) .args in System (codeOn (a .alphabet)) (set (a .system .now) (a .r) (c .put .last .0)))
 once c =
     let x = c .before .before .before in
     let k = x .before .before in
     let s = entry x in
     let a = s .args in
-    exchanged-once sixteen (a .at) (a .r) (a .j) (a .system .now) (k .block2 .result) (c .put .last .0) (s .pre .0) (s .pre .1 .1 .1) (k .block2 .ensures) (c .put .ensures)
+    exchanged-once (codeOn (a .alphabet)) (a .at) (a .r) (a .j) (a .system .now) (k .block2 .result) (c .put .last .0) (s .pre .0) (s .pre .1 .1 .1) (k .block2 .ensures) (c .put .ensures)
 
 put-requires-2 : tie.Need-put-requires-2
 put-requires-2 c κs =
@@ -51,7 +51,7 @@ returns c =
     let f = k .before .before in
     let s = entry x in
     let a = s .args in
-    exchanged-in sixteen sixteen-field (a .at) (a .r) (a .j) (a .u) (a .system .now) (f .block .result) (k .block2 .result) (x .scaled .result) (p .put .last .0)
+    exchanged-in (codeOn (a .alphabet)) (field-on (a .alphabet)) (a .at) (a .r) (a .j) (a .u) (a .system .now) (f .block .result) (k .block2 .result) (x .scaled .result) (p .put .last .0)
     (c .put2 .last .0) (s .pre .0) (s .pre .1 .1 .1) (s .pre .1 .1 .2) (s .pre .1 .1 .3) (f .block .ensures) (k .block2 .ensures) (x .scaled .ensures) (p .put .ensures) (c .put2 .ensures)
 
 pub exchange-block-spec : {M : Type 1} → statement M

@@ -1,118 +1,63 @@
--- The conditions are a system; its first column that depends on those before it, solved for, is the polynomial.
-use Prim.Native.Nat.{_*_, _≤_, _<_}
-use native.Mathlib.Omega.{arith}
-use lib.ListN.{length}
-use Rattle.definitions.specs.Field.{sixteen}
-use Rattle.pivots.specs.System.{System, Within}
-use Rattle.instances.proofs.Codes.{sixteen-field}
-use Rattle.polynomial.proofs.Coefficients.{degree-small, blocks-fit, rows-priced, more, start-system, start-within, polynomial-found}
-use Rattle.polynomial.proofs.Empty.{clear-from, clear-system}
-use Rattle.blocks.specs.Row.{block, blocksFor, width}
+-- In either case the polynomial is that of the alphabet.
+use mathlib.Core.Path.{sym, subst}
+use Rattle.alphabet.specs.Codes.{codeOn}
+use Rattle.alphabet.specs.declared.Alphabet.{Alphabet}
+use Rattle.polynomial.specs.Found.{Given, Found}
 use borrow.Author.Needs.{needs}
 use Rattle.polynomial.proofs.polynomial_in.Statement.{statement}
 use Rattle.polynomial.proofs.polynomial_in.Tie as tie
 
-abbrev entry : tie.After-matrix-rows → tie.Start
-entry c = c .before .before .before .before .before
-
-matrix-rows-requires : tie.Need-matrix-rows-requires
-matrix-rows-requires c κs =
-    let p = c .before .before in
-    let s = p .before .before in
-    let a = s .args in
-    let g = s .pre .0 in
-    let e = rows-priced sixteen (a .matrix .now) (a .v) (a .d) (a .count) (a .cost) (a .out .now) g in (
-      p .products .ensures,
-      (
-        (
-          g .weighted,
-          degree-small sixteen (a .matrix .now) (a .v) (a .d) (a .count) (a .cost) (a .out .now) g,
-          blocks-fit sixteen (a .matrix .now) (a .v) (a .d) (a .count) (a .cost) (a .out .now) g,
-        ),
-        (omega arith, clear-from (a .system .now) (s .pre .1 .0) (blocksFor (a .cost) * block)),
-      ),
+polynomial-by-requires : tie.Need-polynomial-by-requires
+polynomial-by-requires c κs =
+    let p = c .before .before .before in
+    let s = p .before .before .before .before in
+    let a = s .args in (
+      p .products-of-thirty-two .ensures,
+      (subst (λ (w : Alphabet). Given (codeOn w) (a .matrix .now) (a .v) (a .d) (a .count) (a .cost) (a .out .now)) (p .before .enum-told .given .1) (s .pre .0), s .pre .1),
     )
 
--- the conditions are a system
-start : (c : tie.After-matrix-rows) → System sixteen (c .matrix-rows .last .0)
-start c =
-    let s = entry c in
-    let a = s .args in
-    start-system sixteen (a .matrix .now) (a .v) (a .d) (a .count) (a .cost) (a .out .now) (s .pre .0) (a .system .now)
-    (c .matrix-rows .last .0) (s .pre .1 .1) (c .matrix-rows .ensures .1) sixteen-field (omega arith) (clear-system (a .system .now) (s .pre .1 .0) sixteen sixteen-field)
-
--- with room for their blocks
-within : (c : tie.After-matrix-rows) → Within (c .matrix-rows .result) (blocksFor (entry c .args .cost)) (c .matrix-rows .last .0)
-within c =
-    let s = entry c in
-    let a = s .args in
-    start-within sixteen (a .matrix .now) (a .v) (a .d) (a .count) (a .cost) (a .out .now) (s .pre .0) (a .system .now) (c .matrix-rows .last .0) (s .pre .1 .1) (c .matrix-rows .ensures .1)
-    (c .matrix-rows .result) (c .matrix-rows .ensures .0)
-
-abbrev written : tie.After-first-dependent → tie.After-matrix-rows
-written c = c .before .before .before .before
-
-first-dependent-requires : tie.Need-first-dependent-requires
-first-dependent-requires c κs =
-    let m = c .before .before .before in
-    (start m, (m .before .before .before .products .ensures, within m))
-
--- the column found is the place of a coefficient
-place : (c : tie.After-first-dependent) → c .first-dependent .result < entry (written c) .args .count
-place c =
-    let m = written c in
-    let s = entry m in
-    let a = s .args in
-    let e = rows-priced sixteen (a .matrix .now) (a .v) (a .d) (a .count) (a .cost) (a .out .now) (s .pre .0) in
-    let l = more sixteen (a .matrix .now) (a .v) (a .d) (a .count) (a .cost) (a .out .now) (s .pre .0) in
-    let r = m .matrix-rows .ensures .0 in
-    let f = c .first-dependent .ensures .0 in
-    omega arith
-
-lead-requires : tie.Need-lead-requires
-lead-requires c κs =
-    let d = c .before .before in
-    (place d, entry (written d) .pre .0 .room)
-
-solve-requires : tie.Need-solve-requires
-solve-requires c κs =
-    let l = c .before .before .before .before .before in
-    let d = l .before .before .before in
-    let m = written d in
-    let s = entry m in
-    let a = s .args in
-    let e = d .first-dependent .ensures in
-    let p = place d in
-    let w = within m in
-    let inside : d .first-dependent .result < width = let f = w .fewer in let i = w .inside in let low = e .0 in omega arith in
-    let there : d .first-dependent .result ≤ length (d .first-dependent .last .0) = let t = w .there in let k = e .1 .0 .size in let low = e .0 in omega arith in
-    let room : d .first-dependent .result ≤ length (l .lead .last .1 .1 .0) = let k = l .lead .ensures .size in let r = s .pre .0 .room in omega arith in
-    (m .before .before .before .products .ensures, (e .1 .0 .system .symbols, (inside, there, room)))
+polynomial-by-requires-2 : tie.Need-polynomial-by-requires-2
+polynomial-by-requires-2 c κs =
+    let p = c .before .before .before in
+    let s = p .before .before .before .before in
+    let a = s .args in (
+      p .products-of-sixteen .ensures,
+      (subst (λ (w : Alphabet). Given (codeOn w) (a .matrix .now) (a .v) (a .d) (a .count) (a .cost) (a .out .now)) (p .before .enum-told2 .given .1) (s .pre .0), s .pre .1),
+    )
 
 returns : tie.Need-returns
 returns c =
-    let v = c .before .before in
-    let l = v .before .before .before .before .before .before in
-    let d = l .before .before .before in
-    let m = written d in
-    let s = entry m in
+    let r = c .before .before .before in
+    let p = r .before .before .before .before in
+    let s = p .before .before .before .before in
     let a = s .args in
-    let e = d .first-dependent .ensures in
-    polynomial-found sixteen sixteen-field (omega arith) (λ z. omega arith) (a .matrix .now) (a .v) (a .d) (a .count) (a .cost) (a .out .now) (s .pre .0) (a .system .now)
-    (m .matrix-rows .last .0) (d .first-dependent .last .0) (clear-system (a .system .now) (s .pre .1 .0) sixteen sixteen-field) (s .pre .1 .1) (m .matrix-rows .ensures .1) (m .matrix-rows .result)
-    (d .first-dependent .result) (m .matrix-rows .ensures .0) (e .0) (e .1 .0) (e .1 .1) (l .lead .last .1 .1 .0) (v .solve .last .1 .1 .1 .0)
-    (l .lead .ensures) (v .solve .ensures)
+    subst (λ (w : Alphabet). Found (codeOn w) (a .matrix .now) (a .v) (a .d) (a .out .now) (r .polynomial-by .result) (r .polynomial-by .last .1 .1 .1 .1 .1 .1 .1 .1 .0))
+    (sym (p .before .enum-told .given .1)) (r .polynomial-by .ensures)
+
+returns-2 : tie.Need-returns-2
+returns-2 c =
+    let r = c .before .before .before in
+    let p = r .before .before .before .before in
+    let s = p .before .before .before .before in
+    let a = s .args in
+    subst (λ (w : Alphabet). Found (codeOn w) (a .matrix .now) (a .v) (a .d) (a .out .now) (r .polynomial-by2 .result) (r .polynomial-by2 .last .1 .1 .1 .1 .1 .1 .1 .1 .0))
+    (sym (p .before .enum-told2 .given .1)) (r .polynomial-by2 .ensures)
 
 pub polynomial-in-spec : {M : Type 1} → statement M
 polynomial-in-spec =
     tie.close
     (tie.spec
+    (λ c. search needs)
     (λ c κs. search needs)
     (λ c. search needs)
-    matrix-rows-requires
-    first-dependent-requires
-    lead-requires
-    solve-requires
+    polynomial-by-requires
     (λ c. search needs)
     (λ c. search needs)
-    returns)
+    returns
+    (λ c. search needs)
+    (λ c κs. search needs)
+    (λ c. search needs)
+    polynomial-by-requires-2
+    (λ c. search needs)
+    (λ c. search needs)
+    returns-2)

@@ -7,10 +7,11 @@ use borrow.Author.Tests.{lt-ltb, leb-true, leb-false}
 use native.Mathlib.Omega.{arith}
 use lib.Dec.{eqb, leb, ltb}
 use lib.ListN.{length}
+use Rattle.alphabet.specs.Codes.{codeOn}
 use Rattle.definitions.proofs.Bound.{count-above}
 use Rattle.definitions.proofs.Table.{Gives, stop, pass, Accepts, next, end, gives, size-means}
 use Rattle.definitions.specs.Bound.{count}
-use Rattle.definitions.specs.Field.{sixteen}
+use Rattle.definitions.specs.Field.{Code}
 use Rattle.definitions.specs.Limits.{greatestCount}
 use Rattle.definitions.specs.Refusals.{Line, line, size, degree, entries, room, symbols, zeroes, rootsTable}
 use Rattle.refusals.proofs.Chain.{Came, start, _▸_, all-tried, accepted, given, front-passes}
@@ -19,45 +20,45 @@ use borrow.Author.Needs.{needs}
 use Rattle.roots.proofs.checked.Statement.{statement}
 use Rattle.roots.proofs.checked.Tie as tie
 
-module _ (D k : ℕ) where
+module _ (C : Code) (D k : ℕ) where
   abbrev early : List Line
-  early = size sixteen k ∷ line 2 (leb greatestCount D) ∷ []
+  early = size C k ∷ line 2 (leb greatestCount D) ∷ []
 
   module _ (q : List ℕ) (space : ℕ) where
     abbrev late : List Line
     late =
-        degree (k - 1) D ∷ entries (count (k - 1) D) q ∷ room (k * (D / (k - 1))) space ∷ symbols sixteen q ∷ zeroes q ∷ []
+        degree (k - 1) D ∷ entries (count (k - 1) D) q ∷ room (k * (D / (k - 1))) space ∷ symbols C q ∷ zeroes q ∷ []
 
-    early-given : {number place : ℕ} → Gives early number place → Gives (rootsTable sixteen D k q space) number place
+    early-given : {number place : ℕ} → Gives early number place → Gives (rootsTable C D k q space) number place
     early-given (stop e) = stop e
     early-given (pass s (stop e)) =
-        let sized = size-means sixteen k s in
+        let sized = size-means C k s in
         let above = count-above (k - 1) (omega arith) D in
         let many = leb-true greatestCount D e in
         pass s (stop (lt-ltb greatestCount (count (k - 1) D) (omega arith)))
 
   early-passed : Accepts early → (2 ≤ k) × (D < greatestCount)
-  early-passed (next s (next e end)) = (size-means sixteen k s .0, leb-false greatestCount D e)
+  early-passed (next s (next e end)) = (size-means C k s .0, leb-false greatestCount D e)
 
-  size-passed : Accepts early → Accepts (size sixteen k ∷ [])
+  size-passed : Accepts early → Accepts (size C k ∷ [])
   size-passed (next s (next e end)) = next s end
 
 abbrev entry : tie.After-or → tie.Start
 entry c = c .before .before .before
 
-came-early : (c : tie.After-or) → (let a = entry c .args in Came (early (a .degree) (a .k)) [] (toldChecked (c .or .result)))
+came-early : (c : tie.After-or) → (let a = entry c .args in Came (early (codeOn (a .alphabet)) (a .degree) (a .k)) [] (toldChecked (c .or .result)))
 came-early c = start ▸ c .before .size .ensures ▸ c .or .ensures
 
 returns : tie.Need-returns
 returns c =
     let w = c .before .before .before in
     let a = entry w .args in
-    gives refusedAt passed (early-given (a .degree) (a .k) (a .coefficients .now) (a .room) (given (came-early w) (c .before .sized .given .1)))
+    gives refusedAt passed (early-given (codeOn (a .alphabet)) (a .degree) (a .k) (a .coefficients .now) (a .room) (given (came-early w) (c .before .sized .given .1)))
 
 fit : (c : tie.After-enum-told) → (let a = entry (c .before .before) .args in (2 ≤ a .k) × (a .degree < greatestCount))
 fit c =
     let a = entry (c .before .before) .args in
-    early-passed (a .degree) (a .k) (accepted (came-early (c .before .before)) (c .enum-told .given .1))
+    early-passed (codeOn (a .alphabet)) (a .degree) (a .k) (accepted (came-early (c .before .before)) (c .enum-told .given .1))
 
 sub-v : tie.Need-sub-v
 sub-v c = let f = fit c in omega arith
@@ -73,7 +74,7 @@ room-requires c κs = let f = fit (c .before .before .before) in omega arith
 
 came-late : (c : tie.After-or4)
     → (let a = entry (c .before .before .before .before .before .before .before .before .before) .args in
-    Came (late (a .degree) (a .k) (a .coefficients .now) (a .room)) [] (toldChecked (c .or4 .result)))
+    Came (late (codeOn (a .alphabet)) (a .degree) (a .k) (a .coefficients .now) (a .room)) [] (toldChecked (c .or4 .result)))
 came-late c =
     let zero = c .before in
     let symbols = zero .before in
@@ -85,16 +86,17 @@ came-late c =
     start ▸ (few .or2 .ensures ∙ ap (λ (x : ℕ). orLine passed (line 2 (ltb greatestCount x))) (n .count .ensures))
     ▸ (given .or3 .ensures ∙ ap (λ (x : ℕ). orLine (toldChecked (few .or2 .result)) (line 3 (not (eqb (length q) x)))) (n .count .ensures))
     ▸ room .room .ensures
-    ▸ symbols .symbols .ensures
-    ▸ (c .or4 .ensures ∙ ap (λ (b : Bool). orLine (toldChecked (symbols .symbols .result)) (line 8 b)) (zero .all-zero .ensures))
+    ▸ symbols .symbols-of .ensures
+    ▸ (c .or4 .ensures ∙ ap (λ (b : Bool). orLine (toldChecked (symbols .symbols-of .result)) (line 8 b)) (zero .all-zero .ensures))
 
 returns-2 : tie.Need-returns-2
 returns-2 c =
     let t = c .before .before .before .before .before .before .before in
     let w = t .before .before in
     let a = entry w .args in
+    let C = codeOn (a .alphabet) in
     all-tried (came-late c)
-    ∙ front-passes refusedAt passed (late (a .degree) (a .k) (a .coefficients .now) (a .room)) (size-passed (a .degree) (a .k) (accepted (came-early w) (t .enum-told .given .1)))
+    ∙ front-passes refusedAt passed (late C (a .degree) (a .k) (a .coefficients .now) (a .room)) (size-passed C (a .degree) (a .k) (accepted (came-early w) (t .enum-told .given .1)))
 
 pub checked-spec : {M : Type 1} → statement M
 checked-spec =

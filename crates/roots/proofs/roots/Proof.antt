@@ -2,14 +2,16 @@
 use mathlib.Core.Bool.{false}
 use mathlib.Core.List.{List, []}
 use mathlib.Core.Path.{_≡_, _∙_, ap}
-use Prim.Native.Nat.{ℕ, _*_, _-_, _/_, _≤_}
+use Prim.Native.Nat.{ℕ, _*_, _-_, _/_, _≤_, _<_}
 use native.Mathlib.Omega.{arith}
 use lib.ListN.{length}
+use Rattle.alphabet.proofs.Sizes.{sized}
+use Rattle.alphabet.specs.Codes.{codeOn}
 use Rattle.definitions.proofs.Table.{Accepts, next, end, size-means, degree-means, entries-mean, room-means, symbols-mean}
 use Rattle.definitions.specs.Answers.{refused, counted}
 use Rattle.definitions.specs.Bound.{count}
 use Rattle.definitions.specs.Code.{Symbols}
-use Rattle.definitions.specs.Field.{sixteen}
+use Rattle.definitions.specs.Field.{Code}
 use Rattle.definitions.specs.Limits.{greatestCount}
 use Rattle.definitions.specs.Polynomial.{isZero}
 use Rattle.definitions.specs.Refusals.{rootsTable}
@@ -19,22 +21,22 @@ use borrow.Author.Needs.{needs}
 use Rattle.roots.proofs.roots.Statement.{statement}
 use Rattle.roots.proofs.roots.Tie as tie
 
-module _ (D k : ℕ) (q : List ℕ) (room : ℕ) where
+module _ (C : Code) (pos : 0 < C .symbols) (D k : ℕ) (q : List ℕ) (room : ℕ) where
   record Fit : Type 0 where
-    sized : (2 ≤ k) × (k ≤ sixteen .positions)
+    sized : (2 ≤ k) × (k ≤ C .positions)
     few : count (k - 1) D ≤ greatestCount
     full : length q ≡ count (k - 1) D
     spacious : k * (D / (k - 1)) ≤ room
-    symbols : Symbols sixteen q
+    symbols : Symbols C q
     nonzero : isZero q ≡ false
 
-  fits : Accepts (rootsTable sixteen D k q room) → Fit
+  fits : Accepts (rootsTable C D k q room) → Fit
   fits (next s (next d (next e (next r (next a (next z end)))))) = record {
-    sized = size-means sixteen k s;
+    sized = size-means C k s;
     few = degree-means (k - 1) D d;
     full = entries-mean (count (k - 1) D) q e;
     spacious = room-means (k * (D / (k - 1))) room r;
-    symbols = symbols-mean sixteen (omega arith) q a;
+    symbols = symbols-mean C pos q a;
     nonzero = z;
   }
 
@@ -42,7 +44,7 @@ abbrev entry : tie.After-checked → tie.Start
 entry c = c .before .before .before
 
 came : (c : tie.After-checked)
-    → (let a = entry c .args in Came (rootsTable sixteen (a .degree) (a .k) (a .coefficients .now) (length (a .out .now))) [] (toldChecked (c .checked .result)))
+    → (let a = entry c .args in Came (rootsTable (codeOn (a .alphabet)) (a .degree) (a .k) (a .coefficients .now) (length (a .out .now))) [] (toldChecked (c .checked .result)))
 came c = has-tried _ (c .checked .ensures)
 
 returns : tie.Need-returns
@@ -55,7 +57,7 @@ roots-into-requires c κs =
     let t = c .before in
     let w = t .before .before in
     let a = entry w .args in
-    let f = fits (a .degree) (a .k) (a .coefficients .now) (length (a .out .now)) (accepted (came w) (t .enum-told .given .1)) in
+    let f = fits (codeOn (a .alphabet)) (let z = sized (a .alphabet) .least in omega arith) (a .degree) (a .k) (a .coefficients .now) (length (a .out .now)) (accepted (came w) (t .enum-told .given .1)) in
     ((f .sized .0, f .sized .1, f .few), ((f .full, f .spacious), (f .symbols, f .nonzero)))
 
 returns-2 : tie.Need-returns-2

@@ -1,46 +1,85 @@
 -- The place that leads the first b symbols of the column is kept.
-use mathlib.Core.Path.{_≡_, subst}
+use mathlib.Core.Path.{_≡_, ap, subst}
 use Prim.Native.Nat.{ℕ, _+_, _-_, _*_, _≤_}
 use native.Mathlib.Omega.{arith}
-use Rattle.definitions.specs.Field.{sixteen}
+use borrow.Author.Needs.{needs}
+use lib.ListN.{length}
+use Rattle.alphabet.proofs.Sizes.{sized}
 use Rattle.plans.proofs.Leads.{leads-itself, symbol-more}
 use Rattle.plans.specs.Leads.{Leads}
 use Rattle.shares.proofs.best_of_column.Statement.{statement}
 use Rattle.shares.proofs.best_of_column.Tie as tie
 
 abbrev Inv-loop : tie.InvT-loop
-Inv-loop reliabilities multiplicities i first leading₀ b₀ leading b =
-    (first ≡ sixteen .symbols * i) × (b ≤ sixteen .symbols) × Leads reliabilities multiplicities (sixteen .symbols * i) (sixteen .symbols * i + b) leading
+Inv-loop reliabilities multiplicities i symbols first leading₀ b₀ leading b = (b ≤ symbols) × Leads reliabilities multiplicities first (first + b) leading
 
 abbrev μ-loop : tie.MeasureT-loop
-μ-loop reliabilities multiplicities i first leading₀ b₀ leading b = sixteen .symbols - b
+μ-loop reliabilities multiplicities i symbols first leading₀ b₀ leading b = symbols - b
+
+abbrev entry : tie.After-symbols Inv-loop μ-loop → tie.Start Inv-loop μ-loop
+entry c = c .before .before .before
+
+-- the column begins, and ends, within the reliabilities
+column : (c : tie.After-symbols Inv-loop μ-loop)
+    → (let q = c .symbols .result in (q * entry c .args .i + q ≤ length (entry c .args .reliabilities .now)) × (16 ≤ q))
+column c =
+    let s = entry c in
+    let e = c .symbols .ensures in
+    let f = ap (λ (q : ℕ). q * s .args .i) e in
+    let least = sized (s .args .alphabet) .least in
+    (omega arith, omega arith)
+
+mul-first : tie.Need-mul-first Inv-loop μ-loop
+mul-first c = let h = column c in omega arith
 
 loop-holds : tie.Need-loop-holds Inv-loop μ-loop
 loop-holds c =
-    let a = c .before .before .args in
-    (omega arith, omega arith, leads-itself (a .reliabilities .now) (a .multiplicities .now) (sixteen .symbols * a .i))
+    let a = entry c .args in
+    let h = column c in
+    (omega arith, leads-itself (a .reliabilities .now) (a .multiplicities .now) (c .symbols .result * a .i))
+
+add-better : tie.Need-add-better Inv-loop μ-loop
+add-better c = let h = column (c .before .before) in omega arith
 
 better-requires : tie.Need-better-requires Inv-loop μ-loop
 better-requires c κs =
     let l = c .before in
-    let s = l .before .before .before in
-    let to = l .loop .inv .2 .to in
-    (omega arith, omega arith, s .pre .2)
+    let h = column (l .before) in
+    let to = l .loop .inv .1 .to in
+    (omega arith, omega arith, entry (l .before) .pre .2)
+
+loop-less : tie.Need-loop-less Inv-loop μ-loop
+loop-less c = let h = column (c .before .before .before) in omega arith
 
 loop-again : tie.Need-loop-again Inv-loop μ-loop
 loop-again c =
     let l = c .before .before in
-    let a = l .before .before .before .args in
-    (l .loop .inv .0, omega arith, symbol-more (a .reliabilities .now) (a .multiplicities .now) (sixteen .symbols * a .i) (l .loop .b) (l .loop .leading) (c .better .result) (l .loop .inv .2) (c .better .ensures))
+    let a = entry (l .before) .args in
+    let h = column (l .before) in
+    let first = l .before .symbols .result * a .i in
+    (omega arith, symbol-more (a .reliabilities .now) (a .multiplicities .now) first (l .loop .b) (l .loop .leading) (c .better .result) (l .loop .inv .1) (c .better .ensures))
 
 returns : tie.Need-returns Inv-loop μ-loop
 returns c =
     let l = c .before in
-    let a = l .before .before .before .args in
-    let e : l .loop .b ≡ sixteen .symbols = omega arith in
-    subst (λ (j : ℕ). Leads (a .reliabilities .now) (a .multiplicities .now) (sixteen .symbols * a .i) (sixteen .symbols * a .i + j) (l .loop .leading)) e (l .loop .inv .2)
+    let q = l .before in
+    let a = entry q .args in
+    let e : l .loop .b ≡ q .symbols .result = omega arith in
+    subst (λ (x : ℕ). Leads (a .reliabilities .now) (a .multiplicities .now) (x * a .i) (x * a .i + x) (l .loop .leading)) (q .symbols .ensures)
+    (subst (λ (j : ℕ). Leads (a .reliabilities .now) (a .multiplicities .now) (q .symbols .result * a .i) (q .symbols .result * a .i + j) (l .loop .leading)) e (l .loop .inv .1))
 
 pub best-of-column-spec : {M : Type 1} → statement M
 best-of-column-spec =
     tie.close
-    (tie.spec Inv-loop μ-loop (λ c. omega arith) loop-holds (λ c. omega arith) better-requires (λ c. omega arith) (λ c. omega arith) loop-again returns)
+    (tie.spec
+    Inv-loop
+    μ-loop
+    (λ c κs. search needs)
+    mul-first
+    loop-holds
+    add-better
+    better-requires
+    (λ c. search needs)
+    loop-less
+    loop-again
+    returns)

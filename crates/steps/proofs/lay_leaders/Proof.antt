@@ -1,20 +1,22 @@
 -- The first i columns have their leaders.
 use mathlib.Core.Path.{_≡_, sym, _∙_, subst}
-use Prim.Native.Nat.{ℕ, _-_, _≤_}
+use Prim.Native.Nat.{ℕ, _-_, _≤_, _<_}
 use native.Mathlib.Nat.{not-suc-le-zero}
 use native.Mathlib.Omega.{arith}
-use Rattle.definitions.specs.Field.{sixteen}
+use lib.ListN.{length}
+use Rattle.alphabet.specs.Codes.{codeOn}
+use Rattle.definitions.proofs.Loops.{row-within}
 use Rattle.plans.proofs.Leads.{led-more}
 use Rattle.plans.specs.Leads.{Led}
 use Rattle.steps.proofs.lay_leaders.Statement.{statement}
 use Rattle.steps.proofs.lay_leaders.Tie as tie
 
 abbrev Inv-loop : tie.InvT-loop
-Inv-loop n reliabilities multiplicities leaders₀ i₀ leaders i =
-    (i ≤ n) × Led sixteen reliabilities multiplicities i leaders
+Inv-loop alphabet n reliabilities multiplicities leaders₀ i₀ leaders i =
+    (i ≤ n) × Led (codeOn alphabet) reliabilities multiplicities i leaders
 
 abbrev μ-loop : tie.MeasureT-loop
-μ-loop n reliabilities multiplicities leaders₀ i₀ leaders i = n - i
+μ-loop alphabet n reliabilities multiplicities leaders₀ i₀ leaders i = n - i
 
 loop-holds : tie.Need-loop-holds Inv-loop μ-loop
 loop-holds c = (omega arith, record { full = c .before .before .before .pre .1; leads = λ i h. absurd (not-suc-le-zero h) })
@@ -22,9 +24,12 @@ loop-holds c = (omega arith, record { full = c .before .before .before .pre .1; 
 best-of-column-requires : tie.Need-best-of-column-requires Inv-loop μ-loop
 best-of-column-requires c κs =
     let s = c .before .before .before .before .before in
+    let l = c .before in
+    let within : l .loop .i < s .args .n = omega arith in
     let small = s .pre .0 .weights .small in
     let full = s .pre .0 .weights .full in
-    (omega arith, omega arith, s .pre .0 .as-many)
+    let column = row-within (codeOn (s .args .alphabet) .symbols) (l .loop .i) (s .args .n) (length (s .args .reliabilities .now)) within (omega arith) in
+    (omega arith, column, s .pre .0 .as-many)
 
 slice-write-leaders : tie.Need-slice-write-leaders Inv-loop μ-loop
 slice-write-leaders c =
@@ -41,7 +46,7 @@ loop-again c =
     let led = l .loop .inv .1 in
     let small = s .pre .0 .weights .small in (
       omega arith,
-      led-more sixteen (a .reliabilities .now) (a .multiplicities .now) (l .loop .leaders) (led .full) (l .loop .i) (c .best-of-column .result) (omega arith) (c .best-of-column .ensures) led,
+      led-more (codeOn (a .alphabet)) (a .reliabilities .now) (a .multiplicities .now) (l .loop .leaders) (led .full) (l .loop .i) (c .best-of-column .result) (omega arith) (c .best-of-column .ensures) led,
     )
 
 same-length : tie.Need-same-length Inv-loop μ-loop
@@ -52,7 +57,7 @@ returns c =
     let l = c .before in
     let a = l .before .before .before .before .args in
     let e : l .loop .i ≡ a .n = omega arith in
-    subst (λ (j : ℕ). Led sixteen (a .reliabilities .now) (a .multiplicities .now) j (l .loop .leaders)) e (l .loop .inv .1)
+    subst (λ (j : ℕ). Led (codeOn (a .alphabet)) (a .reliabilities .now) (a .multiplicities .now) j (l .loop .leaders)) e (l .loop .inv .1)
 
 pub lay-leaders-spec : {M : Type 1} → statement M
 lay-leaders-spec =

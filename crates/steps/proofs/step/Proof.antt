@@ -1,19 +1,24 @@
 -- The best entry has no reliability, stands at 5, or is raised; then the leader of its column is looked for again, and the others still lead.
 use mathlib.Core.Path.{_∙_}
-use Prim.Native.Nat.{_/_}
+use Prim.Native.Nat.{_+_, _*_, _/_, _≤_, _<_}
 use native.Mathlib.Omega.{arith}
-use lib.ListN.{length-set}
-use Rattle.definitions.specs.Field.{sixteen}
+use lib.ListN.{length, length-set}
+use Rattle.alphabet.proofs.Sizes.{sized}
+use Rattle.alphabet.specs.Codes.{codeOn}
+use Rattle.definitions.proofs.Loops.{row-within}
 use Rattle.plans.proofs.Leads.{led-again}
-use Rattle.steps.proofs.Stepping.{no-reliability, at-greatest, raised}
+use Rattle.steps.proofs.Stepping.{no-reliability, at-greatest, raised, column-of}
 use borrow.Author.Needs.{needs}
 use Rattle.steps.proofs.step.Statement.{statement}
 use Rattle.steps.proofs.step.Tie as tie
 
+abbrev entry : tie.After-best → tie.Start
+entry b = b .before .before .before .before .before .before
+
 returns : tie.Need-returns
 returns c =
     let b = c .before .before in
-    let s = b .before .before .before .before .before .before in
+    let s = entry b in
     let a = s .args in
     let left = no-reliability (a .reliabilities .now) (a .multiplicities .now) (b .best .result) (b .best .ensures .0) (c .if1 .taken) in
     (left .0, (left .1, s .pre .2))
@@ -22,7 +27,7 @@ returns-2 : tie.Need-returns-2
 returns-2 c =
     let e = c .before .before in
     let b = e .before .before in
-    let s = b .before .before .before .before .before .before in
+    let s = entry b in
     let a = s .args in
     let left = at-greatest (a .reliabilities .now) (a .multiplicities .now) (b .best .result) (b .best .ensures .0) (e .if1 .left) (omega arith) in
     (left .0, (left .1, s .pre .2))
@@ -30,46 +35,77 @@ returns-2 c =
 add-multiplicities : tie.Need-add-multiplicities
 add-multiplicities c =
     let b = c .before .before .before .before .before in
-    let s = b .before .before .before .before .before .before in
+    let s = entry b in
     let low = s .pre .1 (b .best .result) in
+    omega arith
+
+abbrev found : tie.After-symbols → tie.After-best
+found c = c .before .before .before .before .before .before
+
+-- the column of the best entry
+column : (c : tie.After-symbols)
+    → (let code = codeOn (entry (found c) .args .alphabet) in
+    let place = found c .best .result in
+    let i = place / c .symbols .result in
+    (i < entry (found c) .args .n) × (code .symbols * i ≤ place) × (place < code .symbols * i + code .symbols))
+column c =
+    let s = entry (found c) in
+    let full = s .pre .0 .weights .full in
+    let within = found c .best .ensures .1 in
+    let least = sized (s .args .alphabet) .least in
+    column-of (codeOn (s .args .alphabet)) (c .symbols .result) (s .args .n) (found c .best .result) (c .symbols .ensures) (omega arith) (omega arith)
+
+div-i : tie.Need-div-i
+div-i c =
+    let e = c .symbols .ensures in
+    let least = sized (entry (found c) .args .alphabet) .least in
     omega arith
 
 best-of-column-requires : tie.Need-best-of-column-requires
 best-of-column-requires c κs =
-    let b = c .before .before .before .before .before .before in
-    let s = b .before .before .before .before .before .before in
+    let q = c .before in
+    let s = entry (found q) in
     let small = s .pre .0 .weights .small in
     let full = s .pre .0 .weights .full in
-    let within = b .best .ensures .1 in
-    (omega arith, omega arith, length-set (s .args .multiplicities .now) (b .best .result) _ ∙ s .pre .0 .as-many)
+    let h = column q in
+    let whole = row-within (codeOn (s .args .alphabet) .symbols) _ (s .args .n) (length (s .args .reliabilities .now)) (h .0) (omega arith) in
+    (omega arith, whole, length-set (s .args .multiplicities .now) (found q .best .result) _ ∙ s .pre .0 .as-many)
+
+mul-leaders : tie.Need-mul-leaders
+mul-leaders c =
+    let q = c .before .before in
+    let s = entry (found q) in
+    let small = s .pre .0 .weights .small in
+    let z = sized (s .args .alphabet) in
+    let h = column q .0 in
+    omega arith
 
 slice-write-leaders : tie.Need-slice-write-leaders
 slice-write-leaders c =
-    let b = c .before .before .before .before .before .before .before in
-    let s = b .before .before .before .before .before .before in
-    let full = s .pre .0 .weights .full in
+    let q = c .before .before in
+    let s = entry (found q) in
     let small = s .pre .0 .weights .small in
     let leaders = s .pre .2 .full in
-    let within = b .best .ensures .1 in
+    let h = column q .0 in
     omega arith
 
 returns-3 : tie.Need-returns-3
 returns-3 c =
-    let other = c .before .before .before in
+    let q = c .before .before in
+    let other = q .before .before in
     let e = other .before .before in
-    let b = e .before .before in
-    let s = b .before .before .before .before .before .before in
+    let b = found q in
+    let s = entry b in
     let a = s .args in
     let place = b .best .result in
-    let full = s .pre .0 .weights .full in
     let small = s .pre .0 .weights .small in
-    let within = b .best .ensures .1 in
+    let h = column q in
     let left = raised (a .reliabilities .now) (a .multiplicities .now) place (b .best .ensures .0) (e .if1 .left) (other .if2 .left) in (
       left .0,
       (
         left .1,
-        led-again sixteen (a .reliabilities .now) (a .multiplicities .now) (a .leaders .now) (a .n) (place / sixteen .symbols) place _ (c .best-of-column .result) (s .pre .2)
-            (omega arith) (omega arith) (omega arith) (c .best-of-column .ensures),
+        led-again (codeOn (a .alphabet)) (a .reliabilities .now) (a .multiplicities .now) (a .leaders .now) (a .n) (place / q .symbols .result) place _ (c .best-of-column .result) (s .pre .2)
+            (h .1) (h .2) (omega arith) (c .best-of-column .ensures),
       ),
     )
 
@@ -90,8 +126,10 @@ step-spec =
     (λ c. search needs)
     add-multiplicities
     (λ c. search needs)
+    (λ c κs. search needs)
+    div-i
     best-of-column-requires
-    (λ c. search needs)
+    mul-leaders
     slice-write-leaders
     (λ c. search needs)
     (λ c. search needs)

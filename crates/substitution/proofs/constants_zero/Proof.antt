@@ -1,7 +1,8 @@
 -- What is left of the constants gives the whole test.
 use mathlib.Core.Path.{_≡_}
 use Prim.Native.Nat.{_-_, _≤_}
-use Rattle.definitions.specs.Field.{sixteen}
+use Rattle.alphabet.specs.Codes.{codeOn}
+use Rattle.alphabet.specs.declared.Alphabet.{Alphabet}
 use Rattle.root_tree.proofs.Arrays.{place-within}
 use Rattle.root_tree.specs.Tree.{constantsZero}
 use Rattle.substitution.specs.Array.{polynomial}
@@ -11,13 +12,13 @@ use Rattle.substitution.proofs.constants_zero.Statement.{statement}
 use Rattle.substitution.proofs.constants_zero.Tie as tie
 
 abbrev Inv-loop : tie.InvT-loop
-Inv-loop p h w a₀ a = (a ≤ w) × (constantsZero (polynomial sixteen h w p) ≡ constantsFrom sixteen h w p a)
+Inv-loop p h w a₀ a = (a ≤ w) × ((c : Alphabet) → constantsZero (polynomial (codeOn c) h w p) ≡ constantsFrom (codeOn c) h w p a)
 
 abbrev μ-loop : tie.MeasureT-loop
 μ-loop p h w a₀ a = w - a
 
 loop-holds : tie.Need-loop-holds Inv-loop μ-loop
-loop-holds c = (omega arith, constants-begin sixteen (c .args .h) (c .args .w) (c .args .p .now))
+loop-holds c = (omega arith, λ w. constants-begin (codeOn w) (c .args .h) (c .args .w) (c .args .p .now))
 
 mul-if1 : tie.Need-mul-if1 Inv-loop μ-loop
 mul-if1 c =
@@ -35,7 +36,7 @@ returns : tie.Need-returns Inv-loop μ-loop
 returns c =
     let l = c .before .before .before in
     let s = l .before in
-    constants-stop sixteen (s .args .h) (s .args .w) (s .args .p .now) (l .loop .a) (constantsZero (polynomial sixteen (s .args .h) (s .args .w) (s .args .p .now))) (omega arith) (omega arith) (l .loop .inv .1) (c .if1 .taken)
+    λ w. constants-stop (codeOn w) (s .args .h) (s .args .w) (s .args .p .now) (l .loop .a) (constantsZero (polynomial (codeOn w) (s .args .h) (s .args .w) (s .args .p .now))) (omega arith) (omega arith) (l .loop .inv .1 w) (c .if1 .taken)
 
 add-a : tie.Need-add-a Inv-loop μ-loop
 add-a c =
@@ -50,13 +51,13 @@ loop-again : tie.Need-loop-again Inv-loop μ-loop
 loop-again c =
     let l = c .before .before .before in
     let s = l .before in
-    (omega arith, constants-go-on sixteen (s .args .h) (s .args .w) (s .args .p .now) (l .loop .a) (constantsZero (polynomial sixteen (s .args .h) (s .args .w) (s .args .p .now))) (omega arith) (omega arith) (l .loop .inv .1) (c .if1 .left))
+    (omega arith, λ w. constants-go-on (codeOn w) (s .args .h) (s .args .w) (s .args .p .now) (l .loop .a) (constantsZero (polynomial (codeOn w) (s .args .h) (s .args .w) (s .args .p .now))) (omega arith) (omega arith) (l .loop .inv .1 w) (c .if1 .left))
 
 returns-2 : tie.Need-returns-2 Inv-loop μ-loop
 returns-2 c =
     let l = c .before in
     let s = l .before in
-    constants-end sixteen (s .args .h) (s .args .w) (s .args .p .now) (l .loop .a) (constantsZero (polynomial sixteen (s .args .h) (s .args .w) (s .args .p .now))) (omega arith) (l .loop .inv .1)
+    λ w. constants-end (codeOn w) (s .args .h) (s .args .w) (s .args .p .now) (l .loop .a) (constantsZero (polynomial (codeOn w) (s .args .h) (s .args .w) (s .args .p .now))) (omega arith) (l .loop .inv .1 w)
 
 pub constants-zero-spec : {M : Type 1} → statement M
 constants-zero-spec =

@@ -2,22 +2,23 @@
 use mathlib.Core.Path.{_≡_}
 use Prim.Native.Nat.{_≤_}
 use lib.ListN.{take, drop}
-use Rattle.definitions.specs.Field.{numbers, value, sixteen, sumOf}
-use Rattle.instances.proofs.Codes.{sixteen-field}
+use Rattle.alphabet.specs.Codes.{codeOn}
+use Rattle.definitions.specs.Field.{numbers, value, sumOf}
+use Rattle.instances.proofs.Codes.{field-on}
 use Rattle.substitution.proofs.Columns.{no-value, first-value-more, first-value-symbol}
 use native.Mathlib.Omega.{arith}
 use Rattle.substitution.proofs.first_value.Statement.{statement}
 use Rattle.substitution.proofs.first_value.Tie as tie
 
 abbrev Inv-loop : tie.InvT-loop
-Inv-loop table p h g y₀ b₀ y b = (b ≤ h) × (y ≡ value (numbers sixteen) g (drop b (take h p)))
+Inv-loop alphabet table p h g y₀ b₀ y b = (b ≤ h) × (y ≡ value (numbers (codeOn alphabet)) g (drop b (take h p)))
 
 abbrev μ-loop : tie.MeasureT-loop
-μ-loop table p h g y₀ b₀ y b = b
+μ-loop alphabet table p h g y₀ b₀ y b = b
 
 loop-holds : tie.Need-loop-holds Inv-loop μ-loop
 loop-holds c =
-    (omega arith, no-value sixteen (c .args .p .now) (c .args .h) (c .args .g) (omega arith))
+    (omega arith, no-value (codeOn (c .before .args .alphabet)) (c .before .args .p .now) (c .before .args .h) (c .before .args .g) (omega arith))
 
 sub-b : tie.Need-sub-b Inv-loop μ-loop
 sub-b c = omega arith
@@ -28,8 +29,8 @@ element-copy-out-y c = omega arith
 look-requires : tie.Need-look-requires Inv-loop μ-loop
 look-requires c κs =
     let l = c .before .before in
-    let s = l .before in
-    (s .pre .0, (s .pre .1 .1 .1, first-value-symbol sixteen sixteen-field (s .args .p .now) (s .args .h) (s .args .g) (l .loop .b) (l .loop .y) (s .pre .1 .1 .1) (s .pre .1 .0) (l .loop .inv .1)))
+    let s = l .before .before in
+    (s .pre .0, (s .pre .1 .1 .1, first-value-symbol (codeOn (s .args .alphabet)) (field-on (s .args .alphabet)) (s .args .p .now) (s .args .h) (s .args .g) (l .loop .b) (l .loop .y) (s .pre .1 .1 .1) (s .pre .1 .0) (l .loop .inv .1)))
 
 loop-less : tie.Need-loop-less Inv-loop μ-loop
 loop-less c = omega arith
@@ -38,8 +39,8 @@ loop-again : tie.Need-loop-again Inv-loop μ-loop
 unfolding sumOf
 loop-again c =
     let l = c .before .before .before in
-    let s = l .before in
-    (omega arith, first-value-more sixteen (s .args .p .now) (s .args .h) (s .args .g) (l .loop .b) (l .loop .y) (c .look .result) (omega arith) (omega arith) (omega arith) (l .loop .inv .1) (c .look .ensures))
+    let s = l .before .before in
+    (omega arith, first-value-more (codeOn (s .args .alphabet)) (s .args .p .now) (s .args .h) (s .args .g) (l .loop .b) (l .loop .y) (c .look .result) (omega arith) (omega arith) (omega arith) (l .loop .inv .1) (c .look .ensures))
 
 returns : tie.Need-returns Inv-loop μ-loop
 returns c =

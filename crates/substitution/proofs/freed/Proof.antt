@@ -3,12 +3,12 @@ use mathlib.Core.Path.{_≡_, sym, subst}
 use mathlib.Core.List.{_++_}
 use Prim.Native.Nat.{ℕ, _-_, _*_, _/_}
 use lib.ListN.{take, drop}
+use Rattle.alphabet.specs.Codes.{codeOn}
 use Rattle.definitions.specs.Code.{Symbols}
 use native.Mathlib.Nat.{div-mul-le-self}
-use Rattle.definitions.specs.Field.{sixteen}
 use Rattle.definitions.specs.Tools.{smallest}
 use Rattle.definitions.proofs.Tools.{smallest-le}
-use Rattle.instances.proofs.Codes.{sixteen-field}
+use Rattle.instances.proofs.Codes.{field-on}
 use Rattle.root_tree.specs.Tree.{zeros}
 use Rattle.substitution.specs.Array.{places, isOther}
 use Rattle.substitution.proofs.Substitution.{freed-moved, copied-symbols}
@@ -38,7 +38,7 @@ moved-requires c κs =
     let low = div-mul-le-self (c .first-other .result) (c .before .args .h) in
     let e = c .first-other .ensures in
     let b = smallest-le (isOther (c .before .args .p .now)) (c .before .args .w * c .before .args .h) in
-    (omega arith, omega arith, c .before .pre .1 .2)
+    (omega arith, omega arith, c .before .pre .2)
 
 returns : tie.Need-returns
 returns c =
@@ -46,8 +46,8 @@ returns c =
     let s = o .before in
     let e : c .moved .result ≡ take (s .args .w * s .args .h - smallest (isOther (s .args .p .now)) (s .args .w * s .args .h) / s .args .h * s .args .h) (drop (smallest (isOther (s .args .p .now)) (s .args .w * s .args .h) / s .args .h * s .args .h) (s .args .p .now)) ++ drop (s .args .w * s .args .h - smallest (isOther (s .args .p .now)) (s .args .w * s .args .h) / s .args .h * s .args .h) (zeros places) =
     subst (λ (i : ℕ). c .moved .result ≡ take (s .args .w * s .args .h - i / s .args .h * s .args .h) (drop (i / s .args .h * s .args .h) (s .args .p .now)) ++ drop (s .args .w * s .args .h - i / s .args .h * s .args .h) (zeros places)) (o .first-other .ensures) (c .moved .ensures) in (
-      freed-moved sixteen (s .args .h) (s .args .w) (s .pre .1 .0) (s .args .p .now) (s .pre .1 .2) (s .pre .1 .1) (c .moved .result) e,
-      subst (Symbols sixteen) (sym e) (copied-symbols sixteen sixteen-field (s .args .p .now) (s .args .w * s .args .h - smallest (isOther (s .args .p .now)) (s .args .w * s .args .h) / s .args .h * s .args .h) (smallest (isOther (s .args .p .now)) (s .args .w * s .args .h) / s .args .h * s .args .h) places (s .pre .0)),
+      (λ w. freed-moved (codeOn w) (s .args .h) (s .args .w) (s .pre .0) (s .args .p .now) (s .pre .2) (s .pre .1) (c .moved .result) e),
+      λ w sp. subst (Symbols (codeOn w)) (sym e) (copied-symbols (codeOn w) (field-on w) (s .args .p .now) (s .args .w * s .args .h - smallest (isOther (s .args .p .now)) (s .args .w * s .args .h) / s .args .h * s .args .h) (smallest (isOther (s .args .p .now)) (s .args .w * s .args .h) / s .args .h * s .args .h) places sp),
     )
 
 pub freed-spec : {M : Type 1} → statement M

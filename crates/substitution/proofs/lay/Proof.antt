@@ -3,24 +3,23 @@ use native.Mathlib.Nat.{mul-le-mul-left}
 use mathlib.Core.Path.{_≡_, refl, _∙_, subst}
 use Prim.Native.Nat.{ℕ, _+_, _-_, _*_, _≤_}
 use lib.ListN.{length, length-set}
-use Rattle.definitions.specs.Code.{Symbols}
-use Rattle.definitions.specs.Field.{sixteen}
+use Rattle.alphabet.specs.Codes.{codeOn}
 use Rattle.root_tree.proofs.Arrays.{place-within}
 use Rattle.root_tree.proofs.Roots.{set-symbols}
-use Rattle.substitution.specs.Array.{Laid}
+use Rattle.substitution.specs.Array.{Laid, SymbolsLaid}
 use Rattle.substitution.proofs.Substitution.{laid-none, laid-more, laid-end}
 use native.Mathlib.Omega.{arith}
 use Rattle.substitution.proofs.lay.Statement.{statement}
 use Rattle.substitution.proofs.lay.Tie as tie
 
 abbrev Inv-loop : tie.InvT-loop
-Inv-loop p₀ col a h w b₀ p b = (b ≤ h) × (length p ≡ length p₀) × Symbols sixteen p × Laid h w a b col p₀ p
+Inv-loop p₀ col a h w b₀ p b = (b ≤ h) × (length p ≡ length p₀) × SymbolsLaid col p₀ p × Laid h w a b col p₀ p
 
 abbrev μ-loop : tie.MeasureT-loop
 μ-loop p₀ col a h w b₀ p b = h - b
 
 loop-holds : tie.Need-loop-holds Inv-loop μ-loop
-loop-holds c = (omega arith, refl, c .pre .0, laid-none (c .args .h) (c .args .w) (c .args .a) (c .args .col .now) (c .args .p .now))
+loop-holds c = (omega arith, refl, (λ c sc sp. sp), laid-none (c .args .h) (c .args .w) (c .args .a) (c .args .col .now) (c .args .p .now))
 
 add-if1 : tie.Need-add-if1 Inv-loop μ-loop
 add-if1 c =
@@ -73,7 +72,7 @@ loop-again c =
     let s = l .before in (
       omega arith,
       length-set (l .loop .p) _ _ ∙ l .loop .inv .1,
-      set-symbols sixteen (l .loop .p) _ _ (s .pre .1 .0 (l .loop .b)) (l .loop .inv .2),
+      λ c sc sp. set-symbols (codeOn c) (l .loop .p) _ _ (sc (l .loop .b)) (l .loop .inv .2 c sc sp),
       laid-more (s .args .h) (s .args .w) (s .args .a) (s .args .col .now) (s .args .p .now) (l .loop .b) (l .loop .p) (l .loop .inv .3) (omega arith) (omega arith) (omega arith),
     )
 

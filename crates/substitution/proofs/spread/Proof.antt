@@ -5,26 +5,25 @@ use native.Mathlib.Omega.{arith}
 use borrow.Author.Needs.{needs}
 use lib.ListN.{length, take, drop, length-drop}
 use lib.Seq.{length-take-le}
+use Rattle.alphabet.specs.Codes.{codeOn}
 use Rattle.algebra.proofs.Elements.{zero-symbol}
 use Rattle.definitions.proofs.Symbols.{drop-symbols, take-symbols}
-use Rattle.definitions.specs.Code.{Symbols}
-use Rattle.definitions.specs.Field.{sixteen}
-use Rattle.instances.proofs.Codes.{sixteen-field}
+use Rattle.instances.proofs.Codes.{field-on}
 use Rattle.root_tree.specs.Tree.{zeros}
 use Rattle.substitution.proofs.Substitution.{spread-none, spread-more, zeros-symbols, column-within}
-use Rattle.substitution.specs.Array.{places, Spread}
+use Rattle.substitution.specs.Array.{places, Spread, SymbolsKept}
 use Rattle.substitution.proofs.spread.Statement.{statement}
 use Rattle.substitution.proofs.spread.Tie as tie
 
 abbrev Inv-loop : tie.InvT-loop
-Inv-loop p h w q₀ a₀ q a = (a ≤ w) × (length q ≡ places) × Symbols sixteen q × Spread h w a p q
+Inv-loop p h w q₀ a₀ q a = (a ≤ w) × (length q ≡ places) × SymbolsKept p q × Spread h w a p q
 
 abbrev μ-loop : tie.MeasureT-loop
 μ-loop p h w q₀ a₀ q a = w - a
 
 loop-holds : tie.Need-loop-holds Inv-loop μ-loop
 unfolding zeros
-loop-holds c = let s = c .before in (omega arith, refl, zeros-symbols sixteen sixteen-field places, spread-none (s .args .h) (s .args .w) (s .args .p .now) places)
+loop-holds c = let s = c .before in (omega arith, refl, (λ c sp. zeros-symbols (codeOn c) (field-on c) places), spread-none (s .args .h) (s .args .w) (s .args .p .now) places)
 
 mul-from : tie.Need-mul-from Inv-loop μ-loop
 mul-from c =
@@ -64,8 +63,7 @@ lay-requires c κs =
     let e : l .loop .a * s .args .h + s .args .h - l .loop .a * s .args .h ≡ s .args .h = omega arith in
     let long : length (take (s .args .h) (drop (l .loop .a * s .args .h) (s .args .p .now))) ≡ s .args .h =
     length-take-le (s .args .h) (drop (l .loop .a * s .args .h) (s .args .p .now)) (rw length-drop (omega arith)) in
-    rw (e, long)
-    (l .loop .inv .2, (take-symbols sixteen (zero-symbol sixteen sixteen-field) (s .args .h) (drop (l .loop .a * s .args .h) (s .args .p .now)) (drop-symbols sixteen (l .loop .a * s .args .h) (s .args .p .now) (s .pre .0)), (omega arith, omega arith, omega arith)))
+    rw (e, long) (omega arith, omega arith, omega arith)
 
 add-a : tie.Need-add-a Inv-loop μ-loop
 add-a c = omega arith
@@ -81,7 +79,9 @@ loop-again c =
     let e : l .loop .a * s .args .h + s .args .h - l .loop .a * s .args .h ≡ s .args .h = omega arith in (
       omega arith,
       omega arith,
-      r .ensures .1,
+      (λ c sp. rw e at (r .ensures .1) c
+          (take-symbols (codeOn c) (zero-symbol (codeOn c) (field-on c)) (s .args .h) (drop (l .loop .a * s .args .h) (s .args .p .now)) (drop-symbols (codeOn c) (l .loop .a * s .args .h) (s .args .p .now) sp))
+          (l .loop .inv .2 c sp)),
       spread-more (s .args .h) (s .args .w) (s .args .p .now) (l .loop .a) (l .loop .q) (r .last .0) (l .loop .inv .3) (rw e at (r .ensures .0)),
     )
 

@@ -3,6 +3,7 @@ use mathlib.Core.Path.{_≡_}
 use Prim.Native.Nat.{_+_, _*_, _-_, _≤_}
 use lib.ListN.{length}
 use native.Mathlib.Omega.{arith}
+use Rattle.alphabet.specs.Codes.{codeOn}
 use Rattle.definitions.proofs.Loops.{row-within}
 use Rattle.text.proofs.Putting.{lines-begun, lines-more}
 use Rattle.text.specs.Rooms.{longestRowRoom}
@@ -11,13 +12,13 @@ use Rattle.text.proofs.put_rows.Statement.{statement}
 use Rattle.text.proofs.put_rows.Tie as tie
 
 abbrev Inv-loop : tie.InvT-loop
-Inv-loop out₀ at k count rows scores end₀ j₀ out end j = (j ≤ count) × (end ≤ at + longestRowRoom * j) × Puts out₀ at (rowLines k rows scores j) end out
+Inv-loop alphabet out₀ at k count rows scores end₀ j₀ out end j = (j ≤ count) × (end ≤ at + longestRowRoom * j) × Puts out₀ at (rowLines (codeOn alphabet) k rows scores j) end out
 
 abbrev μ-loop : tie.MeasureT-loop
-μ-loop out₀ at k count rows scores end₀ j₀ out end j = count - j
+μ-loop alphabet out₀ at k count rows scores end₀ j₀ out end j = count - j
 
 loop-holds : tie.Need-loop-holds Inv-loop μ-loop
-loop-holds c = (omega arith, omega arith, lines-begun (c .before .before .before .args .k) (c .before .before .before .args .rows .now) (c .before .before .before .args .scores .now) (c .before .before .before .args .out .now) (c .before .before .before .args .at))
+loop-holds c = (omega arith, omega arith, lines-begun (codeOn (c .before .before .before .args .alphabet)) (c .before .before .before .args .k) (c .before .before .before .args .rows .now) (c .before .before .before .args .scores .now) (c .before .before .before .args .out .now) (c .before .before .before .args .at))
 
 put-row-of-requires : tie.Need-put-row-of-requires Inv-loop μ-loop
 put-row-of-requires c κs =
@@ -40,7 +41,7 @@ loop-again c =
     let within : s .args .at ≤ length (s .args .out .now) = omega arith in (
       omega arith,
       omega arith,
-      lines-more (s .args .k) (s .args .rows .now) (s .args .scores .now) (s .args .out .now) (l .out) (p .last .0) (s .args .at) (l .end) (p .result) (l .j) within (l .inv .2) (p .ensures .0),
+      lines-more (codeOn (s .args .alphabet)) (s .args .k) (s .args .rows .now) (s .args .scores .now) (s .args .out .now) (l .out) (p .last .1 .0) (s .args .at) (l .end) (p .result) (l .j) within (l .inv .2) (p .ensures .0),
     )
 
 same-length : tie.Need-same-length Inv-loop μ-loop

@@ -1,86 +1,51 @@
--- The loop has written the first i symbols of the codeword; x is the point of position i.
+-- In either case the points are those of the alphabet.
 use mathlib.Core.List.{_++_}
-use mathlib.Core.Path.{_≡_, refl, _∙_}
-use Prim.Native.Nat.{_-_, _≤_, _<_}
-use native.Mathlib.Omega.{arith}
+use mathlib.Core.Path.{_≡_, sym, subst}
+use lib.ListN.{drop}
+use Rattle.alphabet.specs.Codes.{codeOn}
+use Rattle.alphabet.specs.declared.Alphabet.{Alphabet}
+use Rattle.definitions.specs.Code.{Symbols, codeword}
 use borrow.Author.Needs.{needs}
-use lib.ListN.{length, drop, length-set}
-use Rattle.code.proofs.Encoding.{first-point, next-point, point-so-far, none-written, symbol-more}
-use Rattle.definitions.specs.Code.{point, codeword}
-use Rattle.definitions.specs.Field.{sixteen}
-use Rattle.instances.proofs.Codes.{sixteen-field}
 use Rattle.code.proofs.inside.encode_into.Statement.{statement}
 use Rattle.code.proofs.inside.encode_into.Tie as tie
 
-abbrev Inv-loop : tie.InvT-loop
-Inv-loop f n out₀ table x₀ i₀ out x i =
-    (i ≤ n) × (length out ≡ length out₀) × (x ≡ point sixteen i) × (out ≡ codeword sixteen i f ++ drop i out₀)
+points-into-requires : tie.Need-points-into-requires
+points-into-requires c κs =
+    let p = c .before .before in
+    let s = p .before .before .before .before .before in
+    (p .products-of-thirty-two .ensures, (subst (λ (w : Alphabet). Symbols (codeOn w) (s .args .f .now)) (p .before .enum-told .given .1) (s .pre .0), s .pre .1))
 
-abbrev μ-loop : tie.MeasureT-loop
-μ-loop f n out₀ table x₀ i₀ out x i = n - i
-
-products-requires : tie.Need-products-requires Inv-loop μ-loop
-products-requires c κs = search needs
-
-loop-holds : tie.Need-loop-holds Inv-loop μ-loop
-loop-holds c =
-    let s = c .before .before .before in
-    (omega arith, refl, first-point sixteen, none-written sixteen (s .args .f .now) (s .args .out .now))
-
-value-at-requires : tie.Need-value-at-requires Inv-loop μ-loop
-value-at-requires c κs =
-    let l = c .before .before in
-    let s = l .before .before .before .before in
-    (l .before .products .ensures, (s .pre .0, point-so-far sixteen sixteen-field (l .loop .i) (l .loop .x) (l .loop .inv .2)))
-
-slice-write-out : tie.Need-slice-write-out Inv-loop μ-loop
-slice-write-out c = omega arith
-
-look-requires : tie.Need-look-requires Inv-loop μ-loop
-look-requires c κs =
-    let l = c .before .before .before .before in
-    (l .before .products .ensures, (omega arith, point-so-far sixteen sixteen-field (l .loop .i) (l .loop .x) (l .loop .inv .2)))
-
-add-i : tie.Need-add-i Inv-loop μ-loop
-add-i c = omega arith
-
-loop-less : tie.Need-loop-less Inv-loop μ-loop
-loop-less c = omega arith
-
-loop-again : tie.Need-loop-again Inv-loop μ-loop
-loop-again c =
-    let l = c .before .before .before .before .before in
-    let s = l .before .before .before .before in
-    let more : l .loop .i < s .args .n = omega arith in (
-      omega arith,
-      length-set (l .loop .out) (l .loop .i) (c .before .before .value-at .result) ∙ l .loop .inv .1,
-      next-point sixteen (l .loop .i) (l .loop .x) (c .look .result) (l .loop .inv .2) (c .look .ensures),
-      symbol-more sixteen (s .args .f .now) (s .args .out .now) (l .loop .out) (l .loop .i) (l .loop .x) (c .before .before .value-at .result) (omega arith)
-          (l .loop .inv .3) (l .loop .inv .2) (c .before .before .value-at .ensures),
-    )
-
-same-length : tie.Need-same-length Inv-loop μ-loop
-same-length c = c .before .loop .inv .1
-
-returns : tie.Need-returns Inv-loop μ-loop
+returns : tie.Need-returns
 returns c =
-    let l = c .before in
-    let e : l .loop .i ≡ l .before .before .before .before .args .n = omega arith in
-    rw e at (l .loop .inv .3)
+    let p = c .before .before in
+    let s = c .before .before .before .before .before .before .before .before .before .before in
+    subst (λ (w : Alphabet). p .points-into .last .1 .1 .1 .1 .0 ≡ codeword (codeOn w) (s .args .n) (s .args .f .now) ++ drop (s .args .n) (s .args .out .now)) (sym (p .before .before .before .before .enum-told .given .1)) (p .points-into .ensures)
+
+points-into-requires-2 : tie.Need-points-into-requires-2
+points-into-requires-2 c κs =
+    let p = c .before .before in
+    let s = p .before .before .before .before .before in
+    (p .products-of-sixteen .ensures, (subst (λ (w : Alphabet). Symbols (codeOn w) (s .args .f .now)) (p .before .enum-told2 .given .1) (s .pre .0), s .pre .1))
+
+returns-2 : tie.Need-returns-2
+returns-2 c =
+    let p = c .before .before in
+    let s = c .before .before .before .before .before .before .before .before .before .before in
+    subst (λ (w : Alphabet). p .points-into2 .last .1 .1 .1 .1 .0 ≡ codeword (codeOn w) (s .args .n) (s .args .f .now) ++ drop (s .args .n) (s .args .out .now)) (sym (p .before .before .before .before .enum-told2 .given .1)) (p .points-into2 .ensures)
 
 pub encode-into-spec : {M : Type 1} → statement M
 encode-into-spec =
     tie.close
     (tie.spec
-    Inv-loop
-    μ-loop
-    products-requires
-    loop-holds
-    value-at-requires
-    slice-write-out
-    look-requires
-    add-i
-    loop-less
-    loop-again
-    same-length
-    returns)
+    (λ c. search needs)
+    (λ c κs. search needs)
+    (λ c. search needs)
+    points-into-requires
+    (λ c. search needs)
+    returns
+    (λ c. search needs)
+    (λ c κs. search needs)
+    (λ c. search needs)
+    points-into-requires-2
+    (λ c. search needs)
+    returns-2)

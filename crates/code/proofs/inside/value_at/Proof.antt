@@ -3,20 +3,21 @@ use mathlib.Core.Path.{_≡_}
 use Prim.Native.Nat.{_≤_}
 use native.Mathlib.Omega.{arith}
 use lib.ListN.{length, drop}
+use Rattle.alphabet.specs.Codes.{codeOn}
 use Rattle.code.proofs.Encoding.{empty-value, value-more, value-so-far}
-use Rattle.definitions.specs.Field.{numbers, value, sixteen, sumOf}
-use Rattle.instances.proofs.Codes.{sixteen-field}
+use Rattle.definitions.specs.Field.{numbers, value, sumOf}
+use Rattle.instances.proofs.Codes.{field-on}
 use Rattle.code.proofs.inside.value_at.Statement.{statement}
 use Rattle.code.proofs.inside.value_at.Tie as tie
 
 abbrev Inv-loop : tie.InvT-loop
-Inv-loop table f x y₀ j₀ y j = (j ≤ length f) × (y ≡ value (numbers sixteen) x (drop j f))
+Inv-loop alphabet table f x y₀ j₀ y j = (j ≤ length f) × (y ≡ value (numbers (codeOn alphabet)) x (drop j f))
 
 abbrev μ-loop : tie.MeasureT-loop
-μ-loop table f x y₀ j₀ y j = j
+μ-loop alphabet table f x y₀ j₀ y j = j
 
 loop-holds : tie.Need-loop-holds Inv-loop μ-loop
-loop-holds c = (omega arith, empty-value sixteen (c .before .args .x) (c .before .args .f .now))
+loop-holds c = (omega arith, empty-value (codeOn (c .before .before .args .alphabet)) (c .before .before .args .x) (c .before .before .args .f .now))
 
 sub-j : tie.Need-sub-j Inv-loop μ-loop
 sub-j c = omega arith
@@ -27,8 +28,8 @@ shared-slice-read-y c = omega arith
 look-requires : tie.Need-look-requires Inv-loop μ-loop
 look-requires c κs =
     let l = c .before .before in
-    let s = l .before .before in
-    let small = value-so-far sixteen sixteen-field (s .args .x) (s .args .f .now) (l .loop .j) (l .loop .y) (s .pre .1 .1) (s .pre .1 .0) (l .loop .inv .1) in
+    let s = l .before .before .before in
+    let small = value-so-far (codeOn (s .args .alphabet)) (field-on (s .args .alphabet)) (s .args .x) (s .args .f .now) (l .loop .j) (l .loop .y) (s .pre .1 .1) (s .pre .1 .0) (l .loop .inv .1) in
     (s .pre .0, (s .pre .1 .1, small))
 
 loop-less : tie.Need-loop-less Inv-loop μ-loop
@@ -38,10 +39,10 @@ loop-again : tie.Need-loop-again Inv-loop μ-loop
 unfolding sumOf
 loop-again c =
     let l = c .before .before .before in
-    let s = l .before .before in
+    let s = l .before .before .before in
     let lower = l .loop .inv .0 in (
       omega arith,
-      value-more sixteen (s .args .x) (s .args .f .now) (l .loop .j) (l .loop .y) (c .look .result) (omega arith) lower (l .loop .inv .1) (c .look .ensures),
+      value-more (codeOn (s .args .alphabet)) (s .args .x) (s .args .f .now) (l .loop .j) (l .loop .y) (c .look .result) (omega arith) lower (l .loop .inv .1) (c .look .ensures),
     )
 
 returns : tie.Need-returns Inv-loop μ-loop

@@ -5,9 +5,9 @@ use Prim.Native.Nat.{ℕ, _*_, _-_, _≤_}
 use native.Mathlib.Omega.{arith}
 use lib.ListN.{take}
 use lib.Seq.{length-take-le}
+use Rattle.alphabet.specs.Codes.{codeOn}
 use Rattle.definitions.proofs.Bound.{bound-le}
 use Rattle.definitions.specs.Bound.{bound}
-use Rattle.definitions.specs.Field.{sixteen}
 use Rattle.definitions.specs.Limits.{greatestLimit}
 use Rattle.interpolation.proofs.Answers.{refused-by-cost, found-is-answered}
 use Rattle.polynomial.proofs.Coefficients.{count-small}
@@ -19,14 +19,14 @@ use Rattle.interpolation.proofs.inside.interpolate_priced.Tie as tie
 
 -- the bytes in front of the entries
 abbrev bytes : tie.Start → List ℕ
-bytes s = take (sixteen .symbols * s .args .n) (s .args .entries .now)
+bytes s = take (codeOn (s .args .alphabet) .symbols * s .args .n) (s .args .entries .now)
 
 returns : tie.Need-returns
 returns c =
     let s = c .before .before .before in
     let a = s .args in
     let paid = s .pre .1 .paid in
-    refused-by-cost sixteen (a .n) (a .k) (a .limit) (bytes s) (a .out .now) (omega arith)
+    refused-by-cost (codeOn (a .alphabet)) (a .n) (a .k) (a .limit) (bytes s) (a .out .now) (omega arith)
 
 abbrev entry : tie.Else1 → tie.Start
 entry c = c .before .before .before
@@ -44,10 +44,10 @@ count-requires c κs =
     (omega arith, omega arith)
 
 -- the stored cost is that of the columns
-paid : (c : tie.After-opened) → entry (c .before) .args .cost ≡ matrixCost sixteen (c .opened .result)
+paid : (c : tie.After-opened) → entry (c .before) .args .cost ≡ matrixCost (codeOn (entry (c .before) .args .alphabet)) (c .opened .result)
 paid c =
     let s = entry (c .before) in
-    opened-cost sixteen (s .args .n) (s .args .cost) (s .args .entries .now) (s .pre .0 .sized .2) (s .pre .1) (c .opened .result) (c .opened .ensures)
+    opened-cost (codeOn (s .args .alphabet)) (s .args .n) (s .args .cost) (s .args .entries .now) (s .pre .0 .sized .2) (s .pre .1) (c .opened .result) (c .opened .ensures)
 
 polynomial-requires : tie.Need-polynomial-requires
 polynomial-requires c κs =
@@ -77,11 +77,12 @@ returns-2 c =
     let o = d .before in
     let s = entry (o .before) in
     let a = s .args in
+    let C = codeOn (a .alphabet) in
     let f = s .pre .0 in
     let h = s .pre .1 in
-    found-is-answered sixteen (a .n) (a .k) (a .limit) (bytes s) (a .out .now) (f .sized .2) (length-take-le (sixteen .symbols * a .n) (a .entries .now) (h .within))
-    (o .opened .result) (opened-front sixteen (a .n) (a .cost) (a .entries .now) (f .sized .2) h (o .opened .result) (o .opened .ensures)) (a .cost) (d .bound .result)
-    (n .count .result) (p .polynomial .result) (p .polynomial .last .1 .1 .1 .1 .1 .0) (h .paid) (o .before .if1 .left) (d .bound .ensures) (n .count .ensures)
+    found-is-answered C (a .n) (a .k) (a .limit) (bytes s) (a .out .now) (f .sized .2) (length-take-le (C .symbols * a .n) (a .entries .now) (h .within))
+    (o .opened .result) (opened-front C (a .n) (a .cost) (a .entries .now) (f .sized .2) h (o .opened .result) (o .opened .ensures)) (a .cost) (d .bound .result)
+    (n .count .result) (p .polynomial .result) (p .polynomial .last .1 .1 .1 .1 .1 .1 .0) (h .paid) (o .before .if1 .left) (d .bound .ensures) (n .count .ensures)
     (p .polynomial .ensures)
 
 pub interpolate-priced-spec : {M : Type 1} → statement M

@@ -4,20 +4,19 @@ use mathlib.Core.Path.{_≡_, refl}
 use Prim.Native.Nat.{_+_, _-_, _*_, _/_, _≤_}
 use native.Mathlib.Omega.{arith}
 use lib.ListN.{length, take}
-use Rattle.definitions.specs.Field.{numbers, sixteen}
-use Rattle.root_tree.specs.Columns.{loaded}
+use Rattle.alphabet.specs.Codes.{codeOn}
+use Rattle.alphabet.specs.declared.Alphabet.the-variants.{Sixteen}
 use Rattle.root_tree.specs.Tree.{zeros}
 use Rattle.substitution.specs.Array.{places}
 use Rattle.definitions.proofs.Monomials.{lower, none-lower, degree-grows}
+use Rattle.roots.specs.Rows.{LoadedOfEither}
 use Rattle.roots.proofs.Loading.{load-none, load-more, load-all, degree-within}
 use Rattle.roots.proofs.inside.load.Statement.{statement}
 use Rattle.roots.proofs.inside.load.Tie as tie
-use Rattle.roots.proofs.inside.load.Reads as reads
-use Rattle.roots.proofs.inside.load.Lts as lts
 use Rattle.roots.proofs.inside.load_degree.Reads as load-degree-reads
 
 abbrev Inv-loop : tie.InvT-loop
-Inv-loop coefficients degree v p₀ h j₀ d₀ p j d = (d ≤ degree + 1) × (length p ≡ places) × (j ≡ length (lower v d)) × (p ≡ loaded (numbers sixteen) h (take j coefficients) (lower v d) (zeros places))
+Inv-loop coefficients degree v p₀ h j₀ d₀ p j d = (d ≤ degree + 1) × (length p ≡ places) × (j ≡ length (lower v d)) × LoadedOfEither h (take j coefficients) (lower v d) (zeros places) p
 
 abbrev μ-loop : tie.MeasureT-loop
 μ-loop coefficients degree v p₀ h j₀ d₀ p j d = degree + 1 - d
@@ -32,7 +31,7 @@ loop-holds : tie.Need-loop-holds Inv-loop μ-loop
 unfolding zeros
 loop-holds c =
     let s = c .before in
-    (omega arith, refl, none-lower (s .args .v), load-none sixteen (s .args .v) (s .pre .0 .0) (s .args .degree) (s .args .coefficients .now) (s .pre .1) (s .args .degree / s .args .v + 1) (zeros places))
+    (omega arith, refl, none-lower (s .args .v), λ w. load-none (codeOn w) (s .args .v) (s .pre .0 .0) (s .args .degree) (s .args .coefficients .now) (s .pre .1) (s .args .degree / s .args .v + 1) (zeros places))
 
 slice-aggregate-load-degree : tie.Need-slice-aggregate-load-degree Inv-loop μ-loop
 slice-aggregate-load-degree c = omega arith
@@ -74,14 +73,13 @@ loop-again c =
     let l = c .before .before .before .before in
     let s = l .before .before in
     let r = c .before .load-degree in
-    let z = load-more sixteen (s .args .v) (s .pre .0 .0) (s .args .degree) (s .args .coefficients .now) (s .pre .1) (s .args .degree / s .args .v + 1) (zeros places) (l .loop .d) (l .loop .j) (l .loop .p) (r .last .0) (omega arith) (l .loop .inv .2) (l .loop .inv .3) (r .ensures) in
-    (omega arith, omega arith, z .0, z .1)
+    (omega arith, omega arith, load-more (codeOn Sixteen) (s .args .v) (s .pre .0 .0) (s .args .degree) (s .args .coefficients .now) (s .pre .1) (s .args .degree / s .args .v + 1) (zeros places) (l .loop .d) (l .loop .j) (l .loop .p) (r .last .0) (omega arith) (l .loop .inv .2) (l .loop .inv .3 Sixteen) (r .ensures Sixteen) .0, λ w. load-more (codeOn w) (s .args .v) (s .pre .0 .0) (s .args .degree) (s .args .coefficients .now) (s .pre .1) (s .args .degree / s .args .v + 1) (zeros places) (l .loop .d) (l .loop .j) (l .loop .p) (r .last .0) (omega arith) (l .loop .inv .2) (l .loop .inv .3 w) (r .ensures w) .1)
 
 returns : tie.Need-returns Inv-loop μ-loop
 returns c =
     let l = c .before in
     let s = l .before .before in
-    load-all sixteen (s .args .v) (s .pre .0 .0) (s .args .degree) (s .args .coefficients .now) (s .pre .1) (s .args .degree / s .args .v + 1) (zeros places) (l .loop .d) (l .loop .j) (l .loop .p) (omega arith) (l .loop .inv .2) (l .loop .inv .3)
+    λ w. load-all (codeOn w) (s .args .v) (s .pre .0 .0) (s .args .degree) (s .args .coefficients .now) (s .pre .1) (s .args .degree / s .args .v + 1) (zeros places) (l .loop .d) (l .loop .j) (l .loop .p) (omega arith) (l .loop .inv .2) (l .loop .inv .3 w)
 
 pub load-spec : {M : Type 1} → statement M
 load-spec =

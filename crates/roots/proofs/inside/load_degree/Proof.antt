@@ -2,23 +2,23 @@
 use mathlib.Core.Path.{_≡_, refl, _∙_}
 use Prim.Native.Nat.{_+_, _-_, _*_, _/_, _≤_}
 use lib.ListN.{length, getD, take, drop, length-set}
-use Rattle.definitions.specs.Field.{numbers, sixteen}
+use Rattle.alphabet.specs.Codes.{codeOn}
 use Rattle.root_tree.proofs.Arrays.{place-within}
-use Rattle.root_tree.specs.Columns.{loaded}
 use Rattle.definitions.proofs.Monomials.{power-within}
+use Rattle.roots.specs.Rows.{LoadedOfEither}
 use Rattle.roots.proofs.Loading.{some, degree-none, degree-more}
 use native.Mathlib.Omega.{arith}
 use Rattle.roots.proofs.inside.load_degree.Statement.{statement}
 use Rattle.roots.proofs.inside.load_degree.Tie as tie
 
 abbrev Inv-loop : tie.InvT-loop
-Inv-loop p₀ coefficients j d v h b₀ p b = (b ≤ d / v + 1) × (length p ≡ length p₀) × (p ≡ loaded (numbers sixteen) h (take b (drop j coefficients)) (some v d b) p₀)
+Inv-loop p₀ coefficients j d v h b₀ p b = (b ≤ d / v + 1) × (length p ≡ length p₀) × LoadedOfEither h (take b (drop j coefficients)) (some v d b) p₀ p
 
 abbrev μ-loop : tie.MeasureT-loop
 μ-loop p₀ coefficients j d v h b₀ p b = d / v + 1 - b
 
 loop-holds : tie.Need-loop-holds Inv-loop μ-loop
-loop-holds c = (omega arith, refl, degree-none sixteen (c .args .h) (c .args .v) (c .args .d) (c .args .j) (c .args .coefficients .now) (c .args .p .now))
+loop-holds c = (omega arith, refl, λ w. degree-none (codeOn w) (c .args .h) (c .args .v) (c .args .d) (c .args .j) (c .args .coefficients .now) (c .args .p .now))
 
 div-loop : tie.Need-div-loop Inv-loop μ-loop
 div-loop c = omega arith
@@ -80,7 +80,7 @@ loop-again c =
     let low = power-within (s .args .v) (s .args .d) (l .loop .b) (c .before .loop-test .taken) in (
       omega arith,
       length-set (l .loop .p) ((s .args .d - s .args .v * l .loop .b) * s .args .h + l .loop .b) (getD (s .args .coefficients .now) (s .args .j + l .loop .b) 0) ∙ l .loop .inv .1,
-      degree-more sixteen (s .args .h) (s .args .v) (s .args .d) (s .args .j) (l .loop .b) (s .args .coefficients .now) (s .args .p .now) (l .loop .p) (omega arith) (l .loop .inv .2),
+      λ w. degree-more (codeOn w) (s .args .h) (s .args .v) (s .args .d) (s .args .j) (l .loop .b) (s .args .coefficients .now) (s .args .p .now) (l .loop .p) (omega arith) (l .loop .inv .2 w),
     )
 
 same-length : tie.Need-same-length Inv-loop μ-loop

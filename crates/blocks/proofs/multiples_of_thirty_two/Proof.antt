@@ -1,0 +1,77 @@
+-- The multiples 2, 4, 8 and 16 come by doubling, and with each power of two the multiples that are there become twice as many.
+use native.Mathlib.Omega.{arith}
+use Rattle.alphabet.specs.Codes.{codeOn}
+use Rattle.alphabet.specs.declared.Alphabet.the-variants.{ThirtyTwo}
+use Rattle.blocks.proofs.Doubling.{fourth, eighth, still-symbols, first-sixteen, other-sixteen}
+use Rattle.blocks.specs.Row.{ScaledBlock}
+use borrow.Author.Needs.{needs}
+use Rattle.blocks.proofs.multiples_of_thirty_two.Statement.{statement}
+use Rattle.blocks.proofs.multiples_of_thirty_two.Tie as tie
+
+doubled-requires-2 : tie.Need-doubled-requires-2
+doubled-requires-2 c κs =
+    let d = c .before in
+    let s = d .before in
+    still-symbols ThirtyTwo 2 (omega arith) (s .args .a .now) (d .doubled .result) (s .pre) (d .doubled .ensures)
+
+-- the multiple 4
+four : (c : tie.After-doubled2) → ScaledBlock (codeOn ThirtyTwo) 4 (c .before .before .before .args .a .now) (c .doubled2 .result)
+four c =
+    let d = c .before .before in
+    let s = d .before in
+    fourth ThirtyTwo (s .args .a .now) (d .doubled .result) (c .doubled2 .result) (s .pre) (d .doubled .ensures) (c .doubled2 .ensures)
+
+doubled-requires-3 : tie.Need-doubled-requires-3
+doubled-requires-3 c κs =
+    let d = c .before in
+    let s = d .before .before .before in
+    still-symbols ThirtyTwo 4 (omega arith) (s .args .a .now) (d .doubled2 .result) (s .pre) (four d)
+
+-- the multiple 8
+eight : (c : tie.After-doubled3) → ScaledBlock (codeOn ThirtyTwo) 8 (c .before .before .before .before .before .args .a .now) (c .doubled3 .result)
+eight c =
+    let d = c .before .before in
+    let s = d .before .before .before in
+    eighth ThirtyTwo (s .args .a .now) (d .doubled2 .result) (c .doubled3 .result) (s .pre) (four d) (c .doubled3 .ensures)
+
+doubled-requires-4 : tie.Need-doubled-requires-4
+doubled-requires-4 c κs =
+    let d = c .before in
+    let s = d .before .before .before .before .before in
+    still-symbols ThirtyTwo 8 (omega arith) (s .args .a .now) (d .doubled3 .result) (s .pre) (eight d)
+
+returns : tie.Need-returns
+returns c =
+    let f16 = c .before in
+    let f8 = f16 .before .before .before .before in
+    let f4 = f8 .before .before .before .before in
+    let f2 = f4 .before .before .before .before in
+    let f1 = f2 .before .before .before .before in
+    let high = f1 .before .before in
+    let d = high .before .before in
+    let two = d .before .before .before .before in
+    let s = two .before in
+    other-sixteen (s .args .a .now) (d .doubled3 .result) (high .doubled4 .result) (f8 .fill4 .last .0) (f16 .fill5 .last .0) (s .pre) (eight d) (high .doubled4 .ensures)
+    (first-sixteen ThirtyTwo 32 (omega arith) (s .args .a .now) (two .doubled .result) (d .before .before .doubled2 .result) (d .doubled3 .result) (f1 .fill .last .0) (f2 .fill2 .last .0)
+    (f4 .fill3 .last .0) (f8 .fill4 .last .0) (s .pre) (two .doubled .ensures) (four (d .before .before)) (eight d) (f1 .fill .ensures) (f2 .fill2 .ensures) (f4 .fill3 .ensures) (f8 .fill4 .ensures))
+    (f16 .fill5 .ensures)
+
+pub multiples-of-thirty-two-spec : {M : Type 1} → statement M
+multiples-of-thirty-two-spec =
+    tie.close
+    (tie.spec
+    (λ c κs. search needs)
+    doubled-requires-2
+    doubled-requires-3
+    doubled-requires-4
+    (λ c. search needs)
+    (λ c κs. search needs)
+    (λ c. search needs)
+    (λ c κs. search needs)
+    (λ c. search needs)
+    (λ c κs. search needs)
+    (λ c. search needs)
+    (λ c κs. search needs)
+    (λ c. search needs)
+    (λ c κs. search needs)
+    returns)

@@ -1,0 +1,38 @@
+-- The bytes are put in front of the entries, and turned there.
+use mathlib.Core.List.{List}
+use mathlib.Core.Path.{_≡_, refl, _∙_, ap, subst}
+use Prim.Native.Nat.{ℕ}
+use native.Mathlib.Omega.{arith}
+use borrow.Author.Needs.{needs}
+use lib.ListN.{length, take}
+use lib.Seq.{take-at}
+use Rattle.edits.specs.Turned.{Turned}
+use Rattle.matrix.proofs.Columns.{places-within}
+use Rattle.memory.proofs.Laid.{laid-front}
+use Rattle.edits.proofs.turn.Statement.{statement}
+use Rattle.edits.proofs.turn.Tie as tie
+
+put-requires : tie.Need-put-requires
+put-requires c κs =
+    let s = c .before .before .before in
+    let h = s .pre in
+    let most = places-within (s .args .alphabet) in
+    omega arith
+
+abbrev entry : tie.After-put → tie.Start
+entry p = p .before .before .before .before
+
+-- the bytes stand in front
+front : (p : tie.After-put) → (let bytes = entry p .args .bytes .now in take (length bytes) (p .put .last .0) ≡ bytes)
+front p =
+    let a = entry p .args in
+    let bytes = a .bytes .now in
+    ap (take (length bytes)) (p .put .ensures ∙ laid-front (a .entries .now) bytes (length bytes) refl) ∙ take-at bytes _ (length bytes) refl
+
+returns : tie.Need-returns
+returns c =
+    let n = c .before .before in
+    subst (λ (bytes : List ℕ). Turned bytes (n .turn-in-place .result) (n .turn-in-place .last .1 .1 .0)) (front (n .before .before .before .before)) (n .turn-in-place .ensures)
+
+pub turn-spec : {M : Type 1} → statement M
+turn-spec = tie.close (tie.spec put-requires (λ c κs. search needs) (λ c. search needs) returns)

@@ -1,0 +1,11 @@
+-- The verdict crosses as it is.
+use mathlib.Core.Path.{_∙_}
+use borrow.Author.Needs.{needs}
+use Rattle.entries.proofs.judging.judge.Statement.{statement}
+use Rattle.entries.proofs.judging.judge.Tie as tie
+
+returns : tie.Need-returns
+returns c = c .judged .ensures ∙ c .before .judge .ensures
+
+pub judge-spec : {M : Type 1} → statement M
+judge-spec = tie.close (tie.spec (λ c κs. search needs) (λ c κs. search needs) returns)
