@@ -54,7 +54,7 @@ impl Alphabet {
         }
     }
 
-    // The bits of the polynomial that symbols are multiplied by.
+    // The bits of the polynomial that products are taken modulo.
     pub fn modulus(self) -> u8
         ensures { λ r. ⌜ r ≡ modulusOn self ⌝ }
     {

@@ -1,4 +1,4 @@
-// The products and the inverses of all symbols of either alphabet: a b is at a times the symbols and b.
+// The products and the inverses of all symbols of either alphabet: the product of a and b is at a times the number of symbols, plus b.
 use alphabet::MOST_SYMBOLS;
 
 pub const PRODUCTS_OF_SIXTEEN: [u8; 256] = [

@@ -19,7 +19,7 @@ use alphabet::Alphabet;
 use alphabet::MOST_SYMBOLS;
 use substitution::PLACES;
 
-// A message of either alphabet, and one place more: the arrays beside it lie on even ground.
+// Room for a message of either alphabet, a power of two.
 const ROW: usize = MOST_SYMBOLS;
 
 // The coefficients of weighted degree d, from place j of the list on, each to its place.
