@@ -4,7 +4,7 @@ ghost use Prim.Native.Nat.{_*_, _≤_, _<_};
 ghost use lib.ListN.{length};
 ghost use Rattle.alphabet.specs.Codes.{codeOn};
 ghost use Rattle.definitions.specs.Field.{sumOf};
-ghost use Rattle.field.specs.Table.{Tabled};
+ghost use Rattle.tables.specs.Table.{Tabled};
 ghost use Rattle.blocks.specs.Row.{width, InRow, SymbolBlock, BlockOf, PutBlock, AddedBlock, SummedBlock, ScaledBlock, FilledTo, MultiplesBlock};
 use alphabet::Alphabet;
 use alphabet::MOST_SYMBOLS;
@@ -78,7 +78,7 @@ pub fn scaled(alphabet: Alphabet, table: &[u8], a: &[u8; BLOCK], u: u8) -> [u8; 
     let mut times = [0u8; BLOCK];
     let mut i = 0;
     while i < BLOCK {
-        times[i] = field::inside::look(alphabet, table, u, a[i]);
+        times[i] = tables::look(alphabet, table, u, a[i]);
         i += 1;
     }
     times

@@ -6,9 +6,9 @@ ghost use lib.ListN.{length, drop};
 ghost use Rattle.alphabet.specs.Codes.{codeOn};
 ghost use Rattle.definitions.specs.Code.{Symbols, codeword};
 ghost use Rattle.definitions.specs.Field.{numbers, value};
-ghost use Rattle.field.specs.Table.{Tabled};
+ghost use Rattle.tables.specs.Table.{Tabled};
 use alphabet::Alphabet;
-use field::inside::ALPHA;
+use tables::ALPHA;
 
 // The value of the polynomial f at x.
 pub fn value_at(alphabet: Alphabet, table: &[u8], f: &[u8], x: u8) -> u8
@@ -21,7 +21,7 @@ pub fn value_at(alphabet: Alphabet, table: &[u8], f: &[u8], x: u8) -> u8
     let mut j = f.len();
     while 0 < j {
         j -= 1;
-        y = f[j] ^ field::inside::look(alphabet, table, x, y);
+        y = f[j] ^ tables::look(alphabet, table, x, y);
     }
     y
 }
@@ -36,7 +36,7 @@ fn points_into(alphabet: Alphabet, table: &[u8], f: &[u8], n: usize, out: &mut [
     let mut i = 0;
     while i < n {
         out[i] = value_at(alphabet, table, f, x);
-        x = field::inside::look(alphabet, table, ALPHA, x);
+        x = tables::look(alphabet, table, ALPHA, x);
         i += 1;
     }
 }
@@ -48,10 +48,10 @@ pub fn encode_into(alphabet: Alphabet, f: &[u8], n: usize, out: &mut [u8])
     ensures { λ _. ⌜ now (out .exit) ≡ codeword (codeOn alphabet) n (now (f .entry)) ++ drop n (now (out .entry)) ⌝ }
 {
     if let Alphabet::ThirtyTwo = alphabet {
-        let table = field::inside::products_of_thirty_two();
+        let table = tables::products_of_thirty_two();
         points_into(Alphabet::ThirtyTwo, &table, f, n, out);
         return;
     }
-    let table = field::inside::products_of_sixteen();
+    let table = tables::products_of_sixteen();
     points_into(Alphabet::Sixteen, &table, f, n, out);
 }

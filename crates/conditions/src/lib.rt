@@ -5,7 +5,7 @@ ghost use lib.ListN.{length};
 ghost use lib.Seq.{sets};
 ghost use Rattle.alphabet.specs.Codes.{codeOn};
 ghost use Rattle.definitions.specs.Code.{Symbols};
-ghost use Rattle.field.specs.Table.{Tabled};
+ghost use Rattle.tables.specs.Table.{Tabled};
 ghost use Rattle.monomials.specs.Rows.{Places};
 ghost use Rattle.conditions.specs.MaskedRows.{Clear, askedAt, baseAt, keptOrder, keptOrders, maskedPoint, maskedColumn, maskedRows};
 ghost use Rattle.blocks.specs.Row.{width, block};
@@ -14,7 +14,7 @@ use alphabet::MOST_POSITIONS;
 use alphabet::MOST_SYMBOLS;
 use blocks::BLOCK;
 use blocks::WIDTH;
-use field::inside::ALPHA;
+use tables::ALPHA;
 
 // At y = 0 the power of y has to be the order itself.
 fn asked_at(b: u8, t: u8) -> u8
@@ -137,7 +137,7 @@ fn column_rows(
     let mut next = at;
     let mut b = 0u8;
     while b <= greatest {
-        let m = column[field::inside::wide(b)];
+        let m = column[numbers::wide(b)];
         next = point_rows(alphabet, rows, next, table, px, es, b, m, n, blocks);
         b += 1;
     }
@@ -179,7 +179,7 @@ pub fn matrix_rows(
             d / v + 1,
             blocks,
         );
-        a = field::inside::look(alphabet, table, ALPHA, a);
+        a = tables::look(alphabet, table, ALPHA, a);
         i += 1;
     }
     next

@@ -18,7 +18,7 @@ use Rattle.definitions.specs.Listing.{rowAt}
 use Rattle.definitions.specs.Refusals.{size, sizes, level, symbols, firstAbove}
 use Rattle.rows.proofs.Messages.{same-self}
 use Rattle.definitions.specs.Tools.{every}
-use Rattle.rows.specs.Rows.{listed}
+use Rattle.rows.specs.Rows.{listLine}
 
 -- a line that is tried twice is tried once
 twice : {A : Type 0} (a b c : Bool) (x y p q u v : A) → u ≡ v → cond a x (cond b y (cond b y (cond c p (cond c q u)))) ≡ cond a x (cond b y (cond c p v))
@@ -28,7 +28,7 @@ twice false false true x y p q u v e = refl
 twice false false false x y p q u v e = e
 
 -- a list without rows passes its lines
-no-rows : (k : ℕ) → listed k [] [] .given ≡ false
+no-rows : (k : ℕ) → listLine k [] [] .given ≡ false
 unfolding every
 no-rows k = rw (eq-eqb 0 (k * 0) (sym (mul-zero k)))
 
@@ -73,7 +73,7 @@ module _ (C : Code) (s : Settings) (fits : sizes C (s .n) (s .k) .given ≡ fals
     pub beside-itself : (rows scores : List ℕ) → bothAnswer C s rows scores s rows scores g ≡ judgeAnswer C (s .k) rows scores g
     beside-itself rows scores =
         rw (fits, levels, k-fits, equal-settings)
-        (twice (lead g .given) (listed (s .k) rows scores .given) (symbols C rows .given) (refused 2 0) (refused 3 0) _ _ _ _
+        (twice (lead g .given) (listLine (s .k) rows scores .given) (symbols C rows .given) (refused 2 0) (refused 3 0) _ _ _ _
         (ap valued (self-alone (s .k) g rows scores)))
 
     pub beside-none : (rows scores : List ℕ) → bothAnswer C s rows scores s [] [] g ≡ judgeAnswer C (s .k) rows scores g

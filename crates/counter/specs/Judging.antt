@@ -10,7 +10,7 @@ use Rattle.definitions.specs.Answers.{Answer, refused, valued}
 use Rattle.definitions.specs.Field.{Code}
 use Rattle.definitions.specs.Listing.{rowAt}
 use Rattle.definitions.specs.Refusals.{Line, line, tried, sizes, size, level, symbols, runsOn}
-use Rattle.rows.specs.Rows.{same, listed}
+use Rattle.rows.specs.Rows.{same, listLine}
 
 -- the verdicts as numbers: Open, Ask and Nothing
 abbrev pub toOpen : ℕ
@@ -56,7 +56,7 @@ bothJudged k g rows scores others otherScores =
 module _ (C : Code) where
   -- "Given one list with its k (sizes as for roots) and a lead g"
   abbrev pub judgeTable : ℕ → List ℕ → List ℕ → ℕ → List Line
-  judgeTable k rows scores g = size C k ∷ lead g ∷ listed k rows scores ∷ symbols C rows ∷ []
+  judgeTable k rows scores g = size C k ∷ lead g ∷ listLine k rows scores ∷ symbols C rows ∷ []
 
   abbrev pub judgeAnswer : ℕ → List ℕ → List ℕ → ℕ → Answer
   judgeAnswer k rows scores g = tried (judgeTable k rows scores g) refused (valued (judged g scores))
@@ -65,7 +65,7 @@ module _ (C : Code) where
   abbrev pub bothTable : Settings → List ℕ → List ℕ → Settings → List ℕ → List ℕ → ℕ → List Line
   bothTable s rows scores t others otherScores g =
       sizes C (s .n) (s .k) ∷ sizes C (t .n) (t .k) ∷ level (s .level) ∷ level (t .level) ∷ lead g ∷ settings s t
-      ∷ listed (s .k) rows scores ∷ listed (t .k) others otherScores ∷ symbols C rows ∷ runsOn (length rows) (symbols C others) ∷ []
+      ∷ listLine (s .k) rows scores ∷ listLine (t .k) others otherScores ∷ symbols C rows ∷ runsOn (length rows) (symbols C others) ∷ []
 
   abbrev pub bothAnswer : Settings → List ℕ → List ℕ → Settings → List ℕ → List ℕ → ℕ → Answer
   bothAnswer s rows scores t others otherScores g =

@@ -24,12 +24,6 @@ pub struct Settings {
     pub level: usize,
 }
 
-fn wide(score: u16) -> usize
-    ensures { λ r. ⌜ r ≡ score ⌝ }
-{
-    score as usize
-}
-
 // A lead is taken from the first score, so no sum is too large.
 fn judged(scores: &[u16], lead: usize) -> Verdict
     ensures { λ v. ⌜ toldVerdict v ≡ valued (judged lead (now (scores .entry))) ⌝ }
@@ -40,8 +34,8 @@ fn judged(scores: &[u16], lead: usize) -> Verdict
     if scores.len() == 1 {
         return Verdict::Open;
     }
-    let first = wide(scores[0]);
-    let second = wide(scores[1]);
+    let first = numbers::long(scores[0]);
+    let second = numbers::long(scores[1]);
     if first < lead {
         return Verdict::Ask;
     }
@@ -55,7 +49,7 @@ pub fn judge(alphabet: Alphabet, k: usize, rows: &[u8], scores: &[u16], lead: us
     ensures { λ v. ⌜ toldVerdict v ≡ judgeAnswer (codeOn alphabet) k (now (rows .entry)) (now (scores .entry)) lead ⌝ }
 {
     let settled = Checked::size(alphabet, k).or(lead == 0, Refusal::Setting);
-    let checked = rows::listed(settled, k, rows, scores).symbols_of(alphabet, rows);
+    let checked = rows::list_checked(settled, k, rows, scores).symbols_of(alphabet, rows);
     if let Checked::Refused(r) = checked {
         return Verdict::Refused(r);
     }
@@ -126,8 +120,8 @@ pub fn judge_both(
         .level(second.level)
         .or(lead == 0, Refusal::Setting)
         .or(!same_settings(first, second), Refusal::Setting);
-    let one = rows::listed(settled, first.k, rows, scores);
-    let checked = rows::listed(one, second.k, others, other_scores)
+    let one = rows::list_checked(settled, first.k, rows, scores);
+    let checked = rows::list_checked(one, second.k, others, other_scores)
         .symbols_of(alphabet, rows)
         .symbols_of_after(alphabet, rows.len(), others);
     if let Checked::Refused(r) = checked {

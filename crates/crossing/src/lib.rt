@@ -8,6 +8,9 @@ ghost use Rattle.planner.specs.Planned.{toldPlanned};
 ghost use Rattle.refusals.specs.Counted.{toldCounted};
 ghost use Rattle.refusals.specs.Refusal.{toldRefusal};
 ghost use Rattle.weights.specs.Costed.{toldCosted};
+
+pub mod judgements;
+
 use edits::Priced;
 use field::Element;
 use interpolation::Interpolated;

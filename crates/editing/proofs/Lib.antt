@@ -1,2 +1,3 @@
+pub mod UniqueInParts
 pub mod After
 pub mod Unique

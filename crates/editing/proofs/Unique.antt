@@ -10,7 +10,7 @@ use Rattle.definitions.specs.Held.{Held}
 use Rattle.editing.specs.declared.Edited.{Edited}
 use Rattle.matrix.specs.Record.{heldBy}
 use Rattle.matrix.specs.declared.Matrix.{Matrix}
-use Rattle.parts.proofs.Unique.{one-priced}
+use Rattle.editing.proofs.UniqueInParts.{one-priced}
 use Rattle.edits.specs.Priced.{toldPriced}
 use Rattle.edits.specs.declared.Priced.{Priced}
 

@@ -5,6 +5,9 @@ ghost use Rattle.definitions.specs.Field.{sixteen};
 ghost use Rattle.editing.specs.After.{recordAfter};
 ghost use Rattle.edits.specs.Priced.{toldPriced};
 ghost use Rattle.matrix.specs.Record.{heldBy};
+
+pub mod parts;
+
 use alphabet::Alphabet;
 use edits::Priced;
 use matrix::Matrix;

@@ -110,7 +110,7 @@ pub fn set_right(
     let old = entries[at];
     let total = totals[position];
     entries[at] = entry;
-    totals[position] = total + matrix::short(entry) - matrix::short(old);
+    totals[position] = total + numbers::short(entry) - numbers::short(old);
     Priced::Cost(cost + matrix::entry_cost(entry) - matrix::entry_cost(old))
 }
 
@@ -146,7 +146,7 @@ fn lowest_sum(entries: &[u8], others: &[u8]) -> usize
 {
     let mut j = 0;
     while j < entries.len() {
-        if GREATEST_LEVEL < field::inside::wide(entries[j]) + field::inside::wide(others[j]) {
+        if GREATEST_LEVEL < numbers::wide(entries[j]) + numbers::wide(others[j]) {
             return j;
         }
         j += 1;

@@ -8,7 +8,7 @@ ghost use Rattle.definitions.specs.Field.{numbers};
 ghost use Rattle.pivots.specs.System.{System, Within, Eliminated};
 ghost use Rattle.elimination.specs.Solving.{SymbolsBetween};
 ghost use Rattle.linear.specs.Rows.{SymbolRows, Reduced, Solved, behind};
-ghost use Rattle.field.specs.Table.{Tabled};
+ghost use Rattle.tables.specs.Table.{Tabled};
 ghost use Rattle.blocks.specs.Row.{width, block};
 use alphabet::Alphabet;
 use blocks::WIDTH;
@@ -57,7 +57,7 @@ fn back(alphabet: Alphabet, table: &[u8], row: &[u8; WIDTH], s: usize, j: usize,
     let mut y = row[j];
     let mut i = s + 1;
     while i < j {
-        y = y ^ field::inside::look(alphabet, table, row[i], out[i]);
+        y = y ^ tables::look(alphabet, table, row[i], out[i]);
         i += 1;
     }
     y

@@ -12,8 +12,8 @@ use Rattle.counter.specs.declared.Settings.{Settings}
 use Rattle.definitions.proofs.Tools.{split}
 use Rattle.definitions.specs.Answers.{Answer}
 use Rattle.definitions.specs.Field.{Code}
-use Rattle.judgements.specs.Held.{judgementOf, holder, heldAnswer}
-use Rattle.judgements.specs.declared.Judgement as crossing
+use Rattle.crossing.specs.Part.{judgementOf, holder, partAnswer}
+use Rattle.crossing.specs.declared.judgements.Judgement as crossing
 use Rattle.opening.specs.Handing.{isOpen, front, opened, bothOpened}
 
 -- list 2 is the second, any other number the first
@@ -22,11 +22,11 @@ numbered rows others number = cond (eqb number 2) others rows
 
 module _ (C : Code) where
   pub part-told : (k : ℕ) (rows : RefT (List ℕ)) (scores : List ℕ) (g : ℕ)
-      → opened C k rows scores g ≡ front (heldAnswer (judgeAnswer C k (rows .now) scores g) 1 k .count) rows
+      → opened C k rows scores g ≡ front (partAnswer (judgeAnswer C k (rows .now) scores g) 1 k .count) rows
   part-told k rows scores g = split (isOpen (judgeAnswer C k (rows .now) scores g)) (λ y. rw y) (λ n. rw n)
 
   pub both-part-told : (s : Settings) (rows : RefT (List ℕ)) (scores : List ℕ) (t : Settings) (others : RefT (List ℕ)) (otherScores : List ℕ) (g : ℕ)
-      → (let told = heldAnswer (bothAnswer C s (rows .now) scores t (others .now) otherScores g) (holder scores) (s .k) in
+      → (let told = partAnswer (bothAnswer C s (rows .now) scores t (others .now) otherScores g) (holder scores) (s .k) in
       bothOpened C s rows scores t others otherScores g ≡ front (told .count) (numbered rows others (told .value)))
   both-part-told s rows scores t others otherScores g =
       split (isOpen (bothAnswer C s (rows .now) scores t (others .now) otherScores g))

@@ -2,21 +2,21 @@
 ghost use mathlib.Core.Path.{_≡_};
 ghost use Rattle.alphabet.specs.Codes.{codeOn};
 ghost use Rattle.counter.specs.Judging.{judgeAnswer, bothAnswer};
-ghost use Rattle.judgements.specs.Held.{judgementOf, settingsOf, holder, heldAnswer};
+ghost use Rattle.crossing.specs.Part.{judgementOf, settingsOf, holder, partAnswer};
 use alphabet::Alphabet;
 use counter::Settings;
-use judgements::Judgement;
+use crossing::judgements::Judgement;
 
 pub fn judge(alphabet: Alphabet, k: usize, rows: &[u8], scores: &[u16], lead: usize) -> Judgement
     ensures { λ r. ⌜ judgementOf r ≡ judgeAnswer (codeOn alphabet) k (now (rows .entry)) (now (scores .entry)) lead ⌝ }
 {
-    judgements::judged(counter::judge(alphabet, k, rows, scores, lead))
+    crossing::judgements::judged(counter::judge(alphabet, k, rows, scores, lead))
 }
 
-pub fn opened(alphabet: Alphabet, k: usize, rows: &[u8], scores: &[u16], lead: usize) -> Judgement
-    ensures { λ r. ⌜ judgementOf r ≡ heldAnswer (judgeAnswer (codeOn alphabet) k (now (rows .entry)) (now (scores .entry)) lead) 1 k ⌝ }
+pub fn part(alphabet: Alphabet, k: usize, rows: &[u8], scores: &[u16], lead: usize) -> Judgement
+    ensures { λ r. ⌜ judgementOf r ≡ partAnswer (judgeAnswer (codeOn alphabet) k (now (rows .entry)) (now (scores .entry)) lead) 1 k ⌝ }
 {
-    judgements::opened(alphabet, k, rows, scores, lead)
+    crossing::judgements::part(alphabet, k, rows, scores, lead)
 }
 
 pub fn judge_both(
@@ -41,7 +41,7 @@ pub fn judge_both(
         k: other_k,
         level: other_level,
     };
-    judgements::judged(counter::judge_both(
+    crossing::judgements::judged(counter::judge_both(
         alphabet,
         first,
         rows,
@@ -53,7 +53,7 @@ pub fn judge_both(
     ))
 }
 
-pub fn opened_both(
+pub fn part_of_both(
     alphabet: Alphabet,
     n: usize,
     k: usize,
@@ -67,7 +67,7 @@ pub fn opened_both(
     other_scores: &[u16],
     lead: usize,
 ) -> Judgement
-    ensures { λ r. ⌜ judgementOf r ≡ heldAnswer (bothAnswer (codeOn alphabet) (settingsOf n k level) (now (rows .entry)) (now (scores .entry)) (settingsOf «other_n» «other_k» «other_level») (now (others .entry)) (now («other_scores» .entry)) lead) (holder (now (scores .entry))) k ⌝ }
+    ensures { λ r. ⌜ judgementOf r ≡ partAnswer (bothAnswer (codeOn alphabet) (settingsOf n k level) (now (rows .entry)) (now (scores .entry)) (settingsOf «other_n» «other_k» «other_level») (now (others .entry)) (now («other_scores» .entry)) lead) (holder (now (scores .entry))) k ⌝ }
 {
     let first = Settings { n, k, level };
     let second = Settings {
@@ -75,7 +75,7 @@ pub fn opened_both(
         k: other_k,
         level: other_level,
     };
-    judgements::opened_both(
+    crossing::judgements::part_of_both(
         alphabet,
         first,
         rows,

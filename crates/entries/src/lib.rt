@@ -6,9 +6,9 @@ ghost use Rattle.crossing.specs.Crossing.{answerOf};
 ghost use Rattle.definitions.specs.Answers.{sumAnswer, productAnswer, inverseAnswer, encodeAnswer, encodeOut, multiplicitiesAnswer, multiplicitiesOut, costAnswer, InterpolationAnswers, rootsAnswer, rootsOut, listAnswer, listRows, listScores, readAnswer, readRows, readScores};
 ghost use Rattle.definitions.specs.Limits.{greatestRows};
 
-pub mod editing;
 pub mod judging;
 pub mod planning;
+pub mod records;
 
 use alphabet::Alphabet;
 use crossing::Answer;

@@ -1,10 +1,10 @@
 // The counter's entries for C: no reference is handed back.
 ghost use mathlib.Core.Path.{_≡_};
 ghost use Rattle.counter.specs.Judging.{judgeAnswer, bothAnswer};
-ghost use Rattle.judgements.specs.Held.{judgementOf, settingsOf, holder, heldAnswer};
+ghost use Rattle.crossing.specs.Part.{judgementOf, settingsOf, holder, partAnswer};
 ghost use Rattle.definitions.specs.Field.{sixteen};
 use alphabet::Alphabet;
-use judgements::Judgement;
+use crossing::judgements::Judgement;
 
 #[no_mangle]
 pub extern "C" fn kv_judge(k: usize, rows: &[u8], scores: &[u16], lead: usize) -> Judgement
@@ -15,9 +15,9 @@ pub extern "C" fn kv_judge(k: usize, rows: &[u8], scores: &[u16], lead: usize) -
 
 #[no_mangle]
 pub extern "C" fn kv_open(k: usize, rows: &[u8], scores: &[u16], lead: usize) -> Judgement
-    ensures { λ r. ⌜ judgementOf r ≡ heldAnswer (judgeAnswer sixteen k (now (rows .entry)) (now (scores .entry)) lead) 1 k ⌝ }
+    ensures { λ r. ⌜ judgementOf r ≡ partAnswer (judgeAnswer sixteen k (now (rows .entry)) (now (scores .entry)) lead) 1 k ⌝ }
 {
-    entries::judging::opened(Alphabet::Sixteen, k, rows, scores, lead)
+    entries::judging::part(Alphabet::Sixteen, k, rows, scores, lead)
 }
 
 #[no_mangle]
@@ -66,9 +66,9 @@ pub extern "C" fn kv_open_both(
     other_scores: &[u16],
     lead: usize,
 ) -> Judgement
-    ensures { λ r. ⌜ judgementOf r ≡ heldAnswer (bothAnswer sixteen (settingsOf n k level) (now (rows .entry)) (now (scores .entry)) (settingsOf «other_n» «other_k» «other_level») (now (others .entry)) (now («other_scores» .entry)) lead) (holder (now (scores .entry))) k ⌝ }
+    ensures { λ r. ⌜ judgementOf r ≡ partAnswer (bothAnswer sixteen (settingsOf n k level) (now (rows .entry)) (now (scores .entry)) (settingsOf «other_n» «other_k» «other_level») (now (others .entry)) (now («other_scores» .entry)) lead) (holder (now (scores .entry))) k ⌝ }
 {
-    entries::judging::opened_both(
+    entries::judging::part_of_both(
         Alphabet::Sixteen,
         n,
         k,

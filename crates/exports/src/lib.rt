@@ -6,9 +6,9 @@ ghost use Rattle.definitions.specs.Answers.{sumAnswer, productAnswer, inverseAn
 ghost use Rattle.definitions.specs.Field.{sixteen};
 ghost use Rattle.definitions.specs.Limits.{greatestRows};
 
-pub mod editing;
 pub mod judging;
 pub mod planning;
+pub mod records;
 
 use alphabet::Alphabet;
 use crossing::Answer;

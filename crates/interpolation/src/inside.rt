@@ -28,7 +28,7 @@ pub fn interpolate_priced(
     if limit < cost {
         return Interpolated::Refused(Refusal::Cost);
     }
-    let columns = matrix::opened(alphabet, entries, n);
+    let columns = matrix::in_columns(alphabet, entries, n);
     let v = k - 1;
     let bound = bound::bound(v, cost);
     let count = bound::count(v, bound);

@@ -12,7 +12,7 @@ use Rattle.definitions.specs.Field.{Code}
 use Rattle.definitions.specs.Held.{Held}
 use Rattle.definitions.specs.Limits.{greatestLevel, greatestRows}
 use Rattle.definitions.specs.Refusals.{Line, sizes, level, limit, entries, room, entriesOf, costWithin}
-use Rattle.listing.specs.Within.{Fit}
+use Rattle.list_within.specs.Within.{Fit}
 
 -- "7 cost", which every table tries last
 abbrev pub costLeft : ℕ → List ℕ → List Line

@@ -44,7 +44,7 @@ pub fn list_of_multiplicities(
     }
     let mut entries = [0u8; MOST_PLACES];
     let cost = edits::turn(alphabet, matrix, &mut entries);
-    listing::list_priced(alphabet, &entries, n, cost, k, limit, rows, scores)
+    list_within::list_priced(alphabet, &entries, n, cost, k, limit, rows, scores)
 }
 
 pub fn list_of_reliabilities(
@@ -68,13 +68,13 @@ pub fn list_of_reliabilities(
         .entries(alphabet, reliabilities.len(), n)
         .room(rows.len(), GREATEST_ROWS, k)
         .or(scores.len() < GREATEST_ROWS, Refusal::Room);
-    let checked = columns::columns_checked(alphabet, settled, reliabilities, n);
+    let checked = reliabilities::columns_checked(alphabet, settled, reliabilities, n);
     if let Checked::Refused(r) = checked {
         return Counted::Refused(r);
     }
     let mut entries = [0u8; MOST_PLACES];
     let cost = weights::inside::weigh(alphabet, level, reliabilities, &mut entries);
-    listing::list_priced(alphabet, &entries, n, cost, k, limit, rows, scores)
+    list_within::list_priced(alphabet, &entries, n, cost, k, limit, rows, scores)
 }
 
 // Of a matrix record whose parts are lent.
@@ -106,7 +106,7 @@ pub fn list_of_parts(
     if let Checked::Refused(r) = checked {
         return Counted::Refused(r);
     }
-    listing::list_priced(alphabet, entries, n, cost, k, limit, rows, scores)
+    list_within::list_priced(alphabet, entries, n, cost, k, limit, rows, scores)
 }
 
 pub fn list_of_matrix(

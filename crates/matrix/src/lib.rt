@@ -23,16 +23,10 @@ pub struct Matrix {
     pub entries: [u8; PLACES],
 }
 
-pub fn short(x: u8) -> u16
-    ensures { λ r. ⌜ (r ≡ x) × (r < 256) ⌝ }
-{
-    x as u16
-}
-
 pub fn entry_cost(x: u8) -> usize
     ensures { λ r. ⌜ (r ≡ entryCost x) × (r ≤ 32640) ⌝ }
 {
-    let m = field::inside::wide(x);
+    let m = numbers::wide(x);
     m * (m + 1) / 2
 }
 
@@ -58,7 +52,7 @@ pub fn column_total(alphabet: Alphabet, entries: &[u8], i: usize) -> u16
     let mut total = 0u16;
     let mut b = 0;
     while b < symbols {
-        total += short(entries[first + b]);
+        total += numbers::short(entries[first + b]);
         b += 1;
     }
     total
@@ -158,7 +152,11 @@ fn lay_columns(
 }
 
 // The columns of n positions, by value. Each alphabet passes its own constant on.
-pub fn opened(alphabet: Alphabet, entries: &[u8], n: usize) -> [[u8; MOST_SYMBOLS]; MOST_POSITIONS]
+pub fn in_columns(
+    alphabet: Alphabet,
+    entries: &[u8],
+    n: usize,
+) -> [[u8; MOST_SYMBOLS]; MOST_POSITIONS]
     requires { ⌜ (n ≤ codeOn alphabet .positions) × (codeOn alphabet .symbols * n ≤ length (now entries)) ⌝ }
     ensures { λ r. ⌜ r ≡ matrixOf (codeOn alphabet) (now (entries .entry)) n ⌝ }
 {

@@ -3,7 +3,7 @@ ghost use mathlib.Core.Path.{_≡_};
 ghost use Prim.Native.Nat.{_≤_, _<_};
 ghost use Rattle.alphabet.specs.Codes.{codeOn};
 ghost use Rattle.definitions.specs.Code.{Symbols};
-ghost use Rattle.field.specs.Table.{Tabled};
+ghost use Rattle.tables.specs.Table.{Tabled};
 ghost use Rattle.monomials.specs.Rows.{exponentRows, Places, powersRow, valuesRow};
 ghost use Rattle.blocks.specs.Row.{width, ZeroFrom};
 use alphabet::Alphabet;
@@ -46,7 +46,7 @@ pub fn powers(alphabet: Alphabet, table: &[u8], x: u8, n: usize, row: &mut [u8; 
     let mut e = 0;
     while e < n {
         row[e] = next;
-        next = field::inside::look(alphabet, table, x, next);
+        next = tables::look(alphabet, table, x, next);
         e += 1;
     }
 }
@@ -68,9 +68,9 @@ fn values_by(
 {
     let mut place = 0;
     while place < count {
-        let x = field::inside::wide(es[0][place]);
-        let y = field::inside::wide(es[1][place]);
-        row[place] = field::inside::look(alphabet, table, px[x], py[y]);
+        let x = numbers::wide(es[0][place]);
+        let y = numbers::wide(es[1][place]);
+        row[place] = tables::look(alphabet, table, px[x], py[y]);
         place += 1;
     }
 }

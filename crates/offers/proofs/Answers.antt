@@ -17,7 +17,7 @@ use Rattle.definitions.specs.Limits.{greatestRows}
 use Rattle.definitions.specs.Planning.{stepsDone, ruled, planned}
 use Rattle.definitions.specs.Refusals.{tried, costWithin}
 use Rattle.definitions.specs.Weights.{cost}
-use Rattle.listing.specs.Within.{Answered, Fit}
+use Rattle.list_within.specs.Within.{Answered, Fit}
 use Rattle.planner.specs.Planned.{toldPlanned}
 use Rattle.planner.specs.declared.Planned.{Planned}
 use Rattle.planner.specs.declared.Planned.the-variants.{Of, Refused}

@@ -9,7 +9,7 @@ ghost use Rattle.definitions.specs.Held.{held};
 ghost use Rattle.definitions.specs.Limits.{greatestRows};
 ghost use Rattle.definitions.specs.Planning.{ruled, planListAnswer, planListRows, planListScores, heldPlanListAnswer, heldPlanListRows, heldPlanListScores};
 ghost use Rattle.definitions.specs.Refusals.{costWithin};
-ghost use Rattle.listing.specs.Within.{Answered, Fit};
+ghost use Rattle.list_within.specs.Within.{Answered, Fit};
 ghost use Rattle.matrix.specs.Columns.{FrontCosts};
 ghost use Rattle.matrix.specs.Record.{heldBy};
 ghost use Rattle.refusals.specs.Counted.{toldCounted};
@@ -48,7 +48,7 @@ fn list_planned(
     if let Planned::Refused(r) = verdict {
         return Counted::Refused(r);
     }
-    listing::list_priced(alphabet, entries, n, cost, k, limit, rows, scores)
+    list_within::list_priced(alphabet, entries, n, cost, k, limit, rows, scores)
 }
 
 pub fn list_of_plan(
@@ -75,7 +75,7 @@ pub fn list_of_plan(
         .room(rows.len(), GREATEST_ROWS, k)
         .or(scores.len() < GREATEST_ROWS, Refusal::Room)
         .symbols(GREATEST_ENTRY, plan);
-    let checked = columns::columns_checked(alphabet, settled, reliabilities, n);
+    let checked = reliabilities::columns_checked(alphabet, settled, reliabilities, n);
     if let Checked::Refused(r) = checked {
         return Counted::Refused(r);
     }
@@ -125,7 +125,7 @@ pub fn list_of_plan_of_parts(
         .room(rows.len(), GREATEST_ROWS, k)
         .or(scores.len() < GREATEST_ROWS, Refusal::Room)
         .symbols(GREATEST_ENTRY, entries);
-    let checked = columns::columns_checked(alphabet, settled, reliabilities, n);
+    let checked = reliabilities::columns_checked(alphabet, settled, reliabilities, n);
     if let Checked::Refused(r) = checked {
         return Counted::Refused(r);
     }

@@ -23,7 +23,7 @@ use Rattle.definitions.specs.Listing.{listOf, rowAt}
 use Rattle.definitions.specs.Refusals.{Line, tried, line, sizesFit, sizes, level, limit, entries, room, columns, costWithin, readTable}
 use Rattle.definitions.specs.Tools.{below}
 use Rattle.definitions.specs.Weights.{matrix, cost, score}
-use Rattle.levels.proofs.Written.{Sized}
+use Rattle.ranking.proofs.Written.{Sized}
 use Rattle.refusals.proofs.Unique.{refusal-number}
 use Rattle.refusals.specs.Refusal.{toldRefusal}
 use Rattle.refusals.specs.declared.Refusal.{Refusal}

@@ -15,6 +15,7 @@ use alphabet::MOST_PLACES;
 use alphabet::MOST_POSITIONS;
 use matrix::PLACES;
 use refusals::Counted;
+use refusals::Refusal;
 use refusals::limits::GREATEST_ROWS;
 use text::rooms::LISTED_ROOM;
 use text::rooms::ROWS_ROOM;
@@ -99,12 +100,13 @@ fn answer_to(alphabet: Alphabet, input: &[u8], out: &mut [u8]) -> usize
     ensures { λ r. ⌜ Puts (now (out .entry)) 0 (output (codeOn alphabet) (now (input .entry))) r (now (out .exit)) ⌝ }
 {
     if input.len() < HEADER {
-        return text::put_refused(out, 0, 3, 0);
+        let r = Refusal::Length;
+        return text::put_refused(out, 0, r.number(), r.place());
     }
-    let n = field::inside::wide(input[0]);
-    let k = field::inside::wide(input[1]);
-    let level = field::inside::wide(input[2]);
-    let limit = field::inside::wide(input[3]);
+    let n = numbers::wide(input[0]);
+    let k = numbers::wide(input[1]);
+    let level = numbers::wide(input[2]);
+    let limit = numbers::wide(input[3]);
     let mut numbers = [0u16; NUMBERS];
     let count = numbers::read(&input[HEADER..], &mut numbers);
     answer(alphabet, n, k, level, limit, &numbers[..count], out)

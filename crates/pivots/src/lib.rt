@@ -8,7 +8,7 @@ ghost use Rattle.algebra.specs.Grid.{entryOf};
 ghost use Rattle.definitions.specs.Limits.{greatestLimit};
 ghost use Rattle.pivots.specs.System.{System, Within, ExchangedIn, oneOf, columnOf, ListedRows, TargetRows, Factors, DoneIn, LoweredIn, Eliminated};
 ghost use Rattle.linear.specs.Rows.{Triangle};
-ghost use Rattle.field.specs.Table.{Tabled};
+ghost use Rattle.tables.specs.Table.{Tabled};
 ghost use Rattle.blocks.specs.Row.{width, block, InRow};
 use alphabet::Alphabet;
 use blocks::BLOCK;
@@ -119,8 +119,8 @@ fn clear_block_of_sixteen(
     let times = blocks::multiples_of_sixteen(&first);
     let mut i = 0;
     while i < n {
-        let t = field::inside::wide(places[i]);
-        let x = field::inside::wide(c[i]);
+        let t = numbers::wide(places[i]);
+        let x = numbers::wide(c[i]);
         blocks::add(&mut system[t], at, &times[x]);
         i += 1;
     }
@@ -144,8 +144,8 @@ fn clear_block_of_thirty_two(
     let times = blocks::multiples_of_thirty_two(&first);
     let mut i = 0;
     while i < n {
-        let t = field::inside::wide(places[i]);
-        let x = field::inside::wide(c[i]);
+        let t = numbers::wide(places[i]);
+        let x = numbers::wide(c[i]);
         blocks::add(&mut system[t], at, &times[x]);
         i += 1;
     }

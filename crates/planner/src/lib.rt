@@ -35,7 +35,7 @@ pub fn plan(
         .steps(steps)
         .entries(alphabet, reliabilities.len(), n)
         .entries_room(alphabet, out.len(), n);
-    let checked = columns::columns_checked(alphabet, settled, reliabilities, n);
+    let checked = reliabilities::columns_checked(alphabet, settled, reliabilities, n);
     if let Checked::Refused(r) = checked {
         return Planned::Refused(r);
     }
@@ -62,7 +62,7 @@ pub fn check_plan(
         .entries(alphabet, reliabilities.len(), n)
         .entries(alphabet, plan.len(), n)
         .symbols(GREATEST_ENTRY, plan);
-    let checked = columns::columns_checked(alphabet, settled, reliabilities, n);
+    let checked = reliabilities::columns_checked(alphabet, settled, reliabilities, n);
     if let Checked::Refused(r) = checked {
         return Planned::Refused(r);
     }
@@ -91,7 +91,7 @@ pub fn check_plan_of_parts(
             Refusal::Length,
         )
         .symbols(GREATEST_ENTRY, entries);
-    let checked = columns::columns_checked(alphabet, settled, reliabilities, n);
+    let checked = reliabilities::columns_checked(alphabet, settled, reliabilities, n);
     if let Checked::Refused(r) = checked {
         return Planned::Refused(r);
     }

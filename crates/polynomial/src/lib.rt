@@ -2,7 +2,7 @@
 ghost use Prim.Native.Nat.{_*_, _≤_, _<_};
 ghost use lib.ListN.{length};
 ghost use Rattle.alphabet.specs.Codes.{codeOn};
-ghost use Rattle.field.specs.Table.{Tabled};
+ghost use Rattle.tables.specs.Table.{Tabled};
 ghost use Rattle.conditions.specs.MaskedRows.{Clear};
 ghost use Rattle.linear.specs.Rows.{Led};
 ghost use Rattle.polynomial.specs.Found.{middleRows, upperRows, Given, Found};
@@ -73,7 +73,7 @@ fn polynomial_in(
     ensures { λ r. ⌜ Found (codeOn alphabet) (now (matrix .entry)) v d (now (out .entry)) r (now (out .exit)) ⌝ }
 {
     if let Alphabet::ThirtyTwo = alphabet {
-        let table = field::inside::products_of_thirty_two();
+        let table = tables::products_of_thirty_two();
         return polynomial_by(
             Alphabet::ThirtyTwo,
             &table,
@@ -86,7 +86,7 @@ fn polynomial_in(
             out,
         );
     }
-    let table = field::inside::products_of_sixteen();
+    let table = tables::products_of_sixteen();
     polynomial_by(
         Alphabet::Sixteen,
         &table,

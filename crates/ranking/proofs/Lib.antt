@@ -1,5 +1,9 @@
-pub mod Levels
-pub mod Marks
-pub mod AllLevels
+pub mod Scoring
+pub mod MatrixScore
+pub mod Written
+pub mod WrittenSoFar
+pub mod Falling
+pub mod HighestScore
+pub mod ListedSoFar
 pub mod Memory
 pub mod Same

@@ -10,7 +10,7 @@ ghost use Rattle.definitions.specs.Code.{Symbols};
 ghost use Rattle.definitions.specs.Limits.{greatestCount};
 ghost use Rattle.definitions.specs.Polynomial.{monomialsOf, monomials, isZero};
 ghost use Rattle.definitions.specs.Roots.{rootsOf};
-ghost use Rattle.field.specs.Table.{Tabled};
+ghost use Rattle.tables.specs.Table.{Tabled};
 ghost use Rattle.root_tree.specs.Tree.{zeros, search};
 ghost use Rattle.substitution.specs.Array.{places, polynomial};
 ghost use Rattle.memory.specs.Laid.{laid};
@@ -126,9 +126,9 @@ pub fn roots_into(
     let p = substitution::freed(&loaded, h, degree + 1);
     let row = [0u8; ROW];
     if let Alphabet::ThirtyTwo = alphabet {
-        let table = field::inside::products_of_thirty_two();
+        let table = tables::products_of_thirty_two();
         return search(Alphabet::ThirtyTwo, &table, p, degree, h, row, k, k, out, 0) / k;
     }
-    let table = field::inside::products_of_sixteen();
+    let table = tables::products_of_sixteen();
     search(Alphabet::Sixteen, &table, p, degree, h, row, k, k, out, 0) / k
 }

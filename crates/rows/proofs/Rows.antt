@@ -13,10 +13,10 @@ use lib.Seq.{length-take-le}
 use Rattle.definitions.proofs.Tools.{both}
 use Rattle.definitions.specs.Listing.{rowAt}
 use Rattle.definitions.specs.Tools.{every}
-use Rattle.rows.specs.Rows.{inOrder, isNew, isList, listed}
+use Rattle.rows.specs.Rows.{inOrder, isNew, isList, listLine}
 
 -- what the line says of a list that passes it
-pub listed-means : (k : ℕ) (rows scores : List ℕ) → listed k rows scores .given ≡ false → length rows ≡ k * length scores
+pub listed-means : (k : ℕ) (rows scores : List ℕ) → listLine k rows scores .given ≡ false → length rows ≡ k * length scores
 listed-means k rows scores e =
     eqb-true (length rows) (k * length scores)
     (both (eqb (length rows) (k * length scores)) (inOrder k rows scores && every (length scores) (isNew k rows)) (not-false (isList k rows scores) e) .0)

@@ -25,7 +25,7 @@ use Rattle.definitions.specs.Weights.{score}
 use Rattle.definitions.proofs.Every.{every-of}
 use Rattle.rows.proofs.InOrder.{Stands, stands-tested}
 use Rattle.rows.proofs.Messages.{same-means}
-use Rattle.rows.specs.Rows.{same, rowBefore, isNew, isList, listed}
+use Rattle.rows.specs.Rows.{same, rowBefore, isNew, isList, listLine}
 
 -- a row whose score is as high, and whose message comes before where it is equal, stands before the other
 stands : (a b : ℕ) (f g : List ℕ) → b ≤ a → (a ≡ b → Before f g) → Stands a b f g
@@ -94,8 +94,8 @@ module _ (C : Code) (pos : 0 < C .symbols) (n k : ℕ) (m : List ℕ) (t : ℕ) 
     scores-are = take-at scoresAbove (drop (length (above C n k m t)) scoresLent) (length (above C n k m t)) many
 
     -- neither line is given
-    pub above-listed : listed k rowsWritten scoresWritten .given ≡ false
-    above-listed = ap₂ (λ (r s : List ℕ). listed k r s .given) rows-are scores-are ∙ ap not is-list
+    pub above-listed : listLine k rowsWritten scoresWritten .given ≡ false
+    above-listed = ap₂ (λ (r s : List ℕ). listLine k r s .given) rows-are scores-are ∙ ap not is-list
 
     pub above-symbols : symbols C rowsWritten .given ≡ false
     above-symbols = ap (λ (r : List ℕ). symbols C r .given) rows-are ∙ all-symbols

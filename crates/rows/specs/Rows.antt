@@ -39,5 +39,5 @@ isNew k rows j = every j (λ (i : ℕ). not (same (rowAt k rows i) (rowAt k rows
 abbrev pub isList : ℕ → List ℕ → List ℕ → Bool
 isList k rows scores = eqb (length rows) (k * length scores) && (inOrder k rows scores && every (length scores) (isNew k rows))
 
-abbrev pub listed : ℕ → List ℕ → List ℕ → Line
-listed k rows scores = line 3 (not (isList k rows scores))
+abbrev pub listLine : ℕ → List ℕ → List ℕ → Line
+listLine k rows scores = line 3 (not (isList k rows scores))

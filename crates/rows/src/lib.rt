@@ -7,7 +7,7 @@ ghost use Rattle.definitions.specs.Tools.{every};
 ghost use Rattle.refusals.specs.Checked.{orLine, toldChecked};
 ghost use Rattle.refusals.specs.declared.Checked.the-variants.{Passed};
 ghost use Rattle.rows.specs.Differ.{Differ};
-ghost use Rattle.rows.specs.Rows.{comesBefore, same, rowBefore, inOrder, isNew, isList, listed};
+ghost use Rattle.rows.specs.Rows.{comesBefore, same, rowBefore, inOrder, isNew, isList, listLine};
 use refusals::Checked;
 use refusals::Refusal;
 
@@ -124,9 +124,9 @@ fn is_list(k: usize, rows: &[u8], scores: &[u16]) -> bool
 }
 
 // The rows are looked at only where nothing is refused yet.
-pub fn listed(checked: Checked, k: usize, rows: &[u8], scores: &[u16]) -> Checked
+pub fn list_checked(checked: Checked, k: usize, rows: &[u8], scores: &[u16]) -> Checked
     requires { ⌜ (checked ≡ Passed → 0 < k) ⌝ }
-    ensures { λ r. ⌜ toldChecked r ≡ orLine (toldChecked checked) (listed k (now (rows .entry)) (now (scores .entry))) ⌝ }
+    ensures { λ r. ⌜ toldChecked r ≡ orLine (toldChecked checked) (listLine k (now (rows .entry)) (now (scores .entry))) ⌝ }
 {
     match checked {
         Checked::Refused(r) => Checked::Refused(r),

@@ -12,7 +12,7 @@ use alphabet::Alphabet;
 fn times(reliability: u16, multiplicity: u8) -> usize
     ensures { λ r. ⌜ r ≡ reliability * (multiplicity + 1) ⌝ }
 {
-    columns::wide(reliability) * (field::inside::wide(multiplicity) + 1)
+    numbers::long(reliability) * (numbers::wide(multiplicity) + 1)
 }
 
 // The place whose quotient is larger, the earlier one where they tie.

@@ -7,7 +7,7 @@ ghost use Rattle.alphabet.specs.Codes.{codeOn};
 ghost use Rattle.definitions.specs.Code.{Symbols};
 ghost use Rattle.definitions.specs.Field.{numbers, value};
 ghost use Rattle.definitions.specs.Tools.{smallest};
-ghost use Rattle.field.specs.Table.{Tabled};
+ghost use Rattle.tables.specs.Table.{Tabled};
 ghost use Rattle.root_tree.specs.Tree.{zeros};
 ghost use Rattle.substitution.specs.Array.{places, Added, Folded, Shifted, Laid, Spread, Substituted, Handed, isOther, SymbolsKept, SymbolsLaid, FreedOfEither, ConstantsZero};
 use alphabet::Alphabet;
@@ -27,7 +27,7 @@ pub fn first_value(alphabet: Alphabet, table: &[u8], p: &[u8; PLACES], h: usize,
     let mut b = h;
     while 0 < b {
         b -= 1;
-        y = p[b] ^ field::inside::look(alphabet, table, g, y);
+        y = p[b] ^ tables::look(alphabet, table, g, y);
     }
     y
 }
@@ -52,7 +52,7 @@ fn add_multiple(
     let mut a = 0;
     while a < w {
         let column = a * h;
-        p[column + to] ^= field::inside::look(alphabet, table, g, p[column + from]);
+        p[column + to] ^= tables::look(alphabet, table, g, p[column + from]);
         a += 1;
     }
 }
@@ -86,7 +86,7 @@ fn shift(alphabet: Alphabet, table: &[u8], p: &mut [u8], h: usize, w: usize, g: 
     let mut power = g;
     while bit < h {
         fold(alphabet, table, p, h, w, bit, power);
-        power = field::inside::look(alphabet, table, power, power);
+        power = tables::look(alphabet, table, power, power);
         bit *= 2;
     }
 }

@@ -15,7 +15,7 @@ fn multiplicity_of(level: usize, reliability: u16) -> u8
     requires { ⌜ level ≤ greatestLevel ⌝ }
     ensures { λ r. ⌜ r ≡ multiplicity level reliability ⌝ }
 {
-    (level * columns::wide(reliability) / GREATEST_SUM) as u8
+    (level * numbers::long(reliability) / GREATEST_SUM) as u8
 }
 
 // The multiplicity of each reliability, to the front of out.

@@ -38,7 +38,7 @@ pub fn multiplicities(
         .level(level)
         .entries(alphabet, reliabilities.len(), n)
         .entries_room(alphabet, out.len(), n);
-    let checked = columns::columns_checked(alphabet, settled, reliabilities, n);
+    let checked = reliabilities::columns_checked(alphabet, settled, reliabilities, n);
     if let Checked::Refused(r) = checked {
         return Counted::Refused(r);
     }

@@ -18,8 +18,8 @@ use Rattle.counter.proofs.judge.Tie as tie
 sized : (C : Code) (k g : ℕ) → Accepts (size C k ∷ lead g ∷ []) → 0 < k
 sized C k g (next s (next l end)) = let h = size-means C k s in omega arith
 
-listed-requires : tie.Need-listed-requires
-listed-requires c κs passed =
+list-checked-requires : tie.Need-list-checked-requires
+list-checked-requires c κs passed =
     let a = c .before .before .before .before .args in
     sized (codeOn (a .alphabet)) (a .k) (a .lead) (accepted (start ▸ c .before .size .ensures ▸ c .or .ensures) passed)
 
@@ -31,7 +31,7 @@ came : (c : tie.After-symbols-of)
 came c =
     let listed = c .before in
     let lead = listed .before in
-    start ▸ lead .before .size .ensures ▸ lead .or .ensures ▸ listed .listed .ensures ▸ c .symbols-of .ensures
+    start ▸ lead .before .size .ensures ▸ lead .or .ensures ▸ listed .list-checked .ensures ▸ c .symbols-of .ensures
 
 returns : tie.Need-returns
 returns c = answers (came (c .before .before .before)) [] _ (c .before .checked .given .1)
@@ -49,7 +49,7 @@ judge-spec =
     (tie.spec
     (λ c κs. search needs)
     (λ c κs. search needs)
-    listed-requires
+    list-checked-requires
     (λ c κs. search needs)
     (λ c. search needs)
     returns

@@ -12,7 +12,7 @@ use Rattle.definitions.specs.Answers.{refused, valued}
 use Rattle.definitions.specs.Refusals.{Line, line, symbols, runsOn}
 use Rattle.refusals.proofs.Chain.{Came, start, _▸_, further, accepted, accepts-front, answers, goes-on}
 use Rattle.refusals.specs.Checked.{orLine, toldChecked}
-use Rattle.rows.specs.Rows.{listed}
+use Rattle.rows.specs.Rows.{listLine}
 use Rattle.counter.proofs.judge_both.Statement.{statement}
 use Rattle.counter.proofs.judge_both.Tie as tie
 
@@ -29,18 +29,18 @@ settled c =
     start ▸ too .before .sizes .ensures ▸ too .sizes-too .ensures ▸ first .level .ensures ▸ second .level2 .ensures ▸ lead .or .ensures
     ▸ (c .or2 .ensures ∙ ap (λ (b : Bool). orLine (toldChecked (lead .or .result)) (line 2 (not b))) (same .same-settings .ensures))
 
-listed-requires : tie.Need-listed-requires
-listed-requires c κs passed =
+list-checked-requires : tie.Need-list-checked-requires
+list-checked-requires c κs passed =
     let a = entry c .args in
     first-sized (codeOn (a .alphabet)) (a .first) (a .second) (a .lead) (accepted (settled c) passed)
 
-listed-requires-2 : tie.Need-listed-requires-2
-listed-requires-2 c κs passed =
+list-checked-requires-2 : tie.Need-list-checked-requires-2
+list-checked-requires-2 c κs passed =
     let a = entry (c .before) .args in
     let C = codeOn (a .alphabet) in
-    let line = listed (a .first .k) (a .rows .now) (a .scores .now) in
+    let line = listLine (a .first .k) (a .rows .now) (a .scores .now) in
     second-sized C (a .first) (a .second) (a .lead)
-    (accepts-front (settledTable C (a .first) (a .second) (a .lead)) (line ∷ []) (accepted (further (line ∷ []) (settled (c .before)) ▸ c .listed .ensures) passed))
+    (accepts-front (settledTable C (a .first) (a .second) (a .lead)) (line ∷ []) (accepted (further (line ∷ []) (settled (c .before)) ▸ c .list-checked .ensures) passed))
 
 symbols-of-after-requires : tie.Need-symbols-of-after-requires
 symbols-of-after-requires c κs = let g = entry (c .before .before .before) .good in omega arith
@@ -55,9 +55,9 @@ came c =
     let a = entry (first .before) .args in
     let C = codeOn (a .alphabet) in
     let lists : List Line =
-    listed (a .first .k) (a .rows .now) (a .scores .now) ∷ listed (a .second .k) (a .others .now) (a .other-scores .now) ∷ symbols C (a .rows .now)
+    listLine (a .first .k) (a .rows .now) (a .scores .now) ∷ listLine (a .second .k) (a .others .now) (a .other-scores .now) ∷ symbols C (a .rows .now)
     ∷ runsOn (length (a .rows .now)) (symbols C (a .others .now)) ∷ [] in
-    further lists (settled (first .before)) ▸ first .listed .ensures ▸ second .listed2 .ensures ▸ symbols-of-first .symbols-of .ensures ▸ c .symbols-of-after .ensures
+    further lists (settled (first .before)) ▸ first .list-checked .ensures ▸ second .list-checked2 .ensures ▸ symbols-of-first .symbols-of .ensures ▸ c .symbols-of-after .ensures
 
 returns : tie.Need-returns
 returns c = answers (came (c .before .before .before)) [] _ (c .before .checked .given .1)
@@ -89,8 +89,8 @@ judge-both-spec =
     (λ c κs. search needs)
     (λ c κs. search needs)
     (λ c κs. search needs)
-    listed-requires
-    listed-requires-2
+    list-checked-requires
+    list-checked-requires-2
     (λ c κs. search needs)
     symbols-of-after-requires
     (λ c. search needs)

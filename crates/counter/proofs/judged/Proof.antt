@@ -16,21 +16,21 @@ returns-2 c = let a = c .before .before .before .args in ap valued (judged-one (
 returns-3 : tie.Need-returns-3
 returns-3 c =
     let a = c .before .before .before .before .before .before .before .before .args in
-    let first = c .before .before .before .wide .ensures in
+    let first = c .before .before .before .long .ensures .0 in
     ap valued (judged-close (a .lead) (a .scores .now) (omega arith) (omega arith))
 
 returns-4 : tie.Need-returns-4
 returns-4 c =
     let a = c .before .before .before .before .before .before .before .before .before .args in
-    let second = c .before .before .wide2 .ensures in
-    let first = c .before .before .before .before .wide .ensures in
+    let second = c .before .before .long2 .ensures .0 in
+    let first = c .before .before .before .before .long .ensures .0 in
     ap valued (judged-close (a .lead) (a .scores .now) (omega arith) (omega arith))
 
 returns-5 : tie.Need-returns-5
 returns-5 c =
     let a = c .before .before .before .before .before .before .before .before .before .args in
-    let second = c .before .before .wide2 .ensures in
-    let first = c .before .before .before .before .wide .ensures in
+    let second = c .before .before .long2 .ensures .0 in
+    let first = c .before .before .before .before .long .ensures .0 in
     ap valued (judged-leads (a .lead) (a .scores .now) (omega arith) (omega arith))
 
 pub judged-spec : {M : Type 1} → statement M

@@ -2,7 +2,7 @@
 use mathlib.Core.Path.{sym, subst}
 use Rattle.alphabet.specs.Codes.{codeOn}
 use Rattle.alphabet.specs.declared.Alphabet.{Alphabet}
-use Rattle.field.specs.Table.{Tabled}
+use Rattle.tables.specs.Table.{Tabled}
 use Rattle.linear.specs.Rows.{SymbolRows, Solved}
 use borrow.Author.Needs.{needs}
 use Rattle.elimination.proofs.solve.Statement.{statement}

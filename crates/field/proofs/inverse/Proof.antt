@@ -10,7 +10,7 @@ use Rattle.alphabet.specs.Codes.{codeOn}
 use Rattle.definitions.specs.Answers.{refused, valued}
 use Rattle.definitions.specs.Refusals.{inverseTable}
 use Rattle.field.proofs.Operands.{symbol-line, zero-line, nonzero-symbol}
-use Rattle.field.specs.Table.{Inverses}
+use Rattle.tables.specs.Table.{Inverses}
 use Rattle.refusals.proofs.Chain.{Came, start, _▸_, accepted, answers, goes-on}
 use Rattle.refusals.specs.Checked.{passed, orLine, lineOf, toldChecked}
 use Rattle.refusals.specs.declared.Refusal.the-variants.{Symbol}

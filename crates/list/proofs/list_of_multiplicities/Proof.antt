@@ -7,8 +7,8 @@ use lib.ListN.{length}
 use Rattle.alphabet.specs.Codes.{codeOn}
 use Rattle.edits.proofs.Turned.{bytes-within, turned-bytes, turned-costs}
 use Rattle.list.proofs.Answers.{costLeft, listFront, list-fits}
-use Rattle.listing.proofs.Answers.{refused-by-check, passed-on}
-use Rattle.listing.specs.Within.{Fit}
+use Rattle.list_within.proofs.Answers.{refused-by-check, passed-on}
+use Rattle.list_within.specs.Within.{Fit}
 use Rattle.refusals.proofs.Chain.{Came, start, _▸_, accepted}
 use Rattle.refusals.specs.Checked.{toldChecked}
 use borrow.Author.Needs.{needs}

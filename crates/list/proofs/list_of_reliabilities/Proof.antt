@@ -12,8 +12,8 @@ use Rattle.definitions.specs.Refusals.{columns}
 use Rattle.definitions.specs.Weights.{matrix}
 use Rattle.edits.proofs.Turned.{bytes-within, turned-bytes, turned-costs}
 use Rattle.list.proofs.Answers.{costLeft, readStart, read-fits}
-use Rattle.listing.proofs.Answers.{refused-by-check, passed-on}
-use Rattle.listing.specs.Within.{Fit}
+use Rattle.list_within.proofs.Answers.{refused-by-check, passed-on}
+use Rattle.list_within.specs.Within.{Fit}
 use Rattle.refusals.proofs.Chain.{Came, start, _▸_, further, accepts-front, accepted}
 use Rattle.refusals.specs.Checked.{toldChecked}
 use borrow.Author.Needs.{needs}

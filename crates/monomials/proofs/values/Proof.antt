@@ -3,7 +3,7 @@ use mathlib.Core.Path.{_≡_, sym, subst}
 use Rattle.alphabet.specs.Codes.{codeOn}
 use Rattle.alphabet.specs.declared.Alphabet.{Alphabet}
 use Rattle.definitions.specs.Code.{Symbols}
-use Rattle.field.specs.Table.{Tabled}
+use Rattle.tables.specs.Table.{Tabled}
 use Rattle.monomials.specs.Rows.{valuesRow}
 use borrow.Author.Needs.{needs}
 use Rattle.monomials.proofs.values.Statement.{statement}

@@ -8,8 +8,8 @@ use lib.ListN.{length}
 use Rattle.alphabet.specs.Codes.{codeOn}
 use Rattle.definitions.specs.Refusals.{columns}
 use Rattle.edits.proofs.Turned.{bytes-within, turned-bytes, turned-costs}
-use Rattle.listing.proofs.Answers.{refused-by-check, passed-on}
-use Rattle.listing.specs.Within.{Fit}
+use Rattle.list_within.proofs.Answers.{refused-by-check, passed-on}
+use Rattle.list_within.specs.Within.{Fit}
 use Rattle.offers.proofs.Answers.{plan-fits}
 use Rattle.plans.proofs.Taken.{costAndPlanLeft, planStart}
 use Rattle.refusals.proofs.Chain.{Came, start, _▸_, further, accepts-front, accepted}

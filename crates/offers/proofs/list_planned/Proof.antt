@@ -6,7 +6,7 @@ use lib.ListN.{take}
 use Rattle.alphabet.specs.Codes.{codeOn}
 use Rattle.definitions.specs.Planning.{ruled}
 use Rattle.definitions.specs.Weights.{cost}
-use Rattle.listing.proofs.Answers.{refused-by-cost}
+use Rattle.list_within.proofs.Answers.{refused-by-cost}
 use Rattle.offers.proofs.Answers.{refused-by-plan, listed-by-plan}
 use borrow.Author.Needs.{needs}
 use Rattle.offers.proofs.list_planned.Statement.{statement}

@@ -1,6 +1,6 @@
 -- The numbers behind the header are read, and the list of them is answered.
 use mathlib.Core.List.{List}
-use mathlib.Core.Path.{_≡_, sym, _∙_, ap, subst}
+use mathlib.Core.Path.{_≡_, sym, _∙_, ap, ap₂, subst}
 use Prim.Native.Nat.{ℕ, _-_}
 use lib.ListN.{length, take, drop, replicate}
 use Rattle.alphabet.specs.Codes.{codeOn}
@@ -8,16 +8,20 @@ use Rattle.numbers.specs.Numbers.{numbersOf}
 use Rattle.output.proofs.Input.{no-header, header, in-front, front-within, bytes-are}
 use Rattle.output.specs.Program.{headerBytes}
 use Rattle.output.specs.Rooms.{numbersRead}
-use Rattle.text.specs.Text.{Puts}
+use Rattle.text.specs.Text.{Puts, refusedLine}
 use borrow.Author.Needs.{needs}
 use Rattle.output.proofs.answer_to.Statement.{statement}
 use Rattle.output.proofs.answer_to.Tie as tie
 
 returns : tie.Need-returns
 returns c =
-    let s = c .before .before .before .before .before .before .before in
-    let p = c .before .before .put-refused in
-    let e = no-header (codeOn (s .args .alphabet)) (s .args .input .now) (c .before .before .before .before .if1 .taken) in
+    let at-put = c .before .before in
+    let at-if1 = at-put .before .before .before .before in
+    let s = at-if1 .before .before .before in
+    let p = at-put .put-refused in
+    let at-place = at-put .before in
+    let told = ap₂ refusedLine (at-place .before .number .ensures .0) (at-place .place .ensures) in
+    let e = told ∙ no-header (codeOn (s .args .alphabet)) (s .args .input .now) (at-if1 .if1 .taken) in
     subst (λ (text : List ℕ). Puts (s .args .out .now) 0 text (p .result) (p .last .0)) e (p .ensures)
 
 abbrev entry : tie.After-wide4 → tie.Start
@@ -62,6 +66,8 @@ pub answer-to-spec : {M : Type 1} → statement M
 answer-to-spec =
     tie.close
     (tie.spec
+    (λ c κs. search needs)
+    (λ c κs. search needs)
     (λ c κs. search needs)
     (λ c. search needs)
     returns

@@ -11,7 +11,7 @@ mul-result : tie.Need-mul-result
 mul-result c = product-fits _ _ (omega arith) (omega arith)
 
 returns : tie.Need-returns
-returns c = ap₂ (λ (a b : ℕ). a * (b + 1)) (c .before .wide .ensures .0) (c .wide2 .ensures .0)
+returns c = ap₂ (λ (a b : ℕ). a * (b + 1)) (c .before .long .ensures .0) (c .wide .ensures .0)
 
 pub times-spec : {M : Type 1} → statement M
 times-spec = tie.close (tie.spec (λ c κs. search needs) (λ c κs. search needs) (λ c. search needs) mul-result returns)

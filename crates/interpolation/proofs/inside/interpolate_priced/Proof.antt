@@ -44,10 +44,10 @@ count-requires c κs =
     (omega arith, omega arith)
 
 -- the stored cost is that of the columns
-paid : (c : tie.After-opened) → entry (c .before) .args .cost ≡ matrixCost (codeOn (entry (c .before) .args .alphabet)) (c .opened .result)
+paid : (c : tie.After-in-columns) → entry (c .before) .args .cost ≡ matrixCost (codeOn (entry (c .before) .args .alphabet)) (c .in-columns .result)
 paid c =
     let s = entry (c .before) in
-    opened-cost (codeOn (s .args .alphabet)) (s .args .n) (s .args .cost) (s .args .entries .now) (s .pre .0 .sized .2) (s .pre .1) (c .opened .result) (c .opened .ensures)
+    opened-cost (codeOn (s .args .alphabet)) (s .args .n) (s .args .cost) (s .args .entries .now) (s .pre .0 .sized .2) (s .pre .1) (c .in-columns .result) (c .in-columns .ensures)
 
 polynomial-requires : tie.Need-polynomial-requires
 polynomial-requires c κs =
@@ -81,7 +81,7 @@ returns-2 c =
     let f = s .pre .0 in
     let h = s .pre .1 in
     found-is-answered C (a .n) (a .k) (a .limit) (bytes s) (a .out .now) (f .sized .2) (length-take-le (C .symbols * a .n) (a .entries .now) (h .within))
-    (o .opened .result) (opened-front C (a .n) (a .cost) (a .entries .now) (f .sized .2) h (o .opened .result) (o .opened .ensures)) (a .cost) (d .bound .result)
+    (o .in-columns .result) (opened-front C (a .n) (a .cost) (a .entries .now) (f .sized .2) h (o .in-columns .result) (o .in-columns .ensures)) (a .cost) (d .bound .result)
     (n .count .result) (p .polynomial .result) (p .polynomial .last .1 .1 .1 .1 .1 .1 .0) (h .paid) (o .before .if1 .left) (d .bound .ensures) (n .count .ensures)
     (p .polynomial .ensures)
 

@@ -7,17 +7,17 @@ use borrow.Author.Needs.{needs}
 use Rattle.weights.proofs.inside.multiplicity_of.Statement.{statement}
 use Rattle.weights.proofs.inside.multiplicity_of.Tie as tie
 
-wide-requires : tie.Need-wide-requires
-wide-requires c κs = search needs
+long-requires : tie.Need-long-requires
+long-requires c κs = search needs
 
 mul-result : tie.Need-mul-result
-mul-result c = let fits = level-fits (c .before .args .level) (c .wide .result) (c .before .pre) (c .wide .ensures .1) in omega arith
+mul-result c = let fits = level-fits (c .before .args .level) (c .long .result) (c .before .pre) (c .long .ensures .1) in omega arith
 
 cast-result : tie.Need-cast-result
-cast-result c = let fits = level-fits (c .before .args .level) (c .wide .result) (c .before .pre) (c .wide .ensures .1) in omega arith
+cast-result c = let fits = level-fits (c .before .args .level) (c .long .result) (c .before .pre) (c .long .ensures .1) in omega arith
 
 returns : tie.Need-returns
-returns c = ap (multiplicity (c .before .args .level)) (c .wide .ensures .0)
+returns c = ap (multiplicity (c .before .args .level)) (c .long .ensures .0)
 
 pub multiplicity-of-spec : {M : Type 1} → statement M
-multiplicity-of-spec = tie.close (tie.spec wide-requires mul-result cast-result returns)
+multiplicity-of-spec = tie.close (tie.spec long-requires mul-result cast-result returns)

@@ -1,0 +1,27 @@
+-- Three checks are three lines.
+use mathlib.Core.Bool.{not}
+use mathlib.Core.Path.{_∙_, ap₂}
+use Prim.Native.Nat.{ℕ}
+use borrow.Author.Needs.{needs}
+use lib.Dec.{eqb}
+use lib.ListN.{length}
+use Rattle.definitions.specs.Refusals.{line}
+use Rattle.refusals.specs.Checked.{Outcome, orLine}
+use Rattle.editing.proofs.parts.lent.Statement.{statement}
+use Rattle.editing.proofs.parts.lent.Tie as tie
+
+-- a line more: a length against the stated one
+abbrev more : ℕ → Outcome → ℕ → Outcome
+more given o stated = orLine o (line 3 (not (eqb given stated)))
+
+returns : tie.Need-returns
+returns c =
+    let e = c .before in
+    let t = e .before in
+    let p = t .before in
+    let a = p .before .before .before .before .args in
+    let first = t .or .ensures ∙ ap₂ (more (length (a .totals .now))) (p .before .size .ensures) (p .positions .ensures) in
+    c .or2 .ensures ∙ ap₂ (more (length (a .entries .now))) first (e .places .ensures)
+
+pub lent-spec : {M : Type 1} → statement M
+lent-spec = tie.close (tie.spec (λ c κs. search needs) (λ c κs. search needs) (λ c κs. search needs) (λ c κs. search needs) (λ c κs. search needs) returns)

@@ -1,2 +1,0 @@
-pub mod Scoring
-pub mod Scores

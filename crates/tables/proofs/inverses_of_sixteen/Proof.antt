@@ -1,0 +1,16 @@
+-- The rule of the table is computed once, over all its entries.
+use Rattle.alphabet.specs.Codes.{codeOn}
+use Rattle.alphabet.specs.declared.Alphabet.the-variants.{Sixteen}
+use Rattle.algebra.proofs.Tests.{every}
+use Rattle.definitions.specs.Field.{sumOf, double, shifted}
+use Rattle.definitions.specs.Tools.{smallest}
+use Rattle.tables.proofs.Rules.{inverses-right}
+use Rattle.tables.proofs.inverses_of_sixteen.Statement.{statement}
+use Rattle.tables.proofs.inverses_of_sixteen.Tie as tie
+
+returns : tie.Need-returns
+unfolding every smallest sumOf double shifted
+returns c = inverses-right (codeOn Sixteen) _ tt
+
+pub inverses-of-sixteen-spec : {M : Type 1} → statement M
+inverses-of-sixteen-spec = tie.close (tie.spec returns)

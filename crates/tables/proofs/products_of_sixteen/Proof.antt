@@ -1,0 +1,16 @@
+-- The rule of the table is computed once, over all 256 entries.
+use native.Mathlib.Omega.{arith}
+use Rattle.alphabet.specs.Codes.{codeOn}
+use Rattle.alphabet.specs.declared.Alphabet.the-variants.{Sixteen}
+use Rattle.algebra.proofs.Tests.{every}
+use Rattle.definitions.specs.Field.{sumOf, double, shifted}
+use Rattle.tables.proofs.Rules.{products-right}
+use Rattle.tables.proofs.products_of_sixteen.Statement.{statement}
+use Rattle.tables.proofs.products_of_sixteen.Tie as tie
+
+returns : tie.Need-returns
+unfolding every sumOf double shifted
+returns c = record { rule = products-right (codeOn Sixteen) _ tt; whole = omega arith }
+
+pub products-of-sixteen-spec : {M : Type 1} → statement M
+products-of-sixteen-spec = tie.close (tie.spec returns)
