@@ -22,35 +22,17 @@ stops-within : (c : tie.After-loop Inv-loop μ-loop)
     → c .before .before .args .v * (c .before .loop .m * (c .before .loop .m - 1)) ≤ 2 * c .before .before .args .cost
 stops-within c = let s = c .before .before in number-within (s .args .v) (s .args .cost) (c .before .loop .m) (s .pre .0) (c .before .loop .inv .2)
 
-mul-most : tie.Need-mul-most Inv-loop μ-loop
-mul-most c = omega arith
-
-div-most : tie.Need-div-most Inv-loop μ-loop
-div-most c = omega arith
-
 loop-holds : tie.Need-loop-holds Inv-loop μ-loop
 loop-holds c = (omega arith, omega arith, omega arith)
 
-add-loop : tie.Need-add-loop Inv-loop μ-loop
-add-loop c = omega arith
-
 mul-loop : tie.Need-mul-loop Inv-loop μ-loop
 mul-loop c = product-fits _ _ (omega arith) (omega arith)
-
-add-m : tie.Need-add-m Inv-loop μ-loop
-add-m c = omega arith
 
 loop-less : tie.Need-loop-less Inv-loop μ-loop
 loop-less c = let next = next-within c in omega arith
 
 loop-again : tie.Need-loop-again Inv-loop μ-loop
 loop-again c = let next = next-within c in (omega arith, next .0, next .1)
-
-mul-result : tie.Need-mul-result Inv-loop μ-loop
-mul-result c = omega arith
-
-sub-result : tie.Need-sub-result Inv-loop μ-loop
-sub-result c = omega arith
 
 mul-result-2 : tie.Need-mul-result-2 Inv-loop μ-loop
 mul-result-2 c = product-fits _ _ (omega arith) (omega arith)
@@ -60,12 +42,6 @@ mul-result-3 c = let within = stops-within c in omega arith
 
 add-result : tie.Need-add-result Inv-loop μ-loop
 add-result c = let within = stops-within c in omega arith
-
-mul-result-4 : tie.Need-mul-result-4 Inv-loop μ-loop
-mul-result-4 c = omega arith
-
-div-result : tie.Need-div-result Inv-loop μ-loop
-div-result c = omega arith
 
 returns : tie.Need-returns Inv-loop μ-loop
 returns c =
@@ -79,19 +55,19 @@ bound-spec =
     (tie.spec
     Inv-loop
     μ-loop
-    mul-most
-    div-most
+    (λ c. omega arith)
+    (λ c. omega arith)
     loop-holds
-    add-loop
+    (λ c. omega arith)
     mul-loop
-    add-m
+    (λ c. omega arith)
     loop-less
     loop-again
-    mul-result
-    sub-result
+    (λ c. omega arith)
+    (λ c. omega arith)
     mul-result-2
     mul-result-3
     add-result
-    mul-result-4
-    div-result
+    (λ c. omega arith)
+    (λ c. omega arith)
     returns)

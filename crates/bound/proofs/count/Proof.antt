@@ -22,12 +22,6 @@ power-counted c = power-fits (c .before .before .args .v) (c .before .before .ar
 loop-holds : tie.Need-loop-holds Inv-loop μ-loop
 loop-holds c = (omega arith, sum-none (λ (j : ℕ). c .args .d + 1 - c .args .v * j), omega arith)
 
-div-loop : tie.Need-div-loop Inv-loop μ-loop
-div-loop c = omega arith
-
-add-total : tie.Need-add-total Inv-loop μ-loop
-add-total c = omega arith
-
 mul-total : tie.Need-mul-total Inv-loop μ-loop
 mul-total c = let fits = power-counted c in omega arith
 
@@ -39,9 +33,6 @@ add-total-2 c = let fits = power-counted c in omega arith
 
 add-b : tie.Need-add-b Inv-loop μ-loop
 add-b c = let fits = power-counted c in omega arith
-
-loop-less : tie.Need-loop-less Inv-loop μ-loop
-loop-less c = omega arith
 
 loop-again : tie.Need-loop-again Inv-loop μ-loop
 loop-again c =
@@ -65,12 +56,12 @@ count-spec =
     Inv-loop
     μ-loop
     loop-holds
-    div-loop
-    add-total
+    (λ c. omega arith)
+    (λ c. omega arith)
     mul-total
     sub-total
     add-total-2
     add-b
-    loop-less
+    (λ c. omega arith)
     loop-again
     returns)

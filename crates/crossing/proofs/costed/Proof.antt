@@ -6,20 +6,11 @@ use borrow.Author.Needs.{needs}
 use Rattle.crossing.proofs.costed.Statement.{statement}
 use Rattle.crossing.proofs.costed.Tie as tie
 
-enum-known-c : tie.Need-enum-known-c
-enum-known-c c = search needs
-
 narrow-requires : tie.Need-narrow-requires
 narrow-requires c κs = (rw (c .before .c .given .1) at (c .before .before .before .pre)) .cost
 
 narrow-requires-2 : tie.Need-narrow-requires-2
 narrow-requires-2 c κs = (rw (c .before .before .c .given .1) at (c .before .before .before .before .pre)) .bound
-
-accepted-requires : tie.Need-accepted-requires
-accepted-requires c κs = search needs
-
-enum-known-c-2 : tie.Need-enum-known-c-2
-enum-known-c-2 c = search needs
 
 refused-requires : tie.Need-refused-requires
 refused-requires c κs = rw (c .before .c2 .given .1) at (c .before .before .before .pre)
@@ -35,11 +26,11 @@ pub costed-spec : {M : Type 1} → statement M
 costed-spec =
     tie.close
     (tie.spec
-    enum-known-c
+    (λ c. search needs)
     narrow-requires
     narrow-requires-2
-    accepted-requires
-    enum-known-c-2
+    (λ c κs. search needs)
+    (λ c. search needs)
     refused-requires
     returns
     returns-2)

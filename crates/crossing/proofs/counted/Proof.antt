@@ -6,17 +6,8 @@ use borrow.Author.Needs.{needs}
 use Rattle.crossing.proofs.counted.Statement.{statement}
 use Rattle.crossing.proofs.counted.Tie as tie
 
-enum-known-c : tie.Need-enum-known-c
-enum-known-c c = search needs
-
 narrow-requires : tie.Need-narrow-requires
 narrow-requires c κs = (rw (c .before .c .given .1) at (c .before .before .before .pre)) .count
-
-accepted-requires : tie.Need-accepted-requires
-accepted-requires c κs = search needs
-
-enum-known-c-2 : tie.Need-enum-known-c-2
-enum-known-c-2 c = search needs
 
 refused-requires : tie.Need-refused-requires
 refused-requires c κs = rw (c .before .c2 .given .1) at (c .before .before .before .pre)
@@ -31,10 +22,10 @@ pub counted-spec : {M : Type 1} → statement M
 counted-spec =
     tie.close
     (tie.spec
-    enum-known-c
+    (λ c. search needs)
     narrow-requires
-    accepted-requires
-    enum-known-c-2
+    (λ c κs. search needs)
+    (λ c. search needs)
     refused-requires
     returns
     returns-2)

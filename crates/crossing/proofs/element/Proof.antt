@@ -5,18 +5,6 @@ use borrow.Author.Needs.{needs}
 use Rattle.crossing.proofs.element.Statement.{statement}
 use Rattle.crossing.proofs.element.Tie as tie
 
-enum-known-e : tie.Need-enum-known-e
-enum-known-e c = search needs
-
-cast-accepted : tie.Need-cast-accepted
-cast-accepted c = search needs
-
-accepted-requires : tie.Need-accepted-requires
-accepted-requires c κs = search needs
-
-enum-known-e-2 : tie.Need-enum-known-e-2
-enum-known-e-2 c = search needs
-
 refused-requires : tie.Need-refused-requires
 refused-requires c κs = rw (c .before .e2 .given .1) at (c .before .before .before .pre)
 
@@ -30,10 +18,10 @@ pub element-spec : {M : Type 1} → statement M
 element-spec =
     tie.close
     (tie.spec
-    enum-known-e
-    cast-accepted
-    accepted-requires
-    enum-known-e-2
+    (λ c. search needs)
+    (λ c. search needs)
+    (λ c κs. search needs)
+    (λ c. search needs)
     refused-requires
     returns
     returns-2)

@@ -6,20 +6,11 @@ use borrow.Author.Needs.{needs}
 use Rattle.crossing.proofs.interpolated.Statement.{statement}
 use Rattle.crossing.proofs.interpolated.Tie as tie
 
-enum-known-i : tie.Need-enum-known-i
-enum-known-i c = search needs
-
 narrow-requires : tie.Need-narrow-requires
 narrow-requires c κs = (rw (c .before .i .given .1) at (c .before .before .before .pre)) .count
 
 narrow-requires-2 : tie.Need-narrow-requires-2
 narrow-requires-2 c κs = (rw (c .before .before .i .given .1) at (c .before .before .before .before .pre)) .bound
-
-accepted-requires : tie.Need-accepted-requires
-accepted-requires c κs = search needs
-
-enum-known-i-2 : tie.Need-enum-known-i-2
-enum-known-i-2 c = search needs
 
 refused-requires : tie.Need-refused-requires
 refused-requires c κs = rw (c .before .i2 .given .1) at (c .before .before .before .pre)
@@ -35,11 +26,11 @@ pub interpolated-spec : {M : Type 1} → statement M
 interpolated-spec =
     tie.close
     (tie.spec
-    enum-known-i
+    (λ c. search needs)
     narrow-requires
     narrow-requires-2
-    accepted-requires
-    enum-known-i-2
+    (λ c κs. search needs)
+    (λ c. search needs)
     refused-requires
     returns
     returns-2)

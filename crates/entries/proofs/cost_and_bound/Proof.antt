@@ -5,9 +5,6 @@ use borrow.Author.Needs.{needs}
 use Rattle.entries.proofs.cost_and_bound.Statement.{statement}
 use Rattle.entries.proofs.cost_and_bound.Tie as tie
 
-cost-and-bound-requires : tie.Need-cost-and-bound-requires
-cost-and-bound-requires c κs = search needs
-
 costed-requires : tie.Need-costed-requires
 costed-requires c κs =
     let s = c .before .before in
@@ -17,4 +14,4 @@ returns : tie.Need-returns
 returns c = c .costed .ensures ∙ c .before .cost-and-bound .ensures
 
 pub cost-and-bound-spec : {M : Type 1} → statement M
-cost-and-bound-spec = tie.close (tie.spec cost-and-bound-requires costed-requires returns)
+cost-and-bound-spec = tie.close (tie.spec (λ c κs. search needs) costed-requires returns)

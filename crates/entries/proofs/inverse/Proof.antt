@@ -5,9 +5,6 @@ use borrow.Author.Needs.{needs}
 use Rattle.entries.proofs.inverse.Statement.{statement}
 use Rattle.entries.proofs.inverse.Tie as tie
 
-inverse-requires : tie.Need-inverse-requires
-inverse-requires c κs = search needs
-
 element-requires : tie.Need-element-requires
 element-requires c κs = let s = c .before in rw (c .inverse .ensures) (inverse-narrow (s .args .alphabet) (s .args .a))
 
@@ -15,4 +12,4 @@ returns : tie.Need-returns
 returns c = c .element .ensures ∙ c .before .inverse .ensures
 
 pub inverse-spec : {M : Type 1} → statement M
-inverse-spec = tie.close (tie.spec inverse-requires element-requires returns)
+inverse-spec = tie.close (tie.spec (λ c κs. search needs) element-requires returns)

@@ -8,20 +8,11 @@ use borrow.Author.Needs.{needs}
 use Rattle.entries.proofs.list_of_multiplicities.Statement.{statement}
 use Rattle.entries.proofs.list_of_multiplicities.Tie as tie
 
-list-of-multiplicities-requires : tie.Need-list-of-multiplicities-requires
-list-of-multiplicities-requires c κs = search needs
-
 counted-requires : tie.Need-counted-requires
 counted-requires c κs =
     let s = c .before .before .before .before .before .before .before .before .before .before in
     let l = c .before .before .before .before .list-of-multiplicities in
     rw (l .ensures .0) (list-narrow (s .args .alphabet) (s .args .n) (s .args .k) (s .args .limit) (s .args .matrix .now) (s .args .rows .now) (s .args .scores .now) (rw (l .ensures .0) at (l .ensures .1 .1 .1)))
-
-same-length : tie.Need-same-length
-same-length c = search needs
-
-same-length-2 : tie.Need-same-length-2
-same-length-2 c = search needs
 
 returns : tie.Need-returns
 returns c =
@@ -31,4 +22,4 @@ returns c =
 pub list-of-multiplicities-spec : {M : Type 1} → statement M
 list-of-multiplicities-spec =
     tie.close
-    (tie.spec list-of-multiplicities-requires counted-requires same-length same-length-2 returns)
+    (tie.spec (λ c κs. search needs) counted-requires (λ c. search needs) (λ c. search needs) returns)

@@ -8,20 +8,11 @@ use borrow.Author.Needs.{needs}
 use Rattle.entries.proofs.list_of_reliabilities.Statement.{statement}
 use Rattle.entries.proofs.list_of_reliabilities.Tie as tie
 
-list-of-reliabilities-requires : tie.Need-list-of-reliabilities-requires
-list-of-reliabilities-requires c κs = search needs
-
 counted-requires : tie.Need-counted-requires
 counted-requires c κs =
     let s = c .before .before .before .before .before .before .before .before .before .before in
     let l = c .before .before .before .before .list-of-reliabilities in
     rw (l .ensures .0) (read-narrow (s .args .alphabet) (s .args .n) (s .args .k) (s .args .level) (s .args .limit) (s .args .reliabilities .now) (s .args .rows .now) (s .args .scores .now) (rw (l .ensures .0) at (l .ensures .1 .1 .1)))
-
-same-length : tie.Need-same-length
-same-length c = search needs
-
-same-length-2 : tie.Need-same-length-2
-same-length-2 c = search needs
 
 returns : tie.Need-returns
 returns c =
@@ -31,4 +22,4 @@ returns c =
 pub list-of-reliabilities-spec : {M : Type 1} → statement M
 list-of-reliabilities-spec =
     tie.close
-    (tie.spec list-of-reliabilities-requires counted-requires same-length same-length-2 returns)
+    (tie.spec (λ c κs. search needs) counted-requires (λ c. search needs) (λ c. search needs) returns)

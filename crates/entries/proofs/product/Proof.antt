@@ -5,9 +5,6 @@ use borrow.Author.Needs.{needs}
 use Rattle.entries.proofs.product.Statement.{statement}
 use Rattle.entries.proofs.product.Tie as tie
 
-product-requires : tie.Need-product-requires
-product-requires c κs = search needs
-
 element-requires : tie.Need-element-requires
 element-requires c κs = let s = c .before in rw (c .product .ensures) (product-narrow (s .args .alphabet) (s .args .a) (s .args .b))
 
@@ -15,4 +12,4 @@ returns : tie.Need-returns
 returns c = c .element .ensures ∙ c .before .product .ensures
 
 pub product-spec : {M : Type 1} → statement M
-product-spec = tie.close (tie.spec product-requires element-requires returns)
+product-spec = tie.close (tie.spec (λ c κs. search needs) element-requires returns)

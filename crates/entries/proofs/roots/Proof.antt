@@ -5,19 +5,13 @@ use borrow.Author.Needs.{needs}
 use Rattle.entries.proofs.roots.Statement.{statement}
 use Rattle.entries.proofs.roots.Tie as tie
 
-roots-requires : tie.Need-roots-requires
-roots-requires c κs = search needs
-
 counted-requires : tie.Need-counted-requires
 counted-requires c κs =
     let s = c .before .before .before .before .before .before in
     rw (c .before .before .roots .ensures .0) (roots-narrow (s .args .alphabet) (s .args .degree) (s .args .k) (s .args .coefficients .now) (s .args .out .now))
 
-same-length : tie.Need-same-length
-same-length c = search needs
-
 returns : tie.Need-returns
 returns c = (c .counted .ensures ∙ c .before .before .before .roots .ensures .0, c .before .before .before .roots .ensures .1)
 
 pub roots-spec : {M : Type 1} → statement M
-roots-spec = tie.close (tie.spec roots-requires counted-requires same-length returns)
+roots-spec = tie.close (tie.spec (λ c κs. search needs) counted-requires (λ c. search needs) returns)

@@ -5,9 +5,6 @@ use borrow.Author.Needs.{needs}
 use Rattle.entries.proofs.sum.Statement.{statement}
 use Rattle.entries.proofs.sum.Tie as tie
 
-sum-requires : tie.Need-sum-requires
-sum-requires c κs = search needs
-
 element-requires : tie.Need-element-requires
 element-requires c κs = let s = c .before in rw (c .sum .ensures) (sum-narrow (s .args .alphabet) (s .args .a) (s .args .b))
 
@@ -15,4 +12,4 @@ returns : tie.Need-returns
 returns c = c .element .ensures ∙ c .before .sum .ensures
 
 pub sum-spec : {M : Type 1} → statement M
-sum-spec = tie.close (tie.spec sum-requires element-requires returns)
+sum-spec = tie.close (tie.spec (λ c κs. search needs) element-requires returns)

@@ -10,9 +10,6 @@ use borrow.Author.Needs.{needs}
 use Rattle.field.proofs.sum.Statement.{statement}
 use Rattle.field.proofs.sum.Tie as tie
 
-first-bad-requires : tie.Need-first-bad-requires
-first-bad-requires c κs = search needs
-
 returns : tie.Need-returns
 returns c =
     let s = c .before .before in
@@ -25,4 +22,4 @@ returns-2 c =
     accepts refused (valued (sumOf (s .args .a) (s .args .b))) (operands-accepted (codeOn (s .args .alphabet)) (s .args .a) (s .args .b) (omega arith))
 
 pub sum-spec : {M : Type 1} → statement M
-sum-spec = tie.close (tie.spec first-bad-requires returns returns-2)
+sum-spec = tie.close (tie.spec (λ c κs. search needs) returns returns-2)

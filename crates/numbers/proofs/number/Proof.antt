@@ -3,8 +3,5 @@ use borrow.Author.Needs.{needs}
 use Rattle.numbers.proofs.number.Statement.{statement}
 use Rattle.numbers.proofs.number.Tie as tie
 
-returns : tie.Need-returns
-returns c = search needs
-
 pub number-spec : {M : Type 1} → statement M
-number-spec = tie.close (tie.spec (λ c. search needs) (λ c. search needs) returns)
+number-spec = tie.close (tie.spec (λ c. search needs) (λ c. search needs) (λ c. search needs))

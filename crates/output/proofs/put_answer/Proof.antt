@@ -10,9 +10,6 @@ use borrow.Author.Needs.{needs}
 use Rattle.output.proofs.put_answer.Statement.{statement}
 use Rattle.output.proofs.put_answer.Tie as tie
 
-enum-known-answer : tie.Need-enum-known-answer
-enum-known-answer c = search needs
-
 put-list-requires : tie.Need-put-list-requires
 put-list-requires c κs =
     let s = c .before .before .before .before .before .before .before in
@@ -20,29 +17,11 @@ put-list-requires c κs =
     let held = h refl in
     omega arith
 
-enum-known-answer-2 : tie.Need-enum-known-answer-2
-enum-known-answer-2 c = search needs
-
-number-requires : tie.Need-number-requires
-number-requires c κs = search needs
-
-place-requires : tie.Need-place-requires
-place-requires c κs = search needs
-
-put-refused-requires : tie.Need-put-refused-requires
-put-refused-requires c κs = search needs
-
-same-length : tie.Need-same-length
-same-length c = search needs
-
 returns : tie.Need-returns
 returns c =
     let s = c .before .before .before .before .before .before .before .before .before .before in
     let p = c .before .before .put-list in
     rw (c .before .before .before .before .before .answer .given .1) (p .ensures)
-
-same-length-2 : tie.Need-same-length-2
-same-length-2 c = search needs
 
 returns-2 : tie.Need-returns-2
 returns-2 c =
@@ -59,13 +38,13 @@ pub put-answer-spec : {M : Type 1} → statement M
 put-answer-spec =
     tie.close
     (tie.spec
-    enum-known-answer
+    (λ c. search needs)
     put-list-requires
-    enum-known-answer-2
-    number-requires
-    place-requires
-    put-refused-requires
-    same-length
+    (λ c. search needs)
+    (λ c κs. search needs)
+    (λ c κs. search needs)
+    (λ c κs. search needs)
+    (λ c. search needs)
     returns
-    same-length-2
+    (λ c. search needs)
     returns-2)

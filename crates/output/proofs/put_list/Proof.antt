@@ -7,15 +7,6 @@ use borrow.Author.Needs.{needs}
 use Rattle.output.proofs.put_list.Statement.{statement}
 use Rattle.output.proofs.put_list.Tie as tie
 
-put-listed-requires : tie.Need-put-listed-requires
-put-listed-requires c κs = search needs
-
-put-rows-requires : tie.Need-put-rows-requires
-put-rows-requires c κs = search needs
-
-same-length : tie.Need-same-length
-same-length c = search needs
-
 returns : tie.Need-returns
 returns c =
     let s = c .before .before .before .before .before .before .before .before .before .before .before in
@@ -26,4 +17,4 @@ returns c =
     (a .result) (d .result) (omega arith) (a .ensures .0) (d .ensures)
 
 pub put-list-spec : {M : Type 1} → statement M
-put-list-spec = tie.close (tie.spec put-listed-requires put-rows-requires same-length returns)
+put-list-spec = tie.close (tie.spec (λ c κs. search needs) (λ c κs. search needs) (λ c. search needs) returns)

@@ -35,12 +35,6 @@ returns c =
     column-found (codeOn (s .args .alphabet)) (s .args .reliabilities .now) (s .args .n) (l .loop .position) (l .loop .inv) (c .before .column-sum .result) (c .before .before .loop-test .taken)
     (c .before .column-sum .ensures) (c .if1 .taken)
 
-add-position : tie.Need-add-position Inv-loop μ-loop
-add-position c = omega arith
-
-loop-less : tie.Need-loop-less Inv-loop μ-loop
-loop-less c = omega arith
-
 loop-again : tie.Need-loop-again Inv-loop μ-loop
 loop-again c =
     let l = c .before .before .before in
@@ -63,7 +57,7 @@ first-bad-column-spec =
     loop-holds
     column-sum-requires
     returns
-    add-position
-    loop-less
+    (λ c. omega arith)
+    (λ c. omega arith)
     loop-again
     returns-2)

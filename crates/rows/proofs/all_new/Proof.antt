@@ -41,12 +41,6 @@ returns c =
     let a = l .before .before .args in
     sym (every-but (isNew (a .k) (a .rows .now)) (a .count) (l .loop .j) (omega arith) (sym (n .is-new .ensures) ∙ not-true _ (c .if1 .taken)))
 
-add-j : tie.Need-add-j Inv-loop μ-loop
-add-j c = omega arith
-
-loop-less : tie.Need-loop-less Inv-loop μ-loop
-loop-less c = omega arith
-
 loop-again : tie.Need-loop-again Inv-loop μ-loop
 loop-again c =
     let n = c .before in
@@ -69,7 +63,7 @@ all-new-spec =
     loop-holds
     is-new-requires
     returns
-    add-j
-    loop-less
+    (λ c. omega arith)
+    (λ c. omega arith)
     loop-again
     returns-2)

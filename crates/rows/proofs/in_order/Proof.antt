@@ -28,9 +28,6 @@ loop-holds c = let a = c .before .before .args in (omega arith, every-none (befo
 add-loop : tie.Need-add-loop Inv-loop μ-loop
 add-loop c = let g = c .before .before .before .good in let h = c .loop .inv .0 in omega arith
 
-add-row-before : tie.Need-add-row-before Inv-loop μ-loop
-add-row-before c = omega arith
-
 row-before-requires : tie.Need-row-before-requires Inv-loop μ-loop
 row-before-requires c κs =
     let s = c .before .before .before .before in
@@ -47,12 +44,6 @@ returns c =
     let l = b .before .before in
     let a = l .before .before .before .args in
     sym (every-but (beforeNext (a .k) (a .rows .now) (a .scores .now)) (length (a .scores .now) - 1) (l .loop .i) (omega arith) (sym (b .row-before .ensures) ∙ not-true _ (c .if1 .taken)))
-
-add-i : tie.Need-add-i Inv-loop μ-loop
-add-i c = omega arith
-
-loop-less : tie.Need-loop-less Inv-loop μ-loop
-loop-less c = omega arith
 
 loop-again : tie.Need-loop-again Inv-loop μ-loop
 loop-again c =
@@ -76,10 +67,10 @@ in-order-spec =
     μ-loop
     loop-holds
     add-loop
-    add-row-before
+    (λ c. omega arith)
     row-before-requires
     returns
-    add-i
-    loop-less
+    (λ c. omega arith)
+    (λ c. omega arith)
     loop-again
     returns-2)

@@ -69,12 +69,6 @@ slice-write-p c =
     let s = l .before .before .before in
     let i = place-within (s .args .h) (l .loop .a) (s .args .to) (s .args .w) (omega arith) (omega arith) in omega arith
 
-add-a : tie.Need-add-a Inv-loop μ-loop
-add-a c = omega arith
-
-loop-less : tie.Need-loop-less Inv-loop μ-loop
-loop-less c = omega arith
-
 loop-again : tie.Need-loop-again Inv-loop μ-loop
 unfolding sumOf
 loop-again c =
@@ -117,8 +111,8 @@ add-multiple-spec =
     add-p
     slice-read-p
     slice-write-p
-    add-a
-    loop-less
+    (λ c. omega arith)
+    (λ c. omega arith)
     loop-again
     same-length
     returns)

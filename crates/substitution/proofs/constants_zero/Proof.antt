@@ -44,9 +44,6 @@ add-a c =
     let s = l .before in
     let i = place-within (s .args .h) (l .loop .a) 0 (s .args .w) (omega arith) (omega arith) in omega arith
 
-loop-less : tie.Need-loop-less Inv-loop μ-loop
-loop-less c = omega arith
-
 loop-again : tie.Need-loop-again Inv-loop μ-loop
 loop-again c =
     let l = c .before .before .before in
@@ -70,6 +67,6 @@ constants-zero-spec =
     element-copy-out-if1
     returns
     add-a
-    loop-less
+    (λ c. omega arith)
     loop-again
     returns-2)

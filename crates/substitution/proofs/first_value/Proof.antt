@@ -20,20 +20,11 @@ loop-holds : tie.Need-loop-holds Inv-loop μ-loop
 loop-holds c =
     (omega arith, no-value (codeOn (c .before .args .alphabet)) (c .before .args .p .now) (c .before .args .h) (c .before .args .g) (omega arith))
 
-sub-b : tie.Need-sub-b Inv-loop μ-loop
-sub-b c = omega arith
-
-element-copy-out-y : tie.Need-element-copy-out-y Inv-loop μ-loop
-element-copy-out-y c = omega arith
-
 look-requires : tie.Need-look-requires Inv-loop μ-loop
 look-requires c κs =
     let l = c .before .before in
     let s = l .before .before in
     (s .pre .0, (s .pre .1 .1 .1, first-value-symbol (codeOn (s .args .alphabet)) (field-on (s .args .alphabet)) (s .args .p .now) (s .args .h) (s .args .g) (l .loop .b) (l .loop .y) (s .pre .1 .1 .1) (s .pre .1 .0) (l .loop .inv .1)))
-
-loop-less : tie.Need-loop-less Inv-loop μ-loop
-loop-less c = omega arith
 
 loop-again : tie.Need-loop-again Inv-loop μ-loop
 unfolding sumOf
@@ -55,9 +46,9 @@ first-value-spec =
     Inv-loop
     μ-loop
     loop-holds
-    sub-b
-    element-copy-out-y
+    (λ c. omega arith)
+    (λ c. omega arith)
     look-requires
-    loop-less
+    (λ c. omega arith)
     loop-again
     returns)

@@ -22,12 +22,6 @@ loop-holds c =
     let s = c .before .before in
     (omega arith, refl, s .pre .1 .0, folded-none (codeOn (s .args .alphabet)) (s .args .h) (s .args .w) (s .args .bit) (s .args .g) (s .args .p .now))
 
-add-loop : tie.Need-add-loop Inv-loop μ-loop
-add-loop c = omega arith
-
-add-add-multiple : tie.Need-add-add-multiple Inv-loop μ-loop
-add-add-multiple c = omega arith
-
 add-multiple-requires : tie.Need-add-multiple-requires Inv-loop μ-loop
 add-multiple-requires c κs =
     let l = c .before .before .before in
@@ -57,12 +51,6 @@ stepped c =
     ))
     (c .if1 .came)
 
-add-b : tie.Need-add-b Inv-loop μ-loop
-add-b c = omega arith
-
-loop-less : tie.Need-loop-less Inv-loop μ-loop
-loop-less c = omega arith
-
 loop-again : tie.Need-loop-again Inv-loop μ-loop
 loop-again c = let x = stepped c in (omega arith, x .0, x .1, x .2)
 
@@ -82,11 +70,11 @@ fold-spec =
     Inv-loop
     μ-loop
     loop-holds
-    add-loop
-    add-add-multiple
+    (λ c. omega arith)
+    (λ c. omega arith)
     add-multiple-requires
-    add-b
-    loop-less
+    (λ c. omega arith)
+    (λ c. omega arith)
     loop-again
     same-length
     returns)

@@ -17,15 +17,6 @@ use borrow.Author.Needs.{needs}
 use Rattle.substitution.proofs.freed.Statement.{statement}
 use Rattle.substitution.proofs.freed.Tie as tie
 
-mul-n : tie.Need-mul-n
-mul-n c = search needs
-
-first-other-requires : tie.Need-first-other-requires
-first-other-requires c κs = search needs
-
-div-moved : tie.Need-div-moved
-div-moved c = search needs
-
 mul-moved : tie.Need-mul-moved
 mul-moved c =
     let low = div-mul-le-self (c .first-other .result) (c .before .args .h) in
@@ -52,4 +43,4 @@ returns c =
 
 pub freed-spec : {M : Type 1} → statement M
 freed-spec =
-    tie.close (tie.spec mul-n first-other-requires div-moved mul-moved moved-requires returns)
+    tie.close (tie.spec (λ c. search needs) (λ c κs. search needs) (λ c. search needs) mul-moved moved-requires returns)

@@ -36,12 +36,6 @@ returns c =
     let s = l .before in
     (laid-end (s .args .h) (s .args .w) (s .args .a) (s .args .col .now) (s .args .p .now) (l .loop .b) (l .loop .p) (l .loop .inv .3) (c .if1 .taken), l .loop .inv .2)
 
-shared-slice-read-p : tie.Need-shared-slice-read-p Inv-loop μ-loop
-shared-slice-read-p c = omega arith
-
-add-p : tie.Need-add-p Inv-loop μ-loop
-add-p c = omega arith
-
 mul-p : tie.Need-mul-p Inv-loop μ-loop
 mul-p c =
     let l = c .before .before .before in
@@ -59,12 +53,6 @@ slice-write-p c =
     let l = c .before .before .before in
     let s = l .before in
     let i = place-within (s .args .h) (s .args .a + l .loop .b) (l .loop .b) (s .args .w) (omega arith) (omega arith) in omega arith
-
-add-b : tie.Need-add-b Inv-loop μ-loop
-add-b c = omega arith
-
-loop-less : tie.Need-loop-less Inv-loop μ-loop
-loop-less c = omega arith
 
 loop-again : tie.Need-loop-again Inv-loop μ-loop
 loop-again c =
@@ -96,13 +84,13 @@ lay-spec =
     add-if1
     same-length
     returns
-    shared-slice-read-p
-    add-p
+    (λ c. omega arith)
+    (λ c. omega arith)
     mul-p
     add-p-2
     slice-write-p
-    add-b
-    loop-less
+    (λ c. omega arith)
+    (λ c. omega arith)
     loop-again
     same-length-2
     returns-2)

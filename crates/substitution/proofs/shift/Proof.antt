@@ -38,9 +38,6 @@ look-requires c κs =
     let s = c .before .before .before .before .before .before .before .before in
     (s .pre .0, (omega arith, omega arith))
 
-mul-bit : tie.Need-mul-bit Inv-loop μ-loop
-mul-bit c = omega arith
-
 loop-less : tie.Need-loop-less Inv-loop μ-loop
 loop-less c =
     let l = c .before .before .before .before .before .before in
@@ -82,7 +79,7 @@ shift-spec =
     loop-holds
     fold-requires
     look-requires
-    mul-bit
+    (λ c. omega arith)
     loop-less
     loop-again
     same-length

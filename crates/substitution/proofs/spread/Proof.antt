@@ -39,15 +39,6 @@ add-to c =
     let i = column-within (l .loop .a) (s .args .h) (s .args .w) (omega arith) in
     omega arith
 
-slice-aggregate-lay : tie.Need-slice-aggregate-lay Inv-loop μ-loop
-slice-aggregate-lay c = search needs
-
-sub-lay : tie.Need-sub-lay Inv-loop μ-loop
-sub-lay c = search needs
-
-part-lay-start : tie.Need-part-lay-start Inv-loop μ-loop
-part-lay-start c = search needs
-
 part-lay-end : tie.Need-part-lay-end Inv-loop μ-loop
 part-lay-end c =
     let l = c .before .before in
@@ -64,12 +55,6 @@ lay-requires c κs =
     let long : length (take (s .args .h) (drop (l .loop .a * s .args .h) (s .args .p .now))) ≡ s .args .h =
     length-take-le (s .args .h) (drop (l .loop .a * s .args .h) (s .args .p .now)) (rw length-drop (omega arith)) in
     rw (e, long) (omega arith, omega arith, omega arith)
-
-add-a : tie.Need-add-a Inv-loop μ-loop
-add-a c = omega arith
-
-loop-less : tie.Need-loop-less Inv-loop μ-loop
-loop-less c = omega arith
 
 loop-again : tie.Need-loop-again Inv-loop μ-loop
 loop-again c =
@@ -101,12 +86,12 @@ spread-spec =
     loop-holds
     mul-from
     add-to
-    slice-aggregate-lay
-    sub-lay
-    part-lay-start
+    (λ c. search needs)
+    (λ c. search needs)
+    (λ c. search needs)
     part-lay-end
     lay-requires
-    add-a
-    loop-less
+    (λ c. omega arith)
+    (λ c. omega arith)
     loop-again
     returns)

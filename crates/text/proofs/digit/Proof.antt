@@ -7,17 +7,11 @@ use borrow.Author.Needs.{needs}
 use Rattle.text.proofs.digit.Statement.{statement}
 use Rattle.text.proofs.digit.Tie as tie
 
-add-result : tie.Need-add-result
-add-result c = search needs
-
 returns : tie.Need-returns
 returns c = ap (λ (b : Bool). cond b (48 + c .before .args .x % 16) (87 + c .before .args .x % 16)) (sym (lt-ltb _ _ (c .if1 .taken)))
-
-add-result-2 : tie.Need-add-result-2
-add-result-2 c = search needs
 
 returns-2 : tie.Need-returns-2
 returns-2 c = ap (λ (b : Bool). cond b (48 + c .before .args .x % 16) (87 + c .before .args .x % 16)) (sym (le-ltb _ _ (c .if1 .left)))
 
 pub digit-spec : {M : Type 1} → statement M
-digit-spec = tie.close (tie.spec add-result returns add-result-2 returns-2)
+digit-spec = tie.close (tie.spec (λ c. search needs) returns (λ c. search needs) returns-2)

@@ -11,30 +11,6 @@ use borrow.Author.Needs.{needs}
 use Rattle.text.proofs.put_row_of.Statement.{statement}
 use Rattle.text.proofs.put_row_of.Tie as tie
 
-mul-from : tie.Need-mul-from
-mul-from c = search needs
-
-add-to : tie.Need-add-to
-add-to c = search needs
-
-mul-full : tie.Need-mul-full
-mul-full c = search needs
-
-shared-slice-read-full : tie.Need-shared-slice-read-full
-shared-slice-read-full c = search needs
-
-full-requires : tie.Need-full-requires
-full-requires c κs = search needs
-
-sub-put-row : tie.Need-sub-put-row
-sub-put-row c = search needs
-
-part-put-row-start : tie.Need-part-put-row-start
-part-put-row-start c = search needs
-
-part-put-row-end : tie.Need-part-put-row-end
-part-put-row-end c = search needs
-
 put-row-requires : tie.Need-put-row-requires
 put-row-requires c κs =
     let s = c .before .before .before .before .before .before .before in
@@ -44,9 +20,6 @@ put-row-requires c κs =
     let size : s .args .k * s .args .j + s .args .k - s .args .k * s .args .j ≡ s .args .k = omega arith in
     let long : length (take (s .args .k) (drop (s .args .k * s .args .j) (s .args .rows .now))) ≡ s .args .k = length-take-le (s .args .k) (drop (s .args .k * s .args .j) (s .args .rows .now)) (rw length-drop (omega arith)) in
     rw (size, long) (omega arith)
-
-same-length : tie.Need-same-length
-same-length c = search needs
 
 returns : tie.Need-returns
 returns c =
@@ -63,14 +36,14 @@ pub put-row-of-spec : {M : Type 1} → statement M
 put-row-of-spec =
     tie.close
     (tie.spec
-    mul-from
-    add-to
-    mul-full
-    shared-slice-read-full
-    full-requires
-    sub-put-row
-    part-put-row-start
-    part-put-row-end
+    (λ c. search needs)
+    (λ c. search needs)
+    (λ c. search needs)
+    (λ c. search needs)
+    (λ c κs. search needs)
+    (λ c. search needs)
+    (λ c. search needs)
+    (λ c. search needs)
     put-row-requires
-    same-length
+    (λ c. search needs)
     returns)

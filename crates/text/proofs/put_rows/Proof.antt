@@ -27,12 +27,6 @@ put-row-of-requires c κs =
     let within = row-within (s .args .k) (l .j) (s .args .count) (length (s .args .rows .now)) (omega arith) (omega arith) in
     omega arith
 
-add-j : tie.Need-add-j Inv-loop μ-loop
-add-j c = omega arith
-
-loop-less : tie.Need-loop-less Inv-loop μ-loop
-loop-less c = omega arith
-
 loop-again : tie.Need-loop-again Inv-loop μ-loop
 loop-again c =
     let s = c .before .before .before .before .before .before .before .before .before in
@@ -62,8 +56,8 @@ put-rows-spec =
     μ-loop
     loop-holds
     put-row-of-requires
-    add-j
-    loop-less
+    (λ c. omega arith)
+    (λ c. omega arith)
     loop-again
     same-length
     returns)

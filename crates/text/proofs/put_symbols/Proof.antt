@@ -20,17 +20,8 @@ loop-holds c =
     let s = c .before .before in
     (omega arith, omega arith, text-begun (codeOn (s .args .alphabet)) (s .args .message .now) (s .args .out .now) (s .args .at))
 
-shared-slice-read-put-symbol : tie.Need-shared-slice-read-put-symbol Inv-loop μ-loop
-shared-slice-read-put-symbol c = omega arith
-
 put-symbol-requires : tie.Need-put-symbol-requires Inv-loop μ-loop
 put-symbol-requires c κs = let kept = c .before .before .before .loop .inv .2 .1 in omega arith
-
-add-j : tie.Need-add-j Inv-loop μ-loop
-add-j c = omega arith
-
-loop-less : tie.Need-loop-less Inv-loop μ-loop
-loop-less c = omega arith
 
 loop-again : tie.Need-loop-again Inv-loop μ-loop
 loop-again c =
@@ -60,10 +51,10 @@ put-symbols-spec =
     Inv-loop
     μ-loop
     loop-holds
-    shared-slice-read-put-symbol
+    (λ c. omega arith)
     put-symbol-requires
-    add-j
-    loop-less
+    (λ c. omega arith)
+    (λ c. omega arith)
     loop-again
     same-length
     returns)

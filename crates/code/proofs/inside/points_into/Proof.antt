@@ -31,21 +31,12 @@ value-at-requires c κs =
     let s = l .before .before .before .before in
     (s .pre .0, (s .pre .1 .0, point-so-far (codeOn (s .args .alphabet)) (field-on (s .args .alphabet)) (l .loop .i) (l .loop .x) (l .loop .inv .2)))
 
-slice-write-out : tie.Need-slice-write-out Inv-loop μ-loop
-slice-write-out c = omega arith
-
 look-requires : tie.Need-look-requires Inv-loop μ-loop
 look-requires c κs =
     let l = c .before .before in
     let s = l .before .before .before .before in
     let z = sized (s .args .alphabet) .least in
     (s .pre .0, (omega arith, point-so-far (codeOn (s .args .alphabet)) (field-on (s .args .alphabet)) (l .loop .i) (l .loop .x) (l .loop .inv .2)))
-
-add-i : tie.Need-add-i Inv-loop μ-loop
-add-i c = omega arith
-
-loop-less : tie.Need-loop-less Inv-loop μ-loop
-loop-less c = omega arith
 
 loop-again : tie.Need-loop-again Inv-loop μ-loop
 loop-again c =
@@ -77,10 +68,10 @@ points-into-spec =
     μ-loop
     loop-holds
     value-at-requires
-    slice-write-out
+    (λ c. omega arith)
     look-requires
-    add-i
-    loop-less
+    (λ c. omega arith)
+    (λ c. omega arith)
     loop-again
     same-length
     returns)

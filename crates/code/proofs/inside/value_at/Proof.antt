@@ -19,21 +19,12 @@ abbrev μ-loop : tie.MeasureT-loop
 loop-holds : tie.Need-loop-holds Inv-loop μ-loop
 loop-holds c = (omega arith, empty-value (codeOn (c .before .before .args .alphabet)) (c .before .before .args .x) (c .before .before .args .f .now))
 
-sub-j : tie.Need-sub-j Inv-loop μ-loop
-sub-j c = omega arith
-
-shared-slice-read-y : tie.Need-shared-slice-read-y Inv-loop μ-loop
-shared-slice-read-y c = omega arith
-
 look-requires : tie.Need-look-requires Inv-loop μ-loop
 look-requires c κs =
     let l = c .before .before in
     let s = l .before .before .before in
     let small = value-so-far (codeOn (s .args .alphabet)) (field-on (s .args .alphabet)) (s .args .x) (s .args .f .now) (l .loop .j) (l .loop .y) (s .pre .1 .1) (s .pre .1 .0) (l .loop .inv .1) in
     (s .pre .0, (s .pre .1 .1, small))
-
-loop-less : tie.Need-loop-less Inv-loop μ-loop
-loop-less c = omega arith
 
 loop-again : tie.Need-loop-again Inv-loop μ-loop
 unfolding sumOf
@@ -58,9 +49,9 @@ value-at-spec =
     Inv-loop
     μ-loop
     loop-holds
-    sub-j
-    shared-slice-read-y
+    (λ c. omega arith)
+    (λ c. omega arith)
     look-requires
-    loop-less
+    (λ c. omega arith)
     loop-again
     returns)

@@ -3,20 +3,11 @@ use borrow.Author.Needs.{needs}
 use Rattle.refusals.proofs.Checked.or.Statement.{statement}
 use Rattle.refusals.proofs.Checked.or.Tie as tie
 
-enum-known-self : tie.Need-enum-known-self
-enum-known-self c = search needs
-
-enum-told : tie.Need-enum-told
-enum-told c = search needs
-
 returns : tie.Need-returns
 returns c = rw (c .before .self .given .1)
 
 returns-2 : tie.Need-returns-2
 returns-2 c = rw (c .before .enum-told .given .1, c .if1 .taken)
 
-returns-3 : tie.Need-returns-3
-returns-3 c = search needs
-
 pub or-spec : {M : Type 1} → statement M
-or-spec = tie.close (tie.spec enum-known-self enum-told returns returns-2 returns-3)
+or-spec = tie.close (tie.spec (λ c. search needs) (λ c. search needs) returns returns-2 (λ c. search needs))

@@ -8,16 +8,10 @@ use borrow.Author.Needs.{needs}
 use Rattle.refusals.proofs.Checked.room.Statement.{statement}
 use Rattle.refusals.proofs.Checked.room.Tie as tie
 
-div-or : tie.Need-div-or
-div-or c = search needs
-
-or-requires : tie.Need-or-requires
-or-requires c κs = search needs
-
 returns : tie.Need-returns
 returns c =
     let a = c .before .args in
     c .or .ensures ∙ ap (λ (b : Bool). orLine (toldChecked (a .self)) (line 4 b)) (short-product (a .given) (a .each) (a .many) (c .before .pre))
 
 pub room-spec : {M : Type 1} → statement M
-room-spec = tie.close (tie.spec div-or or-requires returns)
+room-spec = tie.close (tie.spec (λ c. search needs) (λ c κs. search needs) returns)

@@ -21,20 +21,11 @@ Inv-loop coefficients degree v p₀ h j₀ d₀ p j d = (d ≤ degree + 1) × (l
 abbrev μ-loop : tie.MeasureT-loop
 μ-loop coefficients degree v p₀ h j₀ d₀ p j d = degree + 1 - d
 
-div-h : tie.Need-div-h Inv-loop μ-loop
-div-h c = omega arith
-
-add-h : tie.Need-add-h Inv-loop μ-loop
-add-h c = omega arith
-
 loop-holds : tie.Need-loop-holds Inv-loop μ-loop
 unfolding zeros
 loop-holds c =
     let s = c .before in
     (omega arith, refl, none-lower (s .args .v), λ w. load-none (codeOn w) (s .args .v) (s .pre .0 .0) (s .args .degree) (s .args .coefficients .now) (s .pre .1) (s .args .degree / s .args .v + 1) (zeros places))
-
-slice-aggregate-load-degree : tie.Need-slice-aggregate-load-degree Inv-loop μ-loop
-slice-aggregate-load-degree c = omega arith
 
 load-degree-requires : tie.Need-load-degree-requires Inv-loop μ-loop
 load-degree-requires c κs =
@@ -44,9 +35,6 @@ load-degree-requires c κs =
     let wide : (l .loop .d + 1) * (s .args .degree / s .args .v + 1) ≤ (s .args .degree + 1) * (s .args .degree / s .args .v + 1) = mul-le-mul-right (s .args .degree / s .args .v + 1) (omega arith) in
     let there = degree-within (s .args .v) (s .pre .0 .0) (s .args .degree) (s .args .coefficients .now) (s .pre .1) (l .loop .d) (omega arith) in
     ((s .pre .0 .0, omega arith, omega arith), omega arith)
-
-div-j : tie.Need-div-j Inv-loop μ-loop
-div-j c = omega arith
 
 add-j : tie.Need-add-j Inv-loop μ-loop
 add-j c =
@@ -61,12 +49,6 @@ add-j-2 c =
     let s = l .before .before in
     let there = degree-within (s .args .v) (s .pre .0 .0) (s .args .degree) (s .args .coefficients .now) (s .pre .1) (l .loop .d) (omega arith) in
     omega arith
-
-add-d : tie.Need-add-d Inv-loop μ-loop
-add-d c = omega arith
-
-loop-less : tie.Need-loop-less Inv-loop μ-loop
-loop-less c = omega arith
 
 loop-again : tie.Need-loop-again Inv-loop μ-loop
 loop-again c =
@@ -87,15 +69,15 @@ load-spec =
     (tie.spec
     Inv-loop
     μ-loop
-    div-h
-    add-h
+    (λ c. omega arith)
+    (λ c. omega arith)
     loop-holds
-    slice-aggregate-load-degree
+    (λ c. omega arith)
     load-degree-requires
-    div-j
+    (λ c. omega arith)
     add-j
     add-j-2
-    add-d
-    loop-less
+    (λ c. omega arith)
+    (λ c. omega arith)
     loop-again
     returns)

@@ -20,15 +20,6 @@ abbrev μ-loop : tie.MeasureT-loop
 loop-holds : tie.Need-loop-holds Inv-loop μ-loop
 loop-holds c = (omega arith, refl, λ w. degree-none (codeOn w) (c .args .h) (c .args .v) (c .args .d) (c .args .j) (c .args .coefficients .now) (c .args .p .now))
 
-div-loop : tie.Need-div-loop Inv-loop μ-loop
-div-loop c = omega arith
-
-add-p : tie.Need-add-p Inv-loop μ-loop
-add-p c = omega arith
-
-shared-slice-read-p : tie.Need-shared-slice-read-p Inv-loop μ-loop
-shared-slice-read-p c = omega arith
-
 mul-p : tie.Need-mul-p Inv-loop μ-loop
 mul-p c =
     let l = c .before .before in
@@ -67,12 +58,6 @@ slice-write-p c =
     let i = place-within (s .args .h) (s .args .d - s .args .v * l .loop .b) (l .loop .b) (s .args .d + 1) (omega arith) (omega arith) in
     omega arith
 
-add-b : tie.Need-add-b Inv-loop μ-loop
-add-b c = omega arith
-
-loop-less : tie.Need-loop-less Inv-loop μ-loop
-loop-less c = omega arith
-
 loop-again : tie.Need-loop-again Inv-loop μ-loop
 loop-again c =
     let l = c .before .before in
@@ -100,16 +85,16 @@ load-degree-spec =
     Inv-loop
     μ-loop
     loop-holds
-    div-loop
-    add-p
-    shared-slice-read-p
+    (λ c. omega arith)
+    (λ c. omega arith)
+    (λ c. omega arith)
     mul-p
     sub-p
     mul-p-2
     add-p-2
     slice-write-p
-    add-b
-    loop-less
+    (λ c. omega arith)
+    (λ c. omega arith)
     loop-again
     same-length
     returns)

@@ -20,24 +20,6 @@ abbrev μ-loop : tie.MeasureT-loop
 loop-holds : tie.Need-loop-holds Inv-loop μ-loop
 loop-holds c = (omega arith, refl, refl)
 
-mul-multiplicity-of : tie.Need-mul-multiplicity-of Inv-loop μ-loop
-mul-multiplicity-of c = omega arith
-
-shared-slice-read-multiplicity-of : tie.Need-shared-slice-read-multiplicity-of Inv-loop μ-loop
-shared-slice-read-multiplicity-of c = omega arith
-
-multiplicity-of-requires : tie.Need-multiplicity-of-requires Inv-loop μ-loop
-multiplicity-of-requires c κs = search needs
-
-slice-write-out : tie.Need-slice-write-out Inv-loop μ-loop
-slice-write-out c = omega arith
-
-add-i : tie.Need-add-i Inv-loop μ-loop
-add-i c = omega arith
-
-loop-less : tie.Need-loop-less Inv-loop μ-loop
-loop-less c = omega arith
-
 loop-again : tie.Need-loop-again Inv-loop μ-loop
 loop-again c =
     let l = c .before .before .before in
@@ -48,9 +30,6 @@ loop-again c =
       multiplicity-more (s .args .level) (s .args .reliabilities .now) (s .args .out .now) (l .loop .out) (l .loop .i) (c .multiplicity-of .result) more
           (omega arith) (l .loop .inv .2) (c .multiplicity-of .ensures),
     )
-
-same-length : tie.Need-same-length Inv-loop μ-loop
-same-length c = omega arith
 
 returns : tie.Need-returns Inv-loop μ-loop
 returns c =
@@ -67,12 +46,12 @@ multiplicities-into-spec =
     Inv-loop
     μ-loop
     loop-holds
-    mul-multiplicity-of
-    shared-slice-read-multiplicity-of
-    multiplicity-of-requires
-    slice-write-out
-    add-i
-    loop-less
+    (λ c. omega arith)
+    (λ c. omega arith)
+    (λ c κs. search needs)
+    (λ c. omega arith)
+    (λ c. omega arith)
+    (λ c. omega arith)
     loop-again
-    same-length
+    (λ c. omega arith)
     returns)

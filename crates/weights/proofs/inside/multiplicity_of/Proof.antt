@@ -7,9 +7,6 @@ use borrow.Author.Needs.{needs}
 use Rattle.weights.proofs.inside.multiplicity_of.Statement.{statement}
 use Rattle.weights.proofs.inside.multiplicity_of.Tie as tie
 
-long-requires : tie.Need-long-requires
-long-requires c κs = search needs
-
 mul-result : tie.Need-mul-result
 mul-result c = let fits = level-fits (c .before .args .level) (c .long .result) (c .before .pre) (c .long .ensures .1) in omega arith
 
@@ -20,4 +17,4 @@ returns : tie.Need-returns
 returns c = ap (multiplicity (c .before .args .level)) (c .long .ensures .0)
 
 pub multiplicity-of-spec : {M : Type 1} → statement M
-multiplicity-of-spec = tie.close (tie.spec long-requires mul-result cast-result returns)
+multiplicity-of-spec = tie.close (tie.spec (λ c κs. search needs) mul-result cast-result returns)
