@@ -39,7 +39,7 @@ fn print_plan(plan: &[u8], steps: usize) -> Result<(), Refusal> {
 
 fn print_list(reliabilities: &Reliabilities, plan: &[u8]) {
     match list_of_plan(SIZES, LIMIT, STEPS, reliabilities, plan) {
-        Err(refusal) => println!("{refusal}"),
+        Err(refusal) => println!("refused {} at {}", refusal.number(), refusal.place()),
         Ok(listed) => {
             println!("listed {}", listed.rows.len());
             for row in listed.rows {
