@@ -14,6 +14,7 @@ mod list;
 pub mod monomials;
 pub mod points;
 mod roots;
+mod shift;
 mod straight;
 mod substitution;
 
