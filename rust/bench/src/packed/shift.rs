@@ -1,20 +1,23 @@
 //! A symbol added to y.
 
 use super::field::square;
-use super::lanes::{masks, scaled};
+use super::lanes::{add, masks, scaled};
+
+/// Adds each row whose power has the bit, times the factor, to that of the power without it.
+fn shift_bit<const WORDS: usize>(rows: &mut [[u64; WORDS]], bit: usize, factor: usize) {
+    let masks = masks(factor);
+    for b in (0..rows.len()).filter(|b| b & bit != 0) {
+        let more = rows[b].map(|word| scaled(word, &masks));
+        add(&mut rows[b ^ bit], &more);
+    }
+}
 
 /// Row b becomes that of y^b where y + symbol is put for y.
 pub fn shift<const WORDS: usize>(rows: &mut [[u64; WORDS]], symbol: usize) {
-    let mut of_bit = symbol;
-    let mut bit = 1;
+    let (mut bit, mut factor) = (1, symbol);
     while bit < rows.len() {
-        let masks = masks(of_bit);
-        for b in (0..rows.len()).filter(|b| b & bit != 0) {
-            for word in 0..WORDS {
-                rows[b ^ bit][word] ^= scaled(rows[b][word], &masks);
-            }
-        }
-        of_bit = square(of_bit);
+        shift_bit(rows, bit, factor);
+        factor = square(factor);
         bit *= 2;
     }
 }
