@@ -1,11 +1,11 @@
 //! Lists the tickets of a tag of four marks, the last of them wrong.
 
-use kv::{list_of_reliabilities, Refusal, Settings, Sizes, GREATEST_LIMIT, SYMBOLS, WHOLE};
+use kv::{list_of_reliabilities, Refusal, Settings, Sizes, LIMIT, SYMBOLS, WHOLE};
 
 const SIZES: Sizes = Sizes { n: 4, k: 2 };
 const SETTINGS: Settings = Settings {
     level: 1,
-    limit: GREATEST_LIMIT,
+    limit: LIMIT,
 };
 
 fn main() -> Result<(), Refusal> {

@@ -2,13 +2,13 @@
 
 use kv::{
     judge_both, list_of_reliabilities, open_both, Listed, Photograph, Refusal, Settings, Sizes,
-    Verdict, GREATEST_LIMIT, SYMBOLS, WHOLE,
+    Verdict, LIMIT, SYMBOLS, WHOLE,
 };
 
 const SIZES: Sizes = Sizes { n: 6, k: 2 };
 const SETTINGS: Settings = Settings {
     level: 4,
-    limit: GREATEST_LIMIT,
+    limit: LIMIT,
 };
 const LEAD: usize = 4;
 

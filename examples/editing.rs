@@ -1,6 +1,6 @@
 //! Corrects a mark of a tag by hand, and lists its tickets before and after.
 
-use kv::{multiplicities, Matrix, Refusal, GREATEST_LIMIT, SYMBOLS, WHOLE};
+use kv::{multiplicities, Matrix, Refusal, LIMIT, SYMBOLS, WHOLE};
 
 const N: usize = 6;
 const K: usize = 2;
@@ -23,7 +23,7 @@ fn correct(matrix: &mut Matrix, position: usize, mark: usize) -> Result<(), Refu
 }
 
 fn print_list(matrix: &Matrix) -> Result<(), Refusal> {
-    let listed = matrix.list(K, GREATEST_LIMIT)?;
+    let listed = matrix.list(K, LIMIT)?;
     println!("cost {}, listed {}", matrix.cost, listed.rows.len());
     for row in listed.rows {
         println!(

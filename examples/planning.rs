@@ -1,6 +1,6 @@
 //! Plans the multiplicities of a tag, checks the plan and lists it; another plan is refused.
 
-use kv::{check_plan, cost_and_bound, list_of_plan, plan, Refusal, Sizes, GREATEST_LIMIT, SYMBOLS};
+use kv::{check_plan, cost_and_bound, list_of_plan, plan, Refusal, Sizes, LIMIT, SYMBOLS};
 
 const SIZES: Sizes = Sizes { n: 6, k: 2 };
 const STEPS: usize = 12;
@@ -38,8 +38,8 @@ fn print_plan(plan: &[u8], steps: usize) -> Result<(), Refusal> {
 }
 
 fn print_list(reliabilities: &Reliabilities, plan: &[u8]) {
-    match list_of_plan(SIZES, GREATEST_LIMIT, STEPS, reliabilities, plan) {
-        Err(refusal) => println!("{refusal}"),
+    match list_of_plan(SIZES, LIMIT, STEPS, reliabilities, plan) {
+        Err(refusal) => println!("refused {} at {}", refusal.number(), refusal.place()),
         Ok(listed) => {
             println!("listed {}", listed.rows.len());
             for row in listed.rows {

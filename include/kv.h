@@ -6,7 +6,7 @@
  *
  * What the caller owes: a pointer and its length are memory that is there, aligned for its type and
  * not changed by others during the call; lent output overlaps no input and no other output. Where a
- * length is 0 nothing is read or written.
+ * length is 0 nothing is read or written, and its pointer may be NULL.
  *
  * Inputs are never changed, but for a record that is edited. A refused call changes no lent memory:
  * it answers its number, its place, and 0 in every other field. The place is 0 unless an entry below
@@ -27,6 +27,30 @@
 extern "C" {
 #endif
 
+/* The version, as kv.pc has it. KV_VERSION is one number to compare: that of 0.1.0 is 100. */
+#define KV_VERSION_MAJOR 0
+#define KV_VERSION_MINOR 1
+#define KV_VERSION_PATCH 0
+#define KV_VERSION (10000 * KV_VERSION_MAJOR + 100 * KV_VERSION_MINOR + KV_VERSION_PATCH)
+
+/*
+ * What the number of an answer says; each entry tells which it gives, and when. Other numbers may
+ * come with later versions, and are refusals too.
+ */
+enum {
+    KV_ACCEPTED = 0, /* the call is not refused */
+    KV_SIZES = 1,    /* n, k, a position or a symbol is out of range, or records differ in n */
+    KV_SETTING = 2,  /* level, limit, steps, degree or lead are out of range, or settings differ */
+    KV_LENGTH = 3,   /* an input has a wrong length, rows are no list, a record is wrongly held */
+    KV_ROOM = 4,     /* lent output is too short */
+    KV_SYMBOL = 5,   /* a symbol or coefficient is above 15, or a multiplicity above KV_LEVEL */
+    KV_COLUMN = 6,   /* the reliabilities of a position sum to more than KV_WHOLE */
+    KV_COST = 7,     /* the matrix costs more than the limit */
+    KV_ZERO = 8,     /* 0 has no inverse, or all coefficients are 0 */
+    KV_PLAN = 9      /* the plan is another than kv_plan writes */
+};
+
+/* The limits. */
 enum {
     KV_SYMBOLS = 16,       /* so many symbols there are */
     KV_POSITIONS = 15,     /* the most positions */
@@ -36,7 +60,7 @@ enum {
     KV_LIMIT = 225,        /* the greatest limit on a matrix's cost */
     KV_STEPS = 75,         /* the most steps that a plan is asked for */
     KV_COEFFICIENTS = 246, /* the room that kv_interpolate asks for */
-    KV_MONOMIALS = 256,    /* the most coefficients that kv_roots takes */
+    KV_MONOMIALS = 256,    /* the most monomials, each with its coefficient, that kv_roots takes */
     KV_ROWS = 20           /* the most rows of a list, and the room that it asks for */
 };
 

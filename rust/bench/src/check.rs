@@ -2,7 +2,7 @@
 
 use crate::baseline;
 use crate::matrices::{worn_tag, worn_weights, wrong_word};
-use crate::programs::{Polynomial, PACKED, PLAIN, ROW_AT_A_TIME, SECOND};
+use crate::programs::{Polynomial, PACKED, PLAIN, SECOND};
 use second::bound::{GREATEST_LIMIT, GREATEST_MULTIPLICITY};
 use second::code::{LEAST_SIZE, MOST_POSITIONS};
 use second::plan::{ruled, GREATEST_STEPS};
@@ -24,7 +24,7 @@ fn compare_roots(k: usize, matrix: &[u8], polynomial: &Polynomial) {
 }
 
 fn compare(k: usize, matrix: &[u8]) {
-    let (polynomial, _) = SECOND.agrees_with(&[PLAIN, ROW_AT_A_TIME, PACKED], k, matrix);
+    let (polynomial, _) = SECOND.agrees_with(&[PLAIN, PACKED], k, matrix);
     compare_roots(k, matrix, &polynomial);
 }
 
@@ -71,5 +71,5 @@ pub fn check() {
             }
         }
     }
-    println!("checked: {cases} matrices and {plans} plans, all Rust programs and the second program equal");
+    println!("checked: {cases} matrices and {plans} plans, both Rust programs and the second program equal");
 }

@@ -1,7 +1,7 @@
 //! Times the proved library against the same algorithm in plain Rust and against the same method in
-//! Rust packed by hand, a row at a time and sixteen pivots at a time, on the same matrices, in
-//! turns. With `--check` nothing is timed, and all three are compared with the second program. With
-//! `--against` two builds of the library are timed against each other.
+//! Rust packed by hand, on the same matrices, in turns. With `--check` nothing is timed, and both
+//! Rust programs are compared with the second program. With `--against` two builds of the library
+//! are timed against each other.
 
 mod against;
 mod baseline;
@@ -13,7 +13,6 @@ mod packed;
 mod parts;
 mod plans;
 mod programs;
-mod row_at_a_time;
 #[allow(unsafe_code)]
 mod shared;
 mod timing;

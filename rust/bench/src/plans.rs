@@ -4,49 +4,38 @@ use crate::baseline;
 use crate::turns::{in_turns, timed};
 use crate::workloads::{weights, K, N};
 use kv::lent;
-use kv::{ENTRIES, GREATEST_LIMIT, GREATEST_STEPS, POSITIONS, ROWS};
+use kv::{ENTRIES, LIMIT, POSITIONS, ROWS, STEPS};
 use second::plan::ruled;
 
 type Plan = (usize, [u8; ENTRIES]);
 
 fn proved(reliabilities: &[u16]) -> Plan {
     let mut plan = [0; ENTRIES];
-    let answer = lent::plan(N, GREATEST_STEPS, reliabilities, &mut plan);
+    let answer = lent::plan(N, STEPS, reliabilities, &mut plan);
     (answer.value.into(), plan)
 }
 
 fn plain(reliabilities: &[u16]) -> Plan {
     let mut plan = [0; ENTRIES];
-    let steps = baseline::plan(GREATEST_STEPS, reliabilities, &mut plan);
+    let steps = baseline::plan(STEPS, reliabilities, &mut plan);
     (steps, plan)
 }
 
 fn list_of_plan(reliabilities: &[u16], plan: &[u8]) -> u16 {
     let (mut rows, mut scores) = ([0; ROWS * POSITIONS], [0; ROWS]);
-    let steps = GREATEST_STEPS;
     let (rows, scores) = (&mut rows, &mut scores);
-    lent::list_of_plan(
-        N,
-        K,
-        GREATEST_LIMIT,
-        steps,
-        reliabilities,
-        plan,
-        rows,
-        scores,
-    )
-    .count
+    lent::list_of_plan(N, K, LIMIT, STEPS, reliabilities, plan, rows, scores).count
 }
 
 fn list(plan: &[u8]) -> u16 {
     let (mut rows, mut scores) = ([0; ROWS * POSITIONS], [0; ROWS]);
-    lent::list_of_multiplicities(N, K, GREATEST_LIMIT, plan, &mut rows, &mut scores).count
+    lent::list_of_multiplicities(N, K, LIMIT, plan, &mut rows, &mut scores).count
 }
 
 /// Ends the run unless both programs plan what the second program does.
 fn compare(inputs: &[(Vec<u16>, Plan)]) {
     for (reliabilities, plan) in inputs {
-        let ruled = ruled(GREATEST_STEPS, reliabilities);
+        let ruled = ruled(STEPS, reliabilities);
         assert_eq!((plan.0, &plan.1[..]), (ruled.steps, &ruled.entries[..]));
         assert_eq!(plain(reliabilities), *plan, "plain Rust plans otherwise");
     }
@@ -78,7 +67,7 @@ fn print_times_of(name: &str, weights: Vec<Vec<u16>>) {
 
 pub fn print_times() {
     println!(
-        "\n| a plan of {GREATEST_STEPS} steps | steps done | proved | plain Rust | proved / plain \
+        "\n| a plan of {STEPS} steps | steps done | proved | plain Rust | proved / plain \
          | list of the plan | list of its matrix |"
     );
     println!("|---|---|---|---|---|---|---|");

@@ -2,7 +2,6 @@
 
 use crate::baseline;
 use crate::packed;
-use crate::row_at_a_time;
 use second::bound::GREATEST_LIMIT;
 use second::code::MOST_POSITIONS;
 use second::field::SYMBOLS;
@@ -118,20 +117,11 @@ pub const PLAIN: Program = Program {
     list: baseline::list,
 };
 
-/// A program that makes the polynomial in its own way, and the list of it by the packed roots.
-macro_rules! packed {
-    ($name:literal, $polynomial:path) => {
-        Program {
-            name: $name,
-            interpolate: |k, matrix, out| {
-                let bound = $polynomial(k - 1, matrix, out);
-                (bound.degree, bound.count)
-            },
-            list: |k, matrix, rows, scores| packed::list($polynomial, k, matrix, rows, scores),
-        }
-    };
-}
-
-pub const ROW_AT_A_TIME: Program = packed!("packed, a row at a time", row_at_a_time::polynomial);
-
-pub const PACKED: Program = packed!("packed Rust", packed::polynomial);
+pub const PACKED: Program = Program {
+    name: "packed Rust",
+    interpolate: |k, matrix, out| {
+        let bound = packed::polynomial(k - 1, matrix, out);
+        (bound.degree, bound.count)
+    },
+    list: packed::list,
+};

@@ -3,12 +3,12 @@
 use crate::edits;
 use crate::parts::{plain_parts, proved_parts};
 use crate::plans;
-use crate::programs::{Program, PACKED, PLAIN, PROVED, ROW_AT_A_TIME};
+use crate::programs::{Program, PACKED, PLAIN, PROVED};
 use crate::turns::{in_turns, timed, ROUNDS};
 use crate::workloads::{workloads, Workload, K, N};
 use std::time::Duration;
 
-const PROGRAMS: [Program; 4] = [PROVED, PLAIN, ROW_AT_A_TIME, PACKED];
+const PROGRAMS: [Program; 3] = [PROVED, PLAIN, PACKED];
 
 /// Compares the results of all programs, and says how many rows they list.
 fn compare(Workload { name, matrices }: &Workload) {
@@ -44,10 +44,9 @@ pub fn time() {
     println!("n {N}, k {K}, medians of {ROUNDS} rounds");
     workloads.iter().for_each(compare);
     println!(
-        "\n| matrices | | proved | plain Rust | packed, a row at a time | packed Rust \
-         | proved / plain | proved / a row at a time | proved / packed |"
+        "\n| matrices | | proved | plain Rust | packed Rust | proved / plain | proved / packed |"
     );
-    println!("|---|---|---|---|---|---|---|---|---|");
+    println!("|---|---|---|---|---|---|---|");
     workloads.iter().for_each(time_programs);
     println!("\n| a list's time, proved | list | interpolation | roots | ranking and checks |");
     println!("|---|---|---|---|---|");

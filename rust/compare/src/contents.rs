@@ -12,6 +12,14 @@ pub const BAD_MULTIPLICITIES: [u8; 2] = [GREATEST_MULTIPLICITY + 1, u8::MAX];
 /// Up to this length a second fault is put into every later place.
 const SHORT: usize = 16;
 
+pub fn any_multiplicity(random: &mut Random) -> u8 {
+    random.between(0, GREATEST_MULTIPLICITY.into()) as u8
+}
+
+pub fn bad_multiplicity(random: &mut Random) -> u8 {
+    BAD_MULTIPLICITIES[random.between(0, BAD_MULTIPLICITIES.len() - 1)]
+}
+
 /// The entries of field arithmetic are called with everything there is.
 pub const OPERANDS: Input = Input {
     contents: |_, _| Vec::new(),

@@ -1,19 +1,15 @@
-//! What the documents say of single numbers, asked of the proved library and of the second program:
-//! a misreading that both share would not show in a comparison.
+//! What the documents say of single numbers.
 
 use crate::call::Call;
-use crate::columns::{columns, GREATEST_SUM};
+use crate::columns::GREATEST_SUM;
 use crate::entry::{Entry, Program};
+use crate::lines::{hold, Line};
 use crate::{cost_and_bound, encode, field, multiplicities};
-use kv::lent::Answer;
-use second::bound::GREATEST_LIMIT;
 use second::field::{ALPHA, SYMBOLS};
-use second::list::MOST_ROWS;
 use std::process::exit;
-use tags::{hard_word, Random};
+use tags::hard_word;
 
 const LEAST_LINES: usize = 49;
-const SEED: u64 = 9;
 
 const POWERS_OF_ALPHA: [u16; 16] = [1, 2, 4, 8, 3, 6, 12, 11, 5, 10, 7, 14, 15, 13, 9, 1];
 const PRODUCTS: [(u8, u8, u16); 2] = [(3, 5, 15), (7, 7, 6)];
@@ -32,17 +28,6 @@ const MULTIPLICITIES: [(usize, u16, u16); 11] = [
     (5, 4095, 4),
     (5, 4096, 5),
 ];
-/// What a column sums to, and the number of the refusal: document 02, order 1.
-const SUMS: [(usize, u16); 8] = [
-    (0, 0),
-    (1, 0),
-    (4_093, 0),
-    (4_095, 0),
-    (4_096, 0),
-    (4_097, 6),
-    (69_632, 6),
-    (1_048_560, 6),
-];
 /// A word, its multiplicity at each of its symbols, k, the cost and the bound.
 const COSTS_AND_BOUNDS: [(&[u8], u8, usize, u16, u16); 7] = [
     (&[1, 1, 1], 1, 2, 3, 2),
@@ -53,29 +38,6 @@ const COSTS_AND_BOUNDS: [(&[u8], u8, usize, u16, u16); 7] = [
     (&[1; 15], 5, 7, 225, 49),
     (&[1; 15], 5, 2, 225, 20),
 ];
-
-/// What the documents have written, and what a program answered.
-pub struct Line {
-    pub text: String,
-    pub written: Vec<u16>,
-    pub answered: Vec<u16>,
-}
-
-/// A call, by the number and the place of its refusal and by what else it is to tell.
-pub fn told_line(
-    program: Program,
-    entry: &Entry,
-    call: &Call,
-    written: [u16; 3],
-    told: fn(&Answer) -> u16,
-) -> Line {
-    let answer = entry.outcome(program, call).answer;
-    Line {
-        text: format!("{} of {call:?}", entry.name),
-        written: written.to_vec(),
-        answered: vec![answer.number, answer.place, told(&answer)],
-    }
-}
 
 fn field_lines(program: Program) -> Vec<Line> {
     let value = |entry: &Entry, operands: &[u8]| {
@@ -150,29 +112,6 @@ fn matrix_at(level: usize, program: Program, weights: &[u16], entries: usize) ->
     outcome.numbers(&[], entries)
 }
 
-/// Of an entry that takes reliabilities: between two whole columns, which sums are taken.
-pub fn sum_lines(entry: &Entry, program: Program) -> Vec<Line> {
-    let mut random = Random::new(SEED);
-    let line = |(sum, number): (usize, u16)| {
-        let weights = columns(&mut random, &[GREATEST_SUM, sum, GREATEST_SUM]);
-        let call = Call {
-            level: 1,
-            limit: GREATEST_LIMIT,
-            room: weights.len(),
-            room_for_scores: MOST_ROWS,
-            reliabilities: weights,
-            ..Call::of_sizes(3, 2)
-        };
-        let answer = entry.outcome(program, &call).answer;
-        Line {
-            text: format!("a column at position 1 that sums to {sum}"),
-            written: vec![number, u16::from(number != 0)],
-            answered: vec![answer.number, answer.place],
-        }
-    };
-    SUMS.map(line).into()
-}
-
 fn cost_and_bound_line(
     program: Program,
     (word, m, k, cost, bound): (&[u8], u8, usize, u16, u16),
@@ -196,25 +135,6 @@ fn lines(program: Program) -> Vec<Line> {
     lines.extend(MULTIPLICITIES.map(|line| alone_line(program, line)));
     lines.extend(COSTS_AND_BOUNDS.map(|line| cost_and_bound_line(program, line)));
     lines
-}
-
-fn hold_for(entries: &str, program: &str, lines: &[Line]) {
-    if let Some(line) = lines.iter().find(|line| line.answered != line.written) {
-        eprintln!("{program}: {}", line.text);
-        eprintln!("written: {:?}", line.written);
-        eprintln!("answered: {:?}", line.answered);
-        exit(1);
-    }
-    println!(
-        "compared {entries}, {program}: {} lines of the documents hold",
-        lines.len()
-    );
-}
-
-/// Ends the run unless all lines about some entries hold.
-pub fn hold(entries: &str, lines: impl Fn(Program) -> Vec<Line>) {
-    hold_for(entries, "proved library", &lines(Program::Proved));
-    hold_for(entries, "second program", &lines(Program::Second));
 }
 
 pub fn compare() {

@@ -1,9 +1,9 @@
 use crate::call::Call;
 use crate::comparison::Comparison;
 use crate::contents::MATRIX;
-use crate::edges::{hold, Line};
 use crate::entry::{Entry, Program};
 use crate::faults::{length, room, Choice, LIMIT};
+use crate::lines::{hold, Line};
 use crate::sizes::{looks_like, with_entry, Sizes};
 use second::bound::{cost, GREATEST_LIMIT, GREATEST_MULTIPLICITY};
 use second::field::SYMBOLS;

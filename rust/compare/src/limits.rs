@@ -2,9 +2,9 @@
 //! them is not asked.
 
 use crate::call::Call;
-use crate::edges::{hold, Line};
 use crate::edited::{COST_AND_BOUND, INTERPOLATE, LIST};
 use crate::entry::{Entry, Program};
+use crate::lines::{hold, Line};
 use crate::planned::{CHECK_PLAN, LIST_OF_PLAN, MATRIX_CHECK_PLAN, MATRIX_LIST_OF_PLAN, PLAN};
 use crate::record::Record;
 use crate::{

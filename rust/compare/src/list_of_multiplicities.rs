@@ -1,9 +1,9 @@
 use crate::call::Call;
 use crate::comparison::Comparison;
 use crate::contents::MATRIX;
-use crate::edges::hold;
 use crate::entry::Entry;
 use crate::faults::{length, LIMIT, ROOM_FOR_ROWS, ROOM_FOR_SCORES};
+use crate::lines::hold;
 use crate::lists::{bound, lines, score, with_room, Seen};
 use crate::sizes::{looks_like, with_entry, Sizes};
 use second::bound::{cost, GREATEST_LIMIT, GREATEST_MULTIPLICITY};

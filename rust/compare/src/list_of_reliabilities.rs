@@ -1,11 +1,12 @@
 use crate::call::Call;
 use crate::columns::RELIABILITIES;
 use crate::comparison::Comparison;
-use crate::edges::{hold, sum_lines};
 use crate::entry::Entry;
 use crate::faults::{length, Made, LEVEL, LIMIT, ROOM_FOR_ROWS, ROOM_FOR_SCORES};
+use crate::lines::hold;
 use crate::lists::{lines, with_room, Seen};
 use crate::sizes::{looks_like, Sizes};
+use crate::sums::sum_lines;
 use kv::Refusal;
 use second::bound::{cost, GREATEST_LIMIT};
 use second::field::SYMBOLS;

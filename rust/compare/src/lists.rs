@@ -1,8 +1,8 @@
 //! What the comparisons of both list entries share.
 
 use crate::call::Call;
-use crate::edges::Line;
 use crate::entry::{Entry, Program};
+use crate::lines::Line;
 use crate::tally::{suffices, Named};
 use kv::lent::Answer;
 use second::bound::{cost_and_bound, cost_of_entry, GREATEST_LIMIT};

@@ -16,6 +16,7 @@ mod field;
 mod interpolation;
 mod lent;
 mod limits;
+mod lines;
 mod list_of_multiplicities;
 mod list_of_reliabilities;
 mod lists;
@@ -25,6 +26,7 @@ mod planted;
 mod record;
 mod roots;
 mod sizes;
+mod sums;
 mod tally;
 
 use std::sync::atomic::{AtomicUsize, Ordering};

@@ -1,10 +1,11 @@
 use crate::call::Call;
 use crate::columns::{columns, good_sums, GOOD_SUMS, GREATEST_SUM, RELIABILITIES};
 use crate::comparison::Comparison;
-use crate::edges::{hold, sum_lines};
 use crate::entry::Entry;
 use crate::faults::{length, room, Choice, LEVEL};
+use crate::lines::hold;
 use crate::sizes::{huge_sizes, looks_like, with_entry, Sizes};
+use crate::sums::sum_lines;
 use second::code::{LEAST_SIZE, MOST_POSITIONS};
 use second::field::SYMBOLS;
 use second::weights::{GREATEST_LEVEL, LEAST_LEVEL};

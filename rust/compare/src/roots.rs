@@ -1,9 +1,9 @@
 use crate::call::Call;
 use crate::comparison::Comparison;
 use crate::contents::COEFFICIENTS;
-use crate::edges::{hold, Line};
 use crate::entry::{Entry, Program};
 use crate::faults::{length, room, Choice};
+use crate::lines::{hold, Line};
 use crate::planted::{greatest_degree, grid, in_order, message, monomials, planted, times_y_plus};
 use crate::sizes::{huge_sizes, looks_like, Sizes};
 use kv::Refusal;

@@ -1,7 +1,8 @@
 //! What the counter does with the lists of one photograph of a tag, or of two.
 
 use crate::lent::{self, Judgement};
-use crate::{Refusal, Sizes};
+use crate::photograph::Photograph;
+use crate::refusal::Refusal;
 
 /// What the counter does.
 #[derive(Clone, Copy, Debug, PartialEq, Eq)]
@@ -23,19 +24,6 @@ impl Verdict {
             _ => Verdict::Nothing,
         })
     }
-}
-
-/// The list of one photograph of a tag, and how it was read.
-#[derive(Clone, Copy, Debug, PartialEq, Eq)]
-pub struct Photograph<'a> {
-    /// The sizes of the code.
-    pub sizes: Sizes,
-    /// The level of the reliabilities.
-    pub level: usize,
-    /// The messages, k symbols each, one after the other.
-    pub rows: &'a [u8],
-    /// The score of each message.
-    pub scores: &'a [u16],
 }
 
 /// The verdict on one list: [`Verdict::Nothing`] where there are no rows; [`Verdict::Open`] where
@@ -90,10 +78,10 @@ fn part<'a>(answer: Judgement, rows: &'a [u8], others: &'a [u8]) -> &'a [u8] {
 /// first messages differ; else what [`judge`] answers for the first list, or for the second where
 /// the first has no rows.
 ///
-/// Refused with [`Refusal::Sizes`] for either list, [`Refusal::Setting`] where either level is not 1
-/// to [`GREATEST_LEVEL`](crate::GREATEST_LEVEL), the lead is 0, or sizes or levels differ,
-/// [`Refusal::Length`] where [`judge`] so refuses either list, [`Refusal::Symbol`] where a symbol is
-/// above 15; the indexes of the second list run on after the first's last.
+/// Refused with [`Refusal::Sizes`] for either list, [`Refusal::Setting`] where either level is not
+/// 1 to [`LEVEL`](crate::LEVEL), the lead is 0, or sizes or levels differ, [`Refusal::Length`]
+/// where [`judge`] so refuses either list, [`Refusal::Symbol`] where a symbol is above 15; the
+/// indexes of the second list run on after the first's last.
 ///
 /// ```
 /// use kv::{judge_both, Photograph, Refusal, Sizes, Verdict};

@@ -15,12 +15,14 @@
 //! assert_eq!(codeword, [1, 2, 4, 255]);
 //! ```
 
+use crate::archive;
 pub use crate::archive::{
     check_plan, cost_and_bound, encode, interpolate, inverse, judge, list_of_multiplicities,
     list_of_plan, list_of_reliabilities, matrix_fresh, matrix_of_bytes, multiplicities, open, plan,
     product, roots, sum, Answer, Judgement,
 };
-use crate::{archive, Photograph, Refusal};
+use crate::photograph::Photograph;
+use crate::refusal::Refusal;
 
 impl Answer {
     /// The refusal, `None` where the call is not refused.

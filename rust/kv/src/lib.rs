@@ -11,7 +11,7 @@
 //!     reliabilities[kv::SYMBOLS * position + mark] = kv::WHOLE;
 //! }
 //! let sizes = Sizes { n: 4, k: 2 };
-//! let settings = Settings { level: 1, limit: kv::GREATEST_LIMIT };
+//! let settings = Settings { level: 1, limit: kv::LIMIT };
 //! let listed = list_of_reliabilities(sizes, settings, &reliabilities)?;
 //! assert_eq!(listed.rows.len(), 1);
 //! assert_eq!(listed.rows[0].score, 3);
@@ -37,59 +37,27 @@
 mod archive;
 mod counter;
 pub mod lent;
+mod limits;
 mod list;
 mod matrix;
+mod photograph;
 mod plan;
 mod polynomial;
 mod record;
 mod refusal;
+mod settings;
 mod symbols;
 
-pub use counter::{judge, judge_both, open, open_both, Photograph, Verdict};
+pub use counter::{judge, judge_both, open, open_both, Verdict};
+pub use limits::{
+    COEFFICIENTS, ENTRIES, LEVEL, LIMIT, MONOMIALS, POSITIONS, ROWS, STEPS, SYMBOLS, WHOLE,
+};
 pub use list::{list_of_multiplicities, list_of_plan, list_of_reliabilities, Listed, Row};
 pub use matrix::{cost_and_bound, multiplicities, CostAndBound};
+pub use photograph::Photograph;
 pub use plan::{check_plan, plan, Plan};
 pub use polynomial::{interpolate, roots, Polynomial};
 pub use record::Matrix;
 pub use refusal::Refusal;
+pub use settings::{Settings, Sizes};
 pub use symbols::{encode, inverse, product, sum};
-
-/// How many symbols there are.
-pub const SYMBOLS: usize = 16;
-/// The most positions that a codeword has.
-pub const POSITIONS: usize = 15;
-/// The entries of a [`Matrix`], whatever its n is.
-pub const ENTRIES: usize = SYMBOLS * POSITIONS;
-/// The most that the reliabilities of a position may sum to: those of a clear mark do, those of an
-/// erased one are all 0.
-pub const WHOLE: u16 = 4096;
-/// The greatest level, and the greatest entry of a matrix.
-pub const GREATEST_LEVEL: usize = 5;
-/// The greatest limit on the cost of a matrix.
-pub const GREATEST_LIMIT: usize = 225;
-/// The most steps that a plan is asked for.
-pub const GREATEST_STEPS: usize = 75;
-/// The most coefficients that an interpolated polynomial has.
-pub const COEFFICIENTS: usize = 246;
-/// The most coefficients that a polynomial has whose roots are asked for.
-pub const GREATEST_COUNT: usize = 256;
-/// The most rows that a list has.
-pub const ROWS: usize = 20;
-
-/// The sizes of the code: 2 <= k <= n <= 15, or refusal 1.
-#[derive(Clone, Copy, Debug, PartialEq, Eq)]
-pub struct Sizes {
-    /// The number of positions.
-    pub n: usize,
-    /// The number of message symbols.
-    pub k: usize,
-}
-
-/// How a tag is read: 1 <= level <= [`GREATEST_LEVEL`] and limit <= [`GREATEST_LIMIT`], or refusal 2.
-#[derive(Clone, Copy, Debug, PartialEq, Eq)]
-pub struct Settings {
-    /// The level, which multiplies the reliabilities.
-    pub level: usize,
-    /// The greatest cost that a matrix may have.
-    pub limit: usize,
-}

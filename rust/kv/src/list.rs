@@ -1,7 +1,9 @@
 //! The lists.
 
 use crate::lent::{self, Answer};
-use crate::{Refusal, Settings, Sizes, POSITIONS, ROWS};
+use crate::limits::{POSITIONS, ROWS};
+use crate::refusal::Refusal;
+use crate::settings::{Settings, Sizes};
 
 /// A message and how strongly its codeword is supported.
 #[derive(Clone, Debug, PartialEq, Eq)]
@@ -67,9 +69,9 @@ pub(crate) fn listed(
 /// The list of a multiplicity matrix.
 ///
 /// Refused with [`Refusal::Sizes`], [`Refusal::Setting`] where the limit is above
-/// [`GREATEST_LIMIT`](crate::GREATEST_LIMIT), [`Refusal::Length`] where the matrix has not 16n
-/// entries, [`Refusal::Symbol`] where one of them is above
-/// [`GREATEST_LEVEL`](crate::GREATEST_LEVEL), [`Refusal::Cost`] where it costs more than the limit.
+/// [`LIMIT`](crate::LIMIT), [`Refusal::Length`] where the matrix has not 16n entries,
+/// [`Refusal::Symbol`] where one of them is above [`LEVEL`](crate::LEVEL), [`Refusal::Cost`] where
+/// it costs more than the limit.
 ///
 /// ```
 /// let mut matrix = [0; 48];
@@ -77,7 +79,7 @@ pub(crate) fn listed(
 ///     matrix[16 * position + 1] = 1;
 /// }
 /// let sizes = kv::Sizes { n: 3, k: 2 };
-/// let listed = kv::list_of_multiplicities(sizes, kv::GREATEST_LIMIT, &matrix)?;
+/// let listed = kv::list_of_multiplicities(sizes, kv::LIMIT, &matrix)?;
 /// assert_eq!(listed.rows, [kv::Row { score: 3, message: vec![1, 0] }]);
 /// assert_eq!(
 ///     kv::list_of_multiplicities(sizes, 2, &matrix),
@@ -104,7 +106,7 @@ pub fn list_of_multiplicities(
 ///
 /// ```
 /// let sizes = kv::Sizes { n: 2, k: 2 };
-/// let settings = kv::Settings { level: kv::GREATEST_LEVEL, limit: kv::GREATEST_LIMIT };
+/// let settings = kv::Settings { level: kv::LEVEL, limit: kv::LIMIT };
 /// let mut reliabilities = [256; 32];
 /// let listed = kv::list_of_reliabilities(sizes, settings, &reliabilities)?;
 /// assert!(listed.rows.is_empty());
@@ -128,15 +130,14 @@ pub fn list_of_reliabilities(
 /// The list of a plan from outside, which is taken as [`check_plan`](crate::check_plan) takes it.
 ///
 /// Refused with [`Refusal::Sizes`], [`Refusal::Setting`] where the limit is above
-/// [`GREATEST_LIMIT`](crate::GREATEST_LIMIT) or the steps above
-/// [`GREATEST_STEPS`](crate::GREATEST_STEPS), [`Refusal::Length`] where there are not 16n
-/// reliabilities and 16n entries, [`Refusal::Symbol`] where an entry is above
-/// [`GREATEST_LEVEL`](crate::GREATEST_LEVEL), [`Refusal::Column`] where the reliabilities of a
-/// position sum to more than 4096, [`Refusal::Cost`] where the plan costs more than the limit,
-/// [`Refusal::Plan`] where it is another plan.
+/// [`LIMIT`](crate::LIMIT) or the steps above [`STEPS`](crate::STEPS), [`Refusal::Length`] where
+/// there are not 16n reliabilities and 16n entries, [`Refusal::Symbol`] where an entry is above
+/// [`LEVEL`](crate::LEVEL), [`Refusal::Column`] where the reliabilities of a position sum to more
+/// than 4096, [`Refusal::Cost`] where the plan costs more than the limit, [`Refusal::Plan`] where
+/// it is another plan.
 ///
 /// ```
-/// use kv::{list_of_plan, plan, Refusal, Row, Sizes, GREATEST_LIMIT};
+/// use kv::{list_of_plan, plan, Refusal, Row, Sizes, LIMIT};
 ///
 /// let mut reliabilities = [0; 48];
 /// for position in 0..3 {
@@ -144,9 +145,9 @@ pub fn list_of_reliabilities(
 /// }
 /// let sizes = Sizes { n: 3, k: 2 };
 /// let plan = plan(3, 3, &reliabilities)?.entries;
-/// let listed = list_of_plan(sizes, GREATEST_LIMIT, 3, &reliabilities, &plan)?;
+/// let listed = list_of_plan(sizes, LIMIT, 3, &reliabilities, &plan)?;
 /// assert_eq!(listed.rows, [Row { score: 3, message: vec![1, 0] }]);
-/// let of_other_steps = list_of_plan(sizes, GREATEST_LIMIT, 4, &reliabilities, &plan);
+/// let of_other_steps = list_of_plan(sizes, LIMIT, 4, &reliabilities, &plan);
 /// assert_eq!(of_other_steps, Err(Refusal::Plan));
 /// # Ok::<(), kv::Refusal>(())
 /// ```

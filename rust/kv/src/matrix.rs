@@ -1,14 +1,16 @@
 //! Multiplicity matrices.
 
 use crate::lent::{self, Answer};
-use crate::{Refusal, Sizes, ENTRIES};
+use crate::limits::ENTRIES;
+use crate::refusal::Refusal;
+use crate::settings::Sizes;
 
 /// The matrix of the reliabilities: each entry is the whole part of level times reliability / 4096,
 /// whatever those of its position sum to. An erased mark, all zeros, has a column of zeros.
 ///
 /// Refused with [`Refusal::Sizes`] unless 2 <= n <= 15, [`Refusal::Setting`] unless the level is 1
-/// to [`GREATEST_LEVEL`](crate::GREATEST_LEVEL), [`Refusal::Length`] where there are not 16n
-/// reliabilities, [`Refusal::Column`] where those of a position sum to more than 4096.
+/// to [`LEVEL`](crate::LEVEL), [`Refusal::Length`] where there are not 16n reliabilities,
+/// [`Refusal::Column`] where those of a position sum to more than 4096.
 ///
 /// ```
 /// let mut reliabilities = [0; 48];
@@ -53,7 +55,7 @@ impl CostAndBound {
 /// The cost of a matrix, and the bound.
 ///
 /// Refused with [`Refusal::Sizes`], [`Refusal::Length`] where the matrix has not 16n entries,
-/// [`Refusal::Symbol`] where one of them is above [`GREATEST_LEVEL`](crate::GREATEST_LEVEL).
+/// [`Refusal::Symbol`] where one of them is above [`LEVEL`](crate::LEVEL).
 ///
 /// ```
 /// let mut matrix = [0; 48];

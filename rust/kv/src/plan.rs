@@ -1,7 +1,8 @@
 //! Plans of multiplicities.
 
 use crate::lent;
-use crate::{Refusal, ENTRIES};
+use crate::limits::ENTRIES;
+use crate::refusal::Refusal;
 
 /// A matrix that is made step by step.
 #[derive(Clone, Debug, PartialEq, Eq)]
@@ -14,14 +15,13 @@ pub struct Plan {
 
 /// The plan of so many steps: from all zeros, each raises by one the entry with the largest
 /// reliability / (entry + 1), compared exactly, of equal ones the first. At a step whose best entry
-/// has reliability 0, or already stands at [`GREATEST_LEVEL`](crate::GREATEST_LEVEL), it stops.
+/// has reliability 0, or already stands at [`LEVEL`](crate::LEVEL), it stops.
 ///
-/// A plan costs at most three times its steps, and so never more than
-/// [`GREATEST_LIMIT`](crate::GREATEST_LIMIT).
+/// A plan costs at most three times its steps, and so never more than [`LIMIT`](crate::LIMIT).
 ///
-/// Refused with [`Refusal::Sizes`] unless 2 <= n <= 15, [`Refusal::Setting`] where the steps are above
-/// [`GREATEST_STEPS`](crate::GREATEST_STEPS), [`Refusal::Length`] where there are not 16n
-/// reliabilities, [`Refusal::Column`] where those of a position sum to more than 4096.
+/// Refused with [`Refusal::Sizes`] unless 2 <= n <= 15, [`Refusal::Setting`] where the steps are
+/// above [`STEPS`](crate::STEPS), [`Refusal::Length`] where there are not 16n reliabilities,
+/// [`Refusal::Column`] where those of a position sum to more than 4096.
 ///
 /// ```
 /// let mut reliabilities = [0; 32];
@@ -51,11 +51,11 @@ pub fn plan(n: usize, steps: usize, reliabilities: &[u16]) -> Result<Plan, Refus
 /// gives for these reliabilities and steps. One that stopped early is right for every greater number
 /// of steps, too.
 ///
-/// Refused with [`Refusal::Sizes`] unless 2 <= n <= 15, [`Refusal::Setting`] where the steps are above
-/// [`GREATEST_STEPS`](crate::GREATEST_STEPS), [`Refusal::Length`] where there are not 16n
-/// reliabilities and 16n entries, [`Refusal::Symbol`] where an entry is above
-/// [`GREATEST_LEVEL`](crate::GREATEST_LEVEL), [`Refusal::Column`] where the reliabilities of a
-/// position sum to more than 4096, [`Refusal::Plan`] where it is another plan.
+/// Refused with [`Refusal::Sizes`] unless 2 <= n <= 15, [`Refusal::Setting`] where the steps are
+/// above [`STEPS`](crate::STEPS), [`Refusal::Length`] where there are not 16n reliabilities and 16n
+/// entries, [`Refusal::Symbol`] where an entry is above [`LEVEL`](crate::LEVEL),
+/// [`Refusal::Column`] where the reliabilities of a position sum to more than 4096,
+/// [`Refusal::Plan`] where it is another plan.
 ///
 /// ```
 /// let mut reliabilities = [0; 32];

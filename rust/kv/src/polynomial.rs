@@ -1,7 +1,9 @@
 //! Polynomials in x and y: interpolation and roots.
 
 use crate::lent::{self, Answer};
-use crate::{Refusal, Sizes, COEFFICIENTS, GREATEST_COUNT};
+use crate::limits::{COEFFICIENTS, MONOMIALS};
+use crate::refusal::Refusal;
+use crate::settings::Sizes;
 
 /// A polynomial in x and y. Monomials x^a y^b are ordered by a + (k-1)b, the weighted degree, then
 /// by b, lower first.
@@ -30,16 +32,16 @@ pub(crate) fn interpolated(
 /// has the smallest leading monomial of all that do, and leading coefficient 1.
 ///
 /// Refused with [`Refusal::Sizes`], [`Refusal::Setting`] where the limit is above
-/// [`GREATEST_LIMIT`](crate::GREATEST_LIMIT), [`Refusal::Length`] where the matrix has not 16n
-/// entries, [`Refusal::Symbol`] where one of them is above
-/// [`GREATEST_LEVEL`](crate::GREATEST_LEVEL), [`Refusal::Cost`] where it costs more than the limit.
+/// [`LIMIT`](crate::LIMIT), [`Refusal::Length`] where the matrix has not 16n entries,
+/// [`Refusal::Symbol`] where one of them is above [`LEVEL`](crate::LEVEL), [`Refusal::Cost`] where
+/// it costs more than the limit.
 ///
 /// ```
 /// let mut matrix = [0; 48];
 /// for position in 0..3 {
 ///     matrix[16 * position + 1] = 1;
 /// }
-/// let polynomial = kv::interpolate(kv::Sizes { n: 3, k: 2 }, kv::GREATEST_LIMIT, &matrix)?;
+/// let polynomial = kv::interpolate(kv::Sizes { n: 3, k: 2 }, kv::LIMIT, &matrix)?;
 /// assert_eq!(polynomial.bound, 2);
 /// assert_eq!(polynomial.coefficients, [1, 0, 1, 0, 0, 0]); // 1 + y
 /// # Ok::<(), kv::Refusal>(())
@@ -56,9 +58,10 @@ pub fn interpolate(
 /// identically, smaller symbols first. Q has these coefficients, in the order that [`Polynomial`]
 /// says, of the monomials of weighted degree at most `degree`.
 ///
-/// Refused with [`Refusal::Sizes`] unless 2 <= k <= 15, [`Refusal::Setting`] where more than 256
-/// monomials have such a degree, [`Refusal::Length`] where the coefficients are not as many as
-/// they, [`Refusal::Symbol`] where one is above 15, [`Refusal::Zero`] where all are 0.
+/// Refused with [`Refusal::Sizes`] unless 2 <= k <= 15, [`Refusal::Setting`] where more than
+/// [`MONOMIALS`](crate::MONOMIALS) have such a degree, [`Refusal::Length`] where the coefficients
+/// are not as many as they, [`Refusal::Symbol`] where one is above 15, [`Refusal::Zero`] where all
+/// are 0.
 ///
 /// ```
 /// // x y + y² is 0 where y is 0 and where y is x.
@@ -68,7 +71,7 @@ pub fn interpolate(
 /// ```
 pub fn roots(degree: usize, k: usize, coefficients: &[u8]) -> Result<Vec<Vec<u8>>, Refusal> {
     // k times the whole part of degree / (k-1) is below the number of coefficients.
-    let mut messages = [0; GREATEST_COUNT];
+    let mut messages = [0; MONOMIALS];
     let answer = lent::roots(degree, k, coefficients, &mut messages).accepted()?;
     let written = messages.chunks(k).take(answer.count.into());
     Ok(written.map(<[u8]>::to_vec).collect())

@@ -1,16 +1,18 @@
 //! A matrix that is edited.
 
 use crate::lent::{self, Answer, Edited, Record};
-use crate::list::listed;
-use crate::polynomial::interpolated;
-use crate::{CostAndBound, Listed, Polynomial, Refusal, ENTRIES, POSITIONS};
+use crate::limits::{ENTRIES, POSITIONS};
+use crate::list::{listed, Listed};
+use crate::matrix::CostAndBound;
+use crate::polynomial::{interpolated, Polynomial};
+use crate::refusal::Refusal;
 
 /// A multiplicity matrix that keeps its cost and each position's total as it is edited.
 ///
-/// A call that is not refused leaves it rightly held: `cost` is the sum of m(m+1)/2 over the entries
-/// m, each total the sum of its position's sixteen entries, and the entries from 16n on are 0. Its
-/// numbers may be changed by hand too: a call takes it where it is rightly held and no entry is above
-/// [`GREATEST_LEVEL`](crate::GREATEST_LEVEL), and otherwise refuses with [`Refusal::Length`] or
+/// A call that is not refused leaves it rightly held: `cost` is the sum of m(m+1)/2 over the
+/// entries m, each total the sum of its position's sixteen entries, and the entries from 16n on are
+/// 0. Its numbers may be changed by hand too: a call takes it where it is rightly held and no entry
+/// is above [`LEVEL`](crate::LEVEL), and otherwise refuses with [`Refusal::Length`] or
 /// [`Refusal::Symbol`]. A refused call changes nothing.
 ///
 /// ```
@@ -21,14 +23,14 @@ use crate::{CostAndBound, Listed, Polynomial, Refusal, ENTRIES, POSITIONS};
 /// for (position, mark) in [1, 1, 2, 2].into_iter().enumerate() {
 ///     matrix.set_entry(position, mark, 1)?;
 /// }
-/// assert!(matrix.list(2, kv::GREATEST_LIMIT)?.rows.is_empty());
+/// assert!(matrix.list(2, kv::LIMIT)?.rows.is_empty());
 /// matrix.clear_column(3)?;
 /// matrix.set_entry(3, 1, 1)?;
-/// let listed = matrix.list(2, kv::GREATEST_LIMIT)?;
+/// let listed = matrix.list(2, kv::LIMIT)?;
 /// assert_eq!(listed.rows, [Row { score: 3, message: vec![1, 0] }]);
 ///
 /// matrix.cost += 1;
-/// assert_eq!(matrix.list(2, kv::GREATEST_LIMIT), Err(Refusal::Length));
+/// assert_eq!(matrix.list(2, kv::LIMIT), Err(Refusal::Length));
 /// # Ok::<(), kv::Refusal>(())
 /// ```
 #[derive(Clone, Debug, PartialEq, Eq)]
@@ -73,8 +75,7 @@ impl Matrix {
     /// The matrix that has these 16n entries.
     ///
     /// Refused with [`Refusal::Sizes`] unless 2 <= n <= 15, [`Refusal::Length`] where there are not
-    /// 16n entries, [`Refusal::Symbol`] where one of them is above
-    /// [`GREATEST_LEVEL`](crate::GREATEST_LEVEL).
+    /// 16n entries, [`Refusal::Symbol`] where one of them is above [`LEVEL`](crate::LEVEL).
     ///
     /// ```
     /// let mut bytes = [0; 48];
@@ -115,9 +116,8 @@ impl Matrix {
     /// Puts an entry in the place of what a position has at a symbol.
     ///
     /// Refused with [`Refusal::Sizes`] where the position is not below n or the symbol above 15,
-    /// [`Refusal::Length`] where the matrix is not rightly held, [`Refusal::Symbol`] where one of its
-    /// entries, as they are or as they would be, is above
-    /// [`GREATEST_LEVEL`](crate::GREATEST_LEVEL).
+    /// [`Refusal::Length`] where the matrix is not rightly held, [`Refusal::Symbol`] where one of
+    /// its entries, as they are or as they would be, is above [`LEVEL`](crate::LEVEL).
     ///
     /// ```
     /// let mut matrix = kv::Matrix::fresh(3)?;
@@ -135,8 +135,8 @@ impl Matrix {
     /// Puts zeros in the place of all that a position has.
     ///
     /// Refused with [`Refusal::Sizes`] where the position is not below n, [`Refusal::Length`] where
-    /// the matrix is not rightly held, [`Refusal::Symbol`] where one of its entries, cleared or not,
-    /// is above [`GREATEST_LEVEL`](crate::GREATEST_LEVEL).
+    /// the matrix is not rightly held, [`Refusal::Symbol`] where one of its entries, cleared or
+    /// not, is above [`LEVEL`](crate::LEVEL).
     ///
     /// ```
     /// let mut matrix = kv::Matrix::of_bytes(2, &[1; 32])?;
@@ -153,7 +153,7 @@ impl Matrix {
     ///
     /// Refused with [`Refusal::Sizes`] where n of both differ, [`Refusal::Length`] where either is
     /// not rightly held, [`Refusal::Symbol`] where an entry of either, or of their sum, is above
-    /// [`GREATEST_LEVEL`](crate::GREATEST_LEVEL).
+    /// [`LEVEL`](crate::LEVEL).
     ///
     /// ```
     /// let mut matrix = kv::Matrix::of_bytes(2, &[1; 32])?;
@@ -171,7 +171,7 @@ impl Matrix {
     /// As [`cost_and_bound`](crate::cost_and_bound) of the first 16n entries.
     ///
     /// Refused with [`Refusal::Sizes`], [`Refusal::Length`] where the matrix is not rightly held,
-    /// [`Refusal::Symbol`] where an entry is above [`GREATEST_LEVEL`](crate::GREATEST_LEVEL).
+    /// [`Refusal::Symbol`] where an entry is above [`LEVEL`](crate::LEVEL).
     ///
     /// ```
     /// let matrix = kv::Matrix::of_bytes(2, &[1; 32])?;
@@ -186,14 +186,13 @@ impl Matrix {
     /// As [`interpolate`](crate::interpolate) of the first 16n entries.
     ///
     /// Refused with [`Refusal::Sizes`], [`Refusal::Setting`] where the limit is above
-    /// [`GREATEST_LIMIT`](crate::GREATEST_LIMIT), [`Refusal::Length`] where the matrix is not rightly
-    /// held, [`Refusal::Symbol`] where an entry is above
-    /// [`GREATEST_LEVEL`](crate::GREATEST_LEVEL), [`Refusal::Cost`] where the matrix costs more than
-    /// the limit.
+    /// [`LIMIT`](crate::LIMIT), [`Refusal::Length`] where the matrix is not rightly held,
+    /// [`Refusal::Symbol`] where an entry is above [`LEVEL`](crate::LEVEL), [`Refusal::Cost`] where
+    /// the matrix costs more than the limit.
     ///
     /// ```
     /// let matrix = kv::Matrix::fresh(3)?;
-    /// let polynomial = matrix.interpolate(2, kv::GREATEST_LIMIT)?;
+    /// let polynomial = matrix.interpolate(2, kv::LIMIT)?;
     /// assert_eq!((polynomial.bound, polynomial.coefficients), (0, vec![1]));
     /// # Ok::<(), kv::Refusal>(())
     /// ```
@@ -223,11 +222,11 @@ impl Matrix {
 
     /// As [`check_plan`](crate::check_plan) of the first 16n entries.
     ///
-    /// Refused with [`Refusal::Sizes`] unless 2 <= n <= 15, [`Refusal::Setting`] where the steps are
-    /// above [`GREATEST_STEPS`](crate::GREATEST_STEPS), [`Refusal::Length`] where there are not 16n
-    /// reliabilities or the matrix is not rightly held, [`Refusal::Symbol`] where an entry is above
-    /// [`GREATEST_LEVEL`](crate::GREATEST_LEVEL), [`Refusal::Column`] where the reliabilities of a
-    /// position sum to more than 4096, [`Refusal::Plan`] where it is another plan.
+    /// Refused with [`Refusal::Sizes`] unless 2 <= n <= 15, [`Refusal::Setting`] where the steps
+    /// are above [`STEPS`](crate::STEPS), [`Refusal::Length`] where there are not 16n reliabilities
+    /// or the matrix is not rightly held, [`Refusal::Symbol`] where an entry is above
+    /// [`LEVEL`](crate::LEVEL), [`Refusal::Column`] where the reliabilities of a position sum to
+    /// more than 4096, [`Refusal::Plan`] where it is another plan.
     ///
     /// ```
     /// let mut reliabilities = [0; 32];
@@ -247,8 +246,8 @@ impl Matrix {
     /// As [`list_of_plan`](crate::list_of_plan) of the first 16n entries.
     ///
     /// Refused as [`check_plan`](Matrix::check_plan) is, with [`Refusal::Sizes`] for k too, with
-    /// [`Refusal::Setting`] where the limit is above [`GREATEST_LIMIT`](crate::GREATEST_LIMIT), and
-    /// before [`Refusal::Plan`] with [`Refusal::Cost`] where the matrix costs more than the limit.
+    /// [`Refusal::Setting`] where the limit is above [`LIMIT`](crate::LIMIT), and before
+    /// [`Refusal::Plan`] with [`Refusal::Cost`] where the matrix costs more than the limit.
     ///
     /// ```
     /// let mut reliabilities = [0; 48];
@@ -257,8 +256,8 @@ impl Matrix {
     /// }
     /// let plan = kv::plan(3, 3, &reliabilities)?;
     /// let matrix = kv::Matrix::of_bytes(3, &plan.entries)?;
-    /// let listed = matrix.list_of_plan(2, kv::GREATEST_LIMIT, 3, &reliabilities)?;
-    /// assert_eq!(listed, matrix.list(2, kv::GREATEST_LIMIT)?);
+    /// let listed = matrix.list_of_plan(2, kv::LIMIT, 3, &reliabilities)?;
+    /// assert_eq!(listed, matrix.list(2, kv::LIMIT)?);
     /// # Ok::<(), kv::Refusal>(())
     /// ```
     pub fn list_of_plan(

@@ -4,13 +4,17 @@ use std::fmt::{Display, Formatter, Result};
 /// Why a call is refused: the lines of document 01's table, and of document 02, in the order in
 /// which they are tried. The first that holds is given.
 ///
+/// Document 02 adds lines as its orders land, so that a match has a case for others.
+///
 /// ```
 /// let refusal = kv::sum(3, 16).unwrap_err();
 /// assert_eq!(refusal, kv::Refusal::Symbol(1));
 /// assert_eq!((refusal.number(), refusal.place()), (5, 1));
-/// assert_eq!(refusal.to_string(), "refused 5 at 1");
+/// let words = "a symbol or coefficient is above 15, or a multiplicity above 5, at index 1";
+/// assert_eq!(refusal.to_string(), words);
 /// ```
 #[derive(Clone, Copy, Debug, PartialEq, Eq, Hash)]
+#[non_exhaustive]
 pub enum Refusal {
     /// 1: n or k is not among the sizes that the entry takes, a position or a symbol lies outside the
     /// matrix, or matrices of unequal n are added.
@@ -35,6 +39,14 @@ pub enum Refusal {
     Zero,
     /// 9: the plan is not the one for its reliabilities and steps.
     Plan,
+    /// Any other number: the archive is of a later version than this crate.
+    #[non_exhaustive]
+    Unknown {
+        /// As the entry answers it.
+        number: u16,
+        /// As the entry answers it.
+        place: usize,
+    },
 }
 
 impl Refusal {
@@ -50,8 +62,8 @@ impl Refusal {
             6 => Some(Refusal::Column(place)),
             7 => Some(Refusal::Cost),
             8 => Some(Refusal::Zero),
-            // The library gives no number above this one.
-            9.. => Some(Refusal::Plan),
+            9 => Some(Refusal::Plan),
+            10.. => Some(Refusal::Unknown { number, place }),
         }
     }
 
@@ -67,22 +79,59 @@ impl Refusal {
             Refusal::Cost => 7,
             Refusal::Zero => 8,
             Refusal::Plan => 9,
+            Refusal::Unknown { number, .. } => number,
         }
     }
 
     /// The index or the position where it is, 0 for the others.
     pub fn place(self) -> usize {
         match self {
-            Refusal::Symbol(place) | Refusal::Column(place) => place,
+            Refusal::Symbol(place) | Refusal::Column(place) | Refusal::Unknown { place, .. } => {
+                place
+            }
             _ => 0,
+        }
+    }
+
+    /// Every reason that the documents have for it.
+    fn words(self) -> &'static str {
+        match self {
+            Refusal::Sizes => {
+                "the sizes are not 2 <= k <= n <= 15, a position or a symbol is outside the matrix, \
+                 or matrices of unequal n are added"
+            }
+            Refusal::Setting => {
+                "the level is not 1 to 5, the cost limit is above 225, the steps are above 75, the \
+                 degree has more than 256 monomials, the lead is 0, or two lists have unequal \
+                 settings"
+            }
+            Refusal::Length => {
+                "an input does not have exactly its number of entries, rows are not in list order \
+                 or repeat a message, or a matrix record's stored numbers are wrong"
+            }
+            Refusal::Room => "the output is too short for all that may be written",
+            Refusal::Symbol(_) => "a symbol or coefficient is above 15, or a multiplicity above 5",
+            Refusal::Column(_) => "a position's reliabilities sum to more than 4,096",
+            Refusal::Cost => "the matrix costs more than the limit",
+            Refusal::Zero => "0 has no inverse, or all coefficients are 0",
+            Refusal::Plan => "the plan is not the rule's result for its reliabilities and steps",
+            Refusal::Unknown { .. } => "the reason is not known to this version",
         }
     }
 }
 
-/// As the reader program writes it.
+/// The reason in words, and the place where it has one.
 impl Display for Refusal {
     fn fmt(&self, formatter: &mut Formatter<'_>) -> Result {
-        write!(formatter, "refused {} at {}", self.number(), self.place())
+        let words = self.words();
+        match self {
+            Refusal::Symbol(index) => write!(formatter, "{words}, at index {index}"),
+            Refusal::Column(position) => write!(formatter, "{words}, at position {position}"),
+            Refusal::Unknown { number, place } => {
+                write!(formatter, "{words}: refusal {number}, at place {place}")
+            }
+            _ => write!(formatter, "{words}"),
+        }
     }
 }
 

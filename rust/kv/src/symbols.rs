@@ -1,7 +1,9 @@
 //! Symbols, messages and codewords.
 
 use crate::lent::{self, Answer};
-use crate::{Refusal, Sizes, POSITIONS};
+use crate::limits::POSITIONS;
+use crate::refusal::Refusal;
+use crate::settings::Sizes;
 
 fn symbol(answer: Answer) -> Result<u8, Refusal> {
     let answer = answer.accepted()?;

@@ -3,7 +3,7 @@
 
 use kv::{
     encode, judge, list_of_reliabilities, open, product, sum, Listed, Refusal, Settings, Sizes,
-    Verdict, GREATEST_LEVEL, GREATEST_LIMIT, POSITIONS, SYMBOLS, WHOLE,
+    Verdict, LEVEL, LIMIT, POSITIONS, SYMBOLS, WHOLE,
 };
 
 fn all_sizes() -> impl Iterator<Item = Sizes> {
@@ -25,7 +25,7 @@ fn listed(sizes: Sizes, level: usize, marks: &[Option<u8>]) -> Result<Listed, Re
             column[usize::from(*symbol)] = WHOLE;
         }
     }
-    let limit = GREATEST_LIMIT;
+    let limit = LIMIT;
     list_of_reliabilities(sizes, Settings { level, limit }, &weights)
 }
 
@@ -46,11 +46,11 @@ fn a_clean_tag_is_its_message_alone() -> Result<(), Refusal> {
     for sizes in all_sizes() {
         let message = message(sizes);
         let marks = worn(&encode(sizes, &message)?, 0, 0, 0);
-        for level in 1..=GREATEST_LEVEL {
+        for level in 1..=LEVEL {
             let rows = listed(sizes, level, &marks)?.rows;
             assert_eq!(rows.len(), 1, "{sizes:?} {level}");
             assert_eq!(rows[0].message, message);
-            assert_eq!(usize::from(rows[0].score), sizes.n * level);
+            assert_eq!(rows[0].score, sizes.n * level);
         }
     }
     Ok(())
@@ -66,14 +66,13 @@ fn up_to_half_the_distance_the_ticket_leads_and_is_opened() -> Result<(), Refusa
             .filter(|&few| few <= spare)
         {
             let marks = worn(&codeword, sizes.k, (spare - erased) / 2, erased);
-            for level in 1..=GREATEST_LEVEL {
+            for level in 1..=LEVEL {
                 let listed = listed(sizes, level, &marks)?;
                 let [first, others @ ..] = &listed.rows[..] else {
                     panic!("{sizes:?} {level} {marks:?}: no row");
                 };
                 assert_eq!(first.message, message, "{sizes:?} {level} {marks:?}");
-                let level_below = |score| usize::from(first.score) >= usize::from(score) + level;
-                assert!(others.iter().all(|row| level_below(row.score)));
+                assert!(others.iter().all(|row| first.score >= row.score + level));
                 let (rows, scores) = (listed.messages(), listed.scores());
                 assert_eq!(judge(sizes.k, &rows, &scores, level), Ok(Verdict::Open));
                 assert_eq!(open(sizes.k, &rows, &scores, level), message);
@@ -110,7 +109,7 @@ fn one_wrong_mark_more_is_too_many() -> Result<(), Refusal> {
         let marks: Vec<_> = marks
             .map(|(i, &s)| Some(if i < keep { s } else { 0 }))
             .collect();
-        for level in 1..=GREATEST_LEVEL {
+        for level in 1..=LEVEL {
             let rows = listed(sizes, level, &marks)?.rows;
             assert_eq!(rows[0].message, other, "{sizes:?} {level}");
         }

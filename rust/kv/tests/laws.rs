@@ -1,7 +1,7 @@
 //! The auditors' laws (docs/AUDIT.md), asked of the built library: of all messages of two symbols,
 //! and of matrices that are added.
 
-use kv::{encode, product, sum, Matrix, Refusal, Sizes, GREATEST_LIMIT, POSITIONS, SYMBOLS};
+use kv::{encode, product, sum, Matrix, Refusal, Sizes, LIMIT, POSITIONS, SYMBOLS};
 
 const SIZES: Sizes = Sizes { n: POSITIONS, k: 2 };
 const ZERO: [u8; POSITIONS] = [0; POSITIONS];
@@ -149,7 +149,7 @@ fn the_score_under_a_sum_is_the_sum_of_the_scores() -> Result<(), Refusal> {
         let mut both = first.clone();
         both.add(&second)?;
         let score = |matrix: &Matrix| -> Result<usize, Refusal> {
-            let listed = matrix.list(SIZES.k, GREATEST_LIMIT)?;
+            let listed = matrix.list(SIZES.k, LIMIT)?;
             let row = listed.rows.iter().find(|row| row.message == message);
             Ok(row.expect("the message is listed").score)
         };

@@ -1,6 +1,6 @@
 //! What is proved of plans, asked of the built library: of matrices with few entries, all there are.
 
-use kv::{cost_and_bound, plan, Refusal, Sizes, GREATEST_LEVEL, GREATEST_STEPS, SYMBOLS};
+use kv::{cost_and_bound, plan, Refusal, Sizes, LEVEL, STEPS, SYMBOLS};
 
 const SIZES: Sizes = Sizes { n: 2, k: 2 };
 /// Where the reliabilities lie, and with them every entry that is worth anything.
@@ -25,7 +25,7 @@ fn laid<T: Copy + Default>(numbers: [T; PLACES.len()]) -> Vec<T> {
 
 /// Every matrix that has no entries elsewhere, with its cost.
 fn matrices() -> Result<Vec<(Vec<u8>, usize)>, Refusal> {
-    let choices = GREATEST_LEVEL + 1;
+    let choices = LEVEL + 1;
     let entry = |number: usize, place: usize| (number / choices.pow(place as u32) % choices) as u8;
     let matrix = |number| laid(std::array::from_fn(|place| entry(number, place)));
     let priced = |number| {
@@ -46,7 +46,7 @@ fn expected(reliabilities: &[u16], matrix: &[u8]) -> u32 {
 fn no_matrix_that_costs_as_little_expects_more() -> Result<(), Refusal> {
     let matrices = matrices()?;
     for reliabilities in RELIABILITIES.map(laid) {
-        for steps in 0..=GREATEST_STEPS {
+        for steps in 0..=STEPS {
             let plan = plan(SIZES.n, steps, &reliabilities)?.entries;
             let cost = cost_and_bound(SIZES, &plan)?.cost;
             let most = expected(&reliabilities, &plan);
@@ -76,7 +76,7 @@ fn a_step_raises_one_entry_or_none() -> Result<(), Refusal> {
     for reliabilities in RELIABILITIES.map(laid) {
         let mut before = plan(SIZES.n, 0, &reliabilities)?;
         assert_eq!(before.steps, 0);
-        for steps in 1..=GREATEST_STEPS {
+        for steps in 1..=STEPS {
             let after = plan(SIZES.n, steps, &reliabilities)?;
             let pairs = before.entries.iter().zip(&after.entries);
             let raised: u8 = pairs.map(|(before, after)| after - before).sum();

@@ -1,7 +1,7 @@
 //! What the program refuses in a tag.
 
 use crate::tag::{Mark, Tag, NAMES};
-use kv::{Refusal, GREATEST_LEVEL, GREATEST_LIMIT, POSITIONS, WHOLE};
+use kv::{Refusal, LEVEL, LIMIT, POSITIONS, WHOLE};
 
 /// What stands in a tag: a setting, by its place in [`NAMES`], or a mark, by its number.
 #[derive(Clone, Copy, Debug, PartialEq, Eq)]
@@ -21,8 +21,8 @@ fn of_setting(tag: &Tag, index: usize) -> Option<Fault> {
     let (least, most, refusal) = match index {
         0 => (2, POSITIONS, Refusal::Sizes),
         1 => (2, n, Refusal::Sizes),
-        2 => (1, GREATEST_LEVEL, Refusal::Setting),
-        _ => (0, GREATEST_LIMIT, Refusal::Setting),
+        2 => (1, LEVEL, Refusal::Setting),
+        _ => (0, LIMIT, Refusal::Setting),
     };
     let (name, value) = (NAMES[index], usize::from(tag.settings[index]));
     let which = if index == 1 { ", which is n" } else { "" };

@@ -3,6 +3,7 @@
 
 pub mod bytes;
 pub mod check;
+pub mod file;
 pub mod list;
 pub mod picture;
 pub mod reading;

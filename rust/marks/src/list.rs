@@ -26,6 +26,11 @@ fn digits(message: &[u8]) -> String {
     message.iter().map(|symbol| format!("{symbol:x}")).collect()
 }
 
+/// A refusal as the reader program writes it.
+fn refused(refusal: &Refusal) -> String {
+    format!("refused {} at {}", refusal.number(), refusal.place())
+}
+
 /// The list as the reader program writes it.
 pub fn program_words(list: &Result<List, Refusal>) -> String {
     let line = |row: &Row| format!("score {} message {}\n", row.score, digits(&row.message));
@@ -34,7 +39,7 @@ pub fn program_words(list: &Result<List, Refusal>) -> String {
             let lines: String = rows.iter().map(line).collect();
             format!("listed {}\n{lines}", rows.len())
         }
-        Err(refusal) => format!("{refusal}\n"),
+        Err(refusal) => format!("{}\n", refused(refusal)),
     }
 }
 
@@ -75,8 +80,8 @@ pub fn words(tag: &Tag, list: &Result<List, Refusal>) -> String {
         Err(refusal) => {
             let mut faults = check::faults(tag).into_iter();
             let fault = faults.find(|fault| fault.refusal == *refusal);
-            let why = fault.map_or(String::new(), |fault| format!(": {}", fault.why));
-            format!("{refusal}{why}\n")
+            let why = fault.map_or_else(|| refusal.to_string(), |fault| fault.why);
+            format!("{}: {why}\n", refused(refusal))
         }
     }
 }

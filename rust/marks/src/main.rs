@@ -1,9 +1,10 @@
 //! Turns texts of tags into the program's bytes and back, checks them, and shows them beside their
 //! lists.
 
+use marks::file::{holds_bytes, open};
 use marks::list::{list, program_words};
 use marks::picture::picture;
-use marks::reading::{holds_bytes, open, Fault, Reading};
+use marks::reading::{Fault, Reading};
 use marks::{bytes, text};
 use std::env::args_os;
 use std::io::{stdout, IsTerminal, Write};

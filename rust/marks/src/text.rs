@@ -5,7 +5,7 @@
 use crate::check::Item;
 use crate::reading::{Fault, Reading};
 use crate::tag::{Mark, Tag, NAMES};
-use kv::{GREATEST_LIMIT, POSITIONS, SYMBOLS};
+use kv::{LIMIT, POSITIONS, SYMBOLS};
 
 const ABOUT: [&str; NAMES.len()] = [
     "marks on the tag",
@@ -14,7 +14,7 @@ const ABOUT: [&str; NAMES.len()] = [
     "limit on the cost",
 ];
 /// Stand for settings that could not be read: nothing else is at fault for them.
-const LENIENT: [u8; NAMES.len()] = [POSITIONS as u8, 2, 1, GREATEST_LIMIT as u8];
+const LENIENT: [u8; NAMES.len()] = [POSITIONS as u8, 2, 1, LIMIT as u8];
 const MOST_MARKS: usize = u8::MAX as usize;
 
 fn mark_line((number, mark): (usize, &Mark)) -> String {

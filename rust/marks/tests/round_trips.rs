@@ -1,6 +1,6 @@
 //! Tags of every kind, also refused ones, from bytes to text and back.
 
-use kv::{Refusal, GREATEST_LEVEL, GREATEST_LIMIT, POSITIONS, SYMBOLS, WHOLE};
+use kv::{Refusal, LEVEL, LIMIT, POSITIONS, SYMBOLS, WHOLE};
 use marks::picture::picture;
 use marks::{bytes, check, list, text};
 use std::collections::BTreeSet;
@@ -26,8 +26,8 @@ fn camera(random: &mut Random, n: usize, k: usize) -> Vec<u16> {
 fn tag(random: &mut Random) -> Vec<u8> {
     let n = random.between(2, POSITIONS);
     let k = random.between(2, n);
-    let level = random.between(1, GREATEST_LEVEL);
-    let mut settings = [n, k, level, random.between(0, GREATEST_LIMIT)];
+    let level = random.between(1, LEVEL);
+    let mut settings = [n, k, level, random.between(0, LIMIT)];
     let mut weights = camera(random, n, k);
     if random.happens(3) {
         settings[random.between(0, 3)] = random.between(0, u8::MAX.into());

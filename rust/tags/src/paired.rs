@@ -1,6 +1,8 @@
 //! Matrices with long lists, for messages of two symbols.
 
-use crate::{hard_word, random_codeword, Random};
+use crate::matrices::hard_word;
+use crate::random::Random;
+use crate::words::random_codeword;
 use second::code::MOST_POSITIONS;
 use second::field::{plus, times, SYMBOLS};
 

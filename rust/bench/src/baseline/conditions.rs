@@ -1,7 +1,7 @@
 //! The conditions of a matrix: the monomials' values at a point, masked for each derivative.
 
 use super::field::{point, product, SYMBOLS};
-use super::polynomial::walk;
+use super::monomials::walk;
 use super::rows::{Block, Row, BLOCK, BLOCKS, COLUMNS};
 use std::slice::IterMut;
 

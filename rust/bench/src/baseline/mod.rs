@@ -7,6 +7,7 @@ mod conditions;
 mod elimination;
 mod field;
 mod list;
+mod monomials;
 mod plan;
 mod polynomial;
 mod roots;

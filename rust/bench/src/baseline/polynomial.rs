@@ -2,31 +2,12 @@
 
 use super::conditions::put_conditions;
 use super::elimination::{first_dependent, solve};
+use super::monomials::{bound, monomials};
 use super::rows::{Row, BLOCK, BLOCKS};
-
-/// N(D) for the weight v.
-pub fn monomials(v: usize, degree: usize) -> usize {
-    (0..=degree / v).map(|b| degree + 1 - v * b).sum()
-}
 
 fn cost(matrix: &[u8]) -> usize {
     let cost_of = |&m: &u8| usize::from(m) * (usize::from(m) + 1) / 2;
     matrix.iter().map(cost_of).sum()
-}
-
-/// The smallest degree with more monomials than the cost, without counting.
-fn bound(v: usize, cost: usize) -> usize {
-    let most = 2 * cost / v;
-    let mut m = 1;
-    while (m + 1) * m <= most {
-        m += 1;
-    }
-    (2 * cost + v * (m * (m - 1))) / (2 * m)
-}
-
-/// The powers of x and y of the monomials in order.
-pub fn walk(v: usize) -> impl Iterator<Item = (usize, usize)> {
-    (0..).flat_map(move |degree: usize| (0..=degree / v).map(move |b| (degree - v * b, b)))
 }
 
 /// The conditions of a matrix, in the blocks that its cost needs.

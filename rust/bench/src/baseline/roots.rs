@@ -1,7 +1,7 @@
 //! The root search of Roth and Ruckenstein.
 
 use super::field::{product, SYMBOLS};
-use super::polynomial::walk;
+use super::monomials::walk;
 
 /// D+1 times D/v+1 is no more for any D and v with N(D) up to 256.
 const CELLS: usize = 512;

@@ -1,146 +1,63 @@
-//! Elimination by columns, sixteen pivots at a time, up to the first column that depends on those
-//! before it.
+//! Elimination below one pivot at a time, up to the first column that depends on those before it.
 
 use super::field::{quotient, SYMBOLS};
-use super::lanes::{add, first_lane, lane, masks, scaled, BITS, LANES};
-use super::line::{for_words, part_mut, put_multiples, Line, Multiples};
+use super::lanes::{add, lane, masks, scaled, LANES};
+use super::rows::{for_words, part, part_mut, put_multiples, Multiples, Row};
 
-pub type Column = Line;
-
-/// What sixteen pivots do to the columns behind them.
-struct Panel<const WORDS: usize> {
-    /// The pivots' lanes that another lane was added to, with that lane.
-    added: [(usize, usize); LANES],
-    added_count: usize,
-    /// What a 1 in each pivot's lane becomes.
-    became: [[u64; WORDS]; LANES],
+/// Puts the row found first, divided by its entry at this place, and answers it. The words before
+/// these are 0 in both rows.
+fn exchange<const WORDS: usize>(rows: &mut [Row], found: usize, place: usize) -> [u64; WORDS] {
+    let pivot = *part::<WORDS>(&rows[found]);
+    let inverse = masks(quotient(1, lane(pivot[0], place)));
+    let pivot = pivot.map(|word| scaled(word, &inverse));
+    *part_mut(&mut rows[found]) = *part::<WORDS>(&rows[0]);
+    *part_mut(&mut rows[0]) = pivot;
+    pivot
 }
 
-/// The first lane from a place of the first word on that is not 0.
-fn first_from(words: &[u64], place: usize) -> Option<usize> {
-    let from_place = words[0] >> (BITS * place) << (BITS * place);
-    first_lane(from_place).or_else(|| {
-        let behind = words.iter().enumerate().skip(1);
-        let mut found = behind.filter_map(|(word, &lanes)| Some(LANES * word + first_lane(lanes)?));
-        found.next()
-    })
-}
-
-/// The lane found, put where the pivot's is.
-fn moved(words: &[u64], found: usize, place: usize) -> u64 {
-    let symbol = lane(words[found / LANES], found % LANES) as u64;
-    symbol << (BITS * place)
-}
-
-/// The column behind its pivot's lane, over the pivot.
-fn factors<const WORDS: usize>(column: &[u64; WORDS], place: usize) -> [u64; WORDS] {
-    let inverse = masks(quotient(1, lane(column[0], place)));
-    let mut factors = *column;
-    for word in &mut factors {
-        *word = scaled(*word, &inverse);
-    }
-    let behind = BITS * place;
-    factors[0] = factors[0] >> behind >> BITS << behind << BITS;
-    factors
-}
-
-impl<const WORDS: usize> Panel<WORDS> {
-    /// Takes the pivot of the column at this place, and answers whether there is one.
-    fn pivot(
-        &mut self,
-        columns: &mut [Column],
-        place: usize,
-        is_followed: bool,
-        table: &mut Multiples<WORDS>,
-    ) -> bool {
-        let (column, behind) = columns[place..].split_first_mut().expect("a column");
-        let column = part_mut::<WORDS>(column);
-        let Some(found) = first_from(column, place) else {
-            return false;
-        };
-        if found != place {
-            column[0] ^= moved(column, found, place);
-            self.added[self.added_count] = (place, found);
-            self.added_count += 1;
-        }
-        let factors = factors(column, place);
-        put_multiples(&factors, table);
-        let before = if is_followed { place } else { 0 };
-        let behind = behind.iter_mut().map(part_mut::<WORDS>);
-        for words in behind.chain(&mut self.became[..before]) {
-            if found != place {
-                words[0] ^= moved(words, found, place);
-            }
-            add(words, &table[lane(words[0], place)]);
-        }
-        self.became[place] = factors;
-        self.became[place][0] |= 1 << (BITS * place);
-        true
-    }
-
-    /// The pivots' lanes of a column, before the pivots change them.
-    fn pivots(&self, words: &[u64; WORDS]) -> u64 {
-        let added = self.added[..self.added_count].iter();
-        added.fold(words[0], |pivots, &(place, found)| {
-            pivots ^ moved(words, found, place)
-        })
-    }
-
-    /// Does to the columns behind the panel what its pivots do.
-    fn follow(&self, columns: &mut [Column], tables: &mut [Multiples<WORDS>; LANES]) {
-        for (became, table) in self.became.iter().zip(&mut *tables) {
-            put_multiples(became, table);
-        }
-        for column in columns {
-            let words = part_mut::<WORDS>(column);
-            let pivots = self.pivots(words);
-            let mut sums = *words;
-            sums[0] = 0;
-            for (place, table) in tables.iter().enumerate() {
-                add(&mut sums, &table[lane(pivots, place)]);
-            }
-            *words = sums;
-        }
-    }
-}
-
-/// The tables of what a 1 in each pivot's lane becomes, in the room for them.
-fn tables_in<const WORDS: usize>(room: &mut [u64]) -> &mut [Multiples<WORDS>; LANES] {
-    let entries = room.as_chunks_mut().0;
-    let tables = entries.as_chunks_mut().0;
-    tables.first_chunk_mut().expect("room for each table")
-}
-
-/// Takes the pivots of the lanes of one word. Answers the first column that has none, if any.
-fn reduce<const WORDS: usize>(columns: &mut [Column], room: &mut [u64]) -> Option<usize> {
-    let mut panel = Panel {
-        added: [(0, 0); LANES],
-        added_count: 0,
-        became: [[0; WORDS]; LANES],
+/// Clears the rows' entries at this place. Two rows whose entries are 0 are passed over together:
+/// asked of each row alone, the processor foresees the answer less often.
+fn clear<const WORDS: usize>(rows: &mut [Row], place: usize, multiples: &Multiples<WORDS>) {
+    let entry = |row: &Row| lane(part::<WORDS>(row)[0], place);
+    let clear_row = |row: &mut Row| {
+        let multiple = &multiples[entry(row)];
+        add(part_mut(row), multiple);
     };
-    let mut of_factors = [[0; WORDS]; SYMBOLS];
-    let (own, behind) = columns.split_at_mut(LANES.min(columns.len()));
-    for place in 0..own.len() {
-        if !panel.pivot(own, place, !behind.is_empty(), &mut of_factors) {
-            return Some(place);
+    let (pairs, last) = rows.as_chunks_mut();
+    for [first, second] in pairs {
+        if entry(first) | entry(second) != 0 {
+            clear_row(first);
+            clear_row(second);
         }
     }
-    if !behind.is_empty() {
-        panel.follow(behind, tables_in(room));
+    last.iter_mut().for_each(clear_row);
+}
+
+/// Takes the pivots of the columns of one word. Answers the first column that has none, if any.
+fn reduce<const WORDS: usize>(rows: &mut [Row]) -> Option<usize> {
+    let mut multiples = [[0; WORDS]; SYMBOLS];
+    for place in 0..LANES {
+        let left = &mut rows[place..];
+        let is_pivot = |row: &Row| lane(part::<WORDS>(row)[0], place) != 0;
+        let Some(found) = left.iter().position(is_pivot) else {
+            return Some(place);
+        };
+        let pivot = exchange(left, found, place);
+        put_multiples(&pivot, &mut multiples);
+        // The rows before have 0 there.
+        clear(&mut left[found + 1..], place, &multiples);
     }
     None
 }
 
-/// Reduces the columns until one depends on those before it, and answers that one.
-pub fn first_dependent(columns: &mut [Column], words: usize) -> usize {
-    // Only where columns follow, and only for the words in use: to clear more takes time.
-    let tables = if columns.len() > LANES { LANES } else { 0 };
-    let room = &mut vec![0; tables * SYMBOLS * words];
-    for word in 0..words {
-        let left = &mut columns[LANES * word..];
-        if let Some(place) = for_words!(words - word, reduce(left, room)) {
-            return LANES * word + place;
+/// Reduces the rows until a column depends on those before it, and answers that column.
+pub fn first_dependent(rows: &mut [Row], words: usize) -> usize {
+    let mut pivots = 0;
+    loop {
+        let left = &mut rows[pivots..];
+        match for_words!(words - pivots / LANES, reduce(left)) {
+            Some(place) => return pivots + place,
+            None => pivots += LANES,
         }
     }
-    LANES * words
 }

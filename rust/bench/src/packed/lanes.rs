@@ -85,18 +85,6 @@ pub fn add<const WORDS: usize>(words: &mut [u64; WORDS], more: &[u64; WORDS]) {
     }
 }
 
-/// 1, 2, 4 and 8 times each lane.
-#[inline]
-pub fn doublings<const WORDS: usize>(words: &[u64; WORDS]) -> [[u64; WORDS]; BITS] {
-    let mut doublings = [*words; BITS];
-    for bit in 1..BITS {
-        for word in 0..WORDS {
-            doublings[bit][word] = doubled(doublings[bit - 1][word]);
-        }
-    }
-    doublings
-}
-
 /// Entry c becomes c times the word.
 #[inline]
 pub fn multiples(word: u64) -> [u64; SYMBOLS] {

@@ -1,10 +1,10 @@
 //! The messages whose score is above the bound.
 
 use super::field::{power, product, ORDER, POWERS, SYMBOLS};
+use super::interpolation::polynomial;
 use super::lanes::{lane, BITS, LANES};
-use super::line::MOST_WORDS;
-use super::monomials::Bound;
 use super::roots::roots;
+use super::rows::MOST_WORDS;
 use crate::insertion::insert;
 
 /// For each place of a message and symbol there: the symbol's part of the codeword, a lane for each
@@ -31,15 +31,8 @@ fn score(matrix: &[u8], message: &[u8]) -> u16 {
     entries.map(u16::from).sum()
 }
 
-/// Writes rows and scores, and answers how many there are. The polynomial is written, and its bound
-/// answered, by the function that is given.
-pub fn list(
-    polynomial: impl Fn(usize, &[u8], &mut [u8]) -> Bound,
-    k: usize,
-    matrix: &[u8],
-    rows: &mut [u8],
-    scores: &mut [u16],
-) -> usize {
+/// Writes rows and scores, and answers how many there are.
+pub fn list(k: usize, matrix: &[u8], rows: &mut [u8], scores: &mut [u16]) -> usize {
     let mut coefficients = [0; LANES * MOST_WORDS];
     let bound = polynomial(k - 1, matrix, &mut coefficients);
     let mut count = 0;

@@ -22,7 +22,6 @@ pub struct Points {
     listed: [Point; MOST_POINTS],
     count: usize,
     pub cost: usize,
-    pub greatest_multiplicity: usize,
 }
 
 impl Points {
@@ -31,7 +30,6 @@ impl Points {
             listed: [Point::default(); MOST_POINTS],
             count: 0,
             cost: 0,
-            greatest_multiplicity: 0,
         };
         for (index, entries) in matrix.as_chunks::<AT_ONCE>().0.iter().enumerate() {
             let mut left = u64::from_le_bytes(*entries);
@@ -53,7 +51,6 @@ impl Points {
         self.count += 1;
         let m = usize::from(multiplicity);
         self.cost += m * (m + 1) / 2;
-        self.greatest_multiplicity = self.greatest_multiplicity.max(m);
     }
 
     pub fn listed(&self) -> &[Point] {

@@ -1,9 +1,10 @@
 //! The root search of Roth and Ruckenstein. A message that it finds need not be a root, since the
 //! list asks for its score only; every root is found.
 
-use super::field::{power, product, square, SYMBOLS};
-use super::lanes::{first_lane, lane, masks, scaled, zero_lanes, BITS, LANES};
+use super::field::{power, product, SYMBOLS};
+use super::lanes::{first_lane, lane, zero_lanes, BITS, LANES};
 use super::monomials::{bound, walk, Bound};
+use super::shift::shift;
 use super::straight::go_straight_on;
 use second::bound::GREATEST_LIMIT;
 use second::list::MOST_ROWS;
@@ -36,22 +37,6 @@ const fn values() -> [[u64; SYMBOLS]; HEIGHT] {
 struct Polynomial<const WORDS: usize> {
     rows: [[u64; WORDS]; HEIGHT],
     height: usize,
-}
-
-/// Row b becomes that of y^b where y + symbol is put for y.
-pub fn shift<const WORDS: usize>(rows: &mut [[u64; WORDS]], symbol: usize) {
-    let mut of_bit = symbol;
-    let mut bit = 1;
-    while bit < rows.len() {
-        let masks = masks(of_bit);
-        for b in (0..rows.len()).filter(|b| b & bit != 0) {
-            for word in 0..WORDS {
-                rows[b ^ bit][word] ^= scaled(rows[b][word], &masks);
-            }
-        }
-        of_bit = square(of_bit);
-        bit *= 2;
-    }
 }
 
 /// The lanes, moved up by so many.

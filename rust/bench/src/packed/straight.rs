@@ -2,7 +2,7 @@
 
 use super::field::quotient;
 use super::lanes::{lane, BITS};
-use super::roots::shift;
+use super::shift::shift;
 
 /// The message's first symbol is a simple root where x is 0; writes those after it.
 pub fn go_straight_on(rows: &mut [[u64; 1]], message: &mut [u8]) {

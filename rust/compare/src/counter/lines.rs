@@ -3,8 +3,8 @@
 use crate::counter::case::{Case, Photograph, Settings};
 use crate::counter::entry::{Entry, JUDGE, JUDGE_BOTH, OPEN, OPEN_BOTH};
 use crate::counter::rows::Rows;
-use crate::edges::{hold, Line};
 use crate::entry::Program;
+use crate::lines::{hold, Line};
 
 const K: usize = 2;
 

@@ -6,7 +6,7 @@ use crate::counter::rows::{Rows, NO_ROWS};
 use crate::entry::Program;
 use crate::sizes::Sizes;
 use kv::lent::list_of_reliabilities;
-use kv::{GREATEST_LIMIT, POSITIONS, ROWS};
+use kv::{LIMIT, POSITIONS, ROWS};
 use second::weights::{GREATEST_LEVEL, LEAST_LEVEL, WHOLE};
 use std::process::exit;
 use std::sync::LazyLock;
@@ -26,7 +26,7 @@ impl Written {
     fn new(settings: Settings, weights: &[u16]) -> Self {
         let [n, k, level] = settings;
         let (mut rows, mut scores) = ([0; ROWS * POSITIONS], [0; ROWS]);
-        let limit = GREATEST_LIMIT;
+        let limit = LIMIT;
         let answer = list_of_reliabilities(n, k, level, limit, weights, &mut rows, &mut scores);
         let count = usize::from(answer.count);
         let messages: Vec<&[u8]> = rows.chunks(k).take(count).collect();

@@ -1,5 +1,6 @@
 //! The table of faults, continued: what a record that comes in can hold.
 
+use crate::contents::{any_multiplicity, bad_multiplicity};
 use crate::edited::wrongly_held::{every_forged, forged};
 use crate::faults::{Input, Made};
 use crate::record::Record;
@@ -31,7 +32,7 @@ pub const RECORD: Input = Input {
         for place in 0..SYMBOLS * made.call.n {
             let later = random.between(place, SYMBOLS * made.call.n - 1);
             let two = with_entry(&any_matrix(made, random), later, any_entry(random));
-            let bad = with_entry(&two, place, any_bad(random));
+            let bad = with_entry(&two, place, bad_multiplicity(random));
             all.push(with_record(
                 made,
                 Record::of(made.call.n, &bad),
@@ -48,7 +49,7 @@ pub const COLUMN: Input = Input {
     each_place: |made, random| {
         let mut all = every_wrongly_held(made, random);
         for place in 0..SYMBOLS * made.call.n {
-            let bad = with_entry(&any_matrix(made, random), place, any_bad(random));
+            let bad = with_entry(&any_matrix(made, random), place, bad_multiplicity(random));
             let made = with_record(made, Record::of(made.call.n, &bad), Holding::Right);
             for position in [place / SYMBOLS, random.between(0, made.call.n - 1)] {
                 all.push(made.with([], |made| made.call.edit.position = position));
@@ -70,7 +71,7 @@ pub const ENTRY: Input = Input {
     each_place: |made, random| {
         let mut all = Vec::new();
         for made in every_wrongly_held(made, random) {
-            all.push(set(&made, any_good(random)));
+            all.push(set(&made, any_multiplicity(random)));
         }
         for place in 0..SYMBOLS * made.call.n {
             let made = made.with([], |made| {
@@ -102,22 +103,14 @@ pub fn columns(n: usize) -> usize {
 }
 
 fn any_matrix(made: &Made, random: &mut Random) -> Vec<u8> {
-    let greatest = any_good(random);
+    let greatest = any_multiplicity(random);
     random.bytes(SYMBOLS * columns(made.call.n), greatest)
-}
-
-pub fn any_good(random: &mut Random) -> u8 {
-    random.between(0, GREATEST_MULTIPLICITY.into()) as u8
-}
-
-pub fn any_bad(random: &mut Random) -> u8 {
-    [GREATEST_MULTIPLICITY + 1, u8::MAX][random.between(0, 1)]
 }
 
 fn any_entry(random: &mut Random) -> u8 {
     match random.happens(2) {
-        true => any_bad(random),
-        false => any_good(random),
+        true => bad_multiplicity(random),
+        false => any_multiplicity(random),
     }
 }
 
@@ -125,7 +118,10 @@ fn any_entry(random: &mut Random) -> u8 {
 pub fn with_bad(matrix: &[u8], random: &mut Random) -> Vec<u8> {
     match matrix.len() {
         0 => Vec::new(),
-        length => with_entry(matrix, random.between(0, length - 1), any_bad(random)),
+        length => {
+            let place = random.between(0, length - 1);
+            with_entry(matrix, place, bad_multiplicity(random))
+        }
     }
 }
 
@@ -166,7 +162,11 @@ fn every_wrongly_held(made: &Made, random: &mut Random) -> Vec<Made> {
 
 /// Two good entries and a bad one.
 fn entries(random: &mut Random) -> [u8; 3] {
-    [GREATEST_MULTIPLICITY, any_good(random), any_bad(random)]
+    [
+        GREATEST_MULTIPLICITY,
+        any_multiplicity(random),
+        bad_multiplicity(random),
+    ]
 }
 
 /// With the fault of an entry that is set inside the matrix.
@@ -181,7 +181,7 @@ fn set(made: &Made, entry: u8) -> Made {
 /// A good record, one with a bad entry at the place, and one with a bad entry anywhere.
 fn with_and_without_bad(made: &Made, place: usize, random: &mut Random) -> [Record; 3] {
     let good = any_matrix(made, random);
-    let at_place = with_entry(&good, place, any_bad(random));
+    let at_place = with_entry(&good, place, bad_multiplicity(random));
     let anywhere = with_bad(&good, random);
     [good, at_place, anywhere].map(|matrix| Record::of(made.call.n, &matrix))
 }

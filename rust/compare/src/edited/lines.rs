@@ -1,11 +1,11 @@
 //! What document 02, order 5, says of single records, written out.
 
 use crate::call::{Call, Edit};
-use crate::edges::{hold, told_line, Line};
 use crate::edited::entries::{
     ADD, CLEAR_COLUMN, COST_AND_BOUND, FRESH, INTERPOLATE, LIST, OF_BYTES, SET_ENTRY,
 };
 use crate::entry::{Entry, Program};
+use crate::lines::{hold, told_line, Line};
 use crate::lists;
 use crate::record::Record;
 

@@ -1,6 +1,7 @@
 //! The table of faults, continued: two records that are added.
 
-use crate::edited::inputs::{any_bad, columns, with_bad, with_record, Holding};
+use crate::contents::bad_multiplicity;
+use crate::edited::inputs::{columns, with_bad, with_record, Holding};
 use crate::edited::wrongly_held::{every_forged, forged};
 use crate::faults::{Input, Made};
 use crate::record::Record;
@@ -89,7 +90,7 @@ fn each_wrongly_held(made: &Made, random: &mut Random) -> Vec<Made> {
 fn bad_at(made: &Made, place: usize, random: &mut Random) -> Vec<Made> {
     let good = good_pair(made, random);
     let anywhere = random.between(0, good[0].len() - 1);
-    let bad = any_bad(random);
+    let bad = bad_multiplicity(random);
     let carried = CARRIED[random.between(0, CARRIED.len() - 1)];
     let at = |place: usize, [a, b]: [u8; 2], [first, second]: &[Vec<u8>; 2]| {
         [with_entry(first, place, a), with_entry(second, place, b)]

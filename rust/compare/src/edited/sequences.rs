@@ -2,9 +2,9 @@
 
 use crate::call::{Call, Edit, Outcome};
 use crate::comparison::Comparison;
+use crate::contents::{any_multiplicity, bad_multiplicity};
 use crate::edited::alike::read_alike;
 use crate::edited::entries::{ADD, CLEAR_COLUMN, FRESH, OF_BYTES, SET_ENTRY};
-use crate::edited::inputs::{any_bad, any_good};
 use crate::edited::wrongly_held::forged;
 use crate::entry::Entry;
 use crate::record::Record;
@@ -99,7 +99,7 @@ impl Bench<'_> {
     /// A record made anew: fresh, or of bytes.
     fn make(&mut self) -> Step {
         let m = match self.random.happens(FAULT_IN) {
-            true => any_bad(self.random),
+            true => bad_multiplicity(self.random),
             false => multiplicity(self.random),
         };
         let (entry, symbols) = match self.random.happens(2) {
@@ -144,8 +144,8 @@ impl Bench<'_> {
             false => right.into(),
         };
         let entry = match self.random.happens(FAULT_IN) {
-            true => any_bad(self.random),
-            false => any_good(self.random),
+            true => bad_multiplicity(self.random),
+            false => any_multiplicity(self.random),
         };
         let place = (SYMBOLS * position + symbol).min(PLACES - 1);
         let edit = Edit {
@@ -175,7 +175,7 @@ impl Bench<'_> {
         let mut matrix = self.worn(1);
         if self.random.happens(FAULT_IN) {
             let place = self.random.between(0, matrix.len() - 1);
-            matrix[place] = any_bad(self.random);
+            matrix[place] = bad_multiplicity(self.random);
         }
         let n = match self.random.happens(FAULT_IN) {
             true => self.n() + 1,

@@ -2,11 +2,11 @@
 
 use crate::call::{Call, Edit};
 use crate::comparison::Comparison;
+use crate::contents::any_multiplicity;
 use crate::cost_and_bound::matrix_of_cost;
 use crate::edited::entries::{
     ADD, CLEAR_COLUMN, COST_AND_BOUND, FRESH, INTERPOLATE, LIST, OF_BYTES, SET_ENTRY,
 };
-use crate::edited::inputs::any_good;
 use crate::entry::Entry;
 use crate::faults::Made;
 use crate::lists::with_room;
@@ -23,7 +23,7 @@ const COSTS_BETWEEN: usize = 7;
 
 impl Comparison {
     fn any_record(&mut self, n: usize) -> Record {
-        let greatest = any_good(&mut self.random);
+        let greatest = any_multiplicity(&mut self.random);
         Record::of(n, &self.random.bytes(SYMBOLS * n, greatest))
     }
 

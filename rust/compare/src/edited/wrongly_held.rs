@@ -1,7 +1,7 @@
 //! Records that are not rightly held: for what is stored, for a length, or for an entry in an unused
 //! column.
 
-use crate::edited::inputs::any_bad;
+use crate::contents::bad_multiplicity;
 use crate::record::Record;
 use second::code::MOST_POSITIONS;
 use second::field::SYMBOLS;
@@ -93,7 +93,7 @@ fn with_unused(right: &Record, place: usize, entry: u8) -> [Record; 4] {
 /// An entry other than 0.
 fn any_other(random: &mut Random) -> u8 {
     match random.happens(2) {
-        true => any_bad(random),
+        true => bad_multiplicity(random),
         false => multiplicity(random),
     }
 }

@@ -1,13 +1,14 @@
 //! What document 02, order 7, says of single plans, written out.
 
 use crate::call::Call;
-use crate::edges::{hold, sum_lines, told_line, Line};
 use crate::entry::{Entry, Program};
+use crate::lines::{hold, told_line, Line};
 use crate::lists;
 use crate::planned::entries::{
     CHECK_PLAN, LIST_OF_PLAN, MATRIX_CHECK_PLAN, MATRIX_LIST_OF_PLAN, PLAN,
 };
 use crate::record::Record;
+use crate::sums::sum_lines;
 
 const N: usize = 2;
 const ENTRIES: usize = 32;

@@ -1,4 +1,4 @@
-//! Rows and columns of packed words.
+//! Rows of packed words: a row is a condition, a lane of it a monomial.
 
 use super::field::SYMBOLS;
 use super::lanes::{multiples, LANES};
@@ -8,19 +8,19 @@ use second::bound::GREATEST_LIMIT;
 pub const MOST_WORDS: usize = GREATEST_LIMIT / LANES + 1;
 
 /// The words in use are the last ones, and of these the words from the pivot's on are changed.
-pub type Line = [u64; MOST_WORDS];
+pub type Row = [u64; MOST_WORDS];
 
 /// Entry c is c times the words.
 pub type Multiples<const WORDS: usize> = [[u64; WORDS]; SYMBOLS];
 
 #[inline]
-pub fn part<const WORDS: usize>(line: &Line) -> &[u64; WORDS] {
-    line.last_chunk().expect("a line is long enough")
+pub fn part<const WORDS: usize>(row: &Row) -> &[u64; WORDS] {
+    row.last_chunk().expect("a row is long enough")
 }
 
 #[inline]
-pub fn part_mut<const WORDS: usize>(line: &mut Line) -> &mut [u64; WORDS] {
-    line.last_chunk_mut().expect("a line is long enough")
+pub fn part_mut<const WORDS: usize>(row: &mut Row) -> &mut [u64; WORDS] {
+    row.last_chunk_mut().expect("a row is long enough")
 }
 
 #[inline(always)]
@@ -51,7 +51,7 @@ macro_rules! for_words {
             12 => $function::<12> $arguments,
             13 => $function::<13> $arguments,
             14 => $function::<14> $arguments,
-            _ => $function::<{ $crate::packed::line::MOST_WORDS }> $arguments,
+            _ => $function::<{ $crate::packed::rows::MOST_WORDS }> $arguments,
         }
     };
 }
