@@ -38,16 +38,16 @@ extern "C" {
  * come with later versions, and are refusals too.
  */
 enum {
-    KV_ACCEPTED = 0, /* the call is not refused */
-    KV_SIZES = 1,    /* n, k, a position or a symbol is out of range, or records differ in n */
-    KV_SETTING = 2,  /* level, limit, steps, degree or lead are out of range, or settings differ */
-    KV_LENGTH = 3,   /* an input has a wrong length, rows are no list, a record is wrongly held */
-    KV_ROOM = 4,     /* lent output is too short */
-    KV_SYMBOL = 5,   /* a symbol or coefficient is above 15, or a multiplicity above KV_LEVEL */
-    KV_COLUMN = 6,   /* the reliabilities of a position sum to more than KV_WHOLE */
-    KV_COST = 7,     /* the matrix costs more than the limit */
-    KV_ZERO = 8,     /* 0 has no inverse, or all coefficients are 0 */
-    KV_PLAN = 9      /* the plan is another than kv_plan writes */
+    KV_ACCEPTED = 0,        /* the call is not refused */
+    KV_REFUSED_SIZES = 1,   /* n, k, a position or a symbol out of range, or records of unequal n */
+    KV_REFUSED_SETTING = 2, /* level, limit, steps, degree or lead out of range, unequal settings */
+    KV_REFUSED_LENGTH = 3,  /* an input of a wrong length, rows that are no list, a record held wrong */
+    KV_REFUSED_ROOM = 4,    /* lent output is too short */
+    KV_REFUSED_SYMBOL = 5,  /* a symbol or coefficient above 15, or a multiplicity above KV_LEVEL */
+    KV_REFUSED_COLUMN = 6,  /* the reliabilities of a position sum to more than KV_WHOLE */
+    KV_REFUSED_COST = 7,    /* the matrix costs more than the limit */
+    KV_REFUSED_ZERO = 8,    /* 0 has no inverse, or all coefficients are 0 */
+    KV_REFUSED_PLAN = 9     /* the plan is another than kv_plan writes */
 };
 
 /* The limits. */

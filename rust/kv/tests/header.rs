@@ -20,11 +20,11 @@ fn numbered(line: &str) -> Option<(String, usize)> {
     Some((name.to_string(), number.parse().ok()?))
 }
 
-/// As C has a name that Rust has as a case.
-fn in_c(case: impl std::fmt::Debug) -> String {
+/// As C has a name that Rust has as a case, behind what C's begin with.
+fn in_c(begins: &str, case: impl std::fmt::Debug) -> String {
     let case = format!("{case:?}");
     let name = case.split('(').next().unwrap_or_default();
-    format!("KV_{}", name.to_uppercase())
+    format!("{begins}{}", name.to_uppercase())
 }
 
 macro_rules! limits {
@@ -39,14 +39,14 @@ fn refusals() -> impl Iterator<Item = (String, usize)> {
             number,
             ..Answer::default()
         };
-        answer.refusal().map(in_c)
+        answer.refusal().map(|case| in_c("KV_REFUSED_", case))
     };
     (1..=9).filter_map(move |number| Some((refusal(number)?, number.into())))
 }
 
 fn verdicts() -> impl Iterator<Item = (String, usize)> {
     let verdicts = [Verdict::Open, Verdict::Ask, Verdict::Nothing];
-    verdicts.into_iter().map(in_c).zip(1..)
+    verdicts.into_iter().map(|case| in_c("KV_", case)).zip(1..)
 }
 
 fn version() -> impl Iterator<Item = (String, usize)> {
