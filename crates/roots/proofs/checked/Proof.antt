@@ -107,7 +107,7 @@ came-late c =
     ▸ symbols .symbols-of .ensures
     ▸ (c .or4 .ensures ∙ ap (λ (b : Bool). orLine (toldChecked (symbols .symbols-of .result)) (line 8 b)) (zero .all-zero .ensures))
 
--- The second chain has tried the lines that are left of the table, and the size line before them has passed.
+-- The second chain has tried the lines that are left of the table, and the size before them has passed.
 returns-2 : tie.Need-returns-2
 returns-2 c =
     let t = between c in

@@ -257,7 +257,7 @@ module _ (t : ℕ) where
   loop-less : Of search-lts.Need-loop-less t
   loop-less c = let g = is-symbol (c .before .before .before) in omega arith
 
-  -- In w stand the branch's test, the calls of `handed` and `search`, and what `out` and `end` are after it.
+  -- In w stand the branch's test, the calls of `handed` and `search`, and `out` and `end` after them.
   loop-again : Of search-lts.Need-loop-again t
   loop-again c =
       let l = tried (c .before) .loop in
