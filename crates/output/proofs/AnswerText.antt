@@ -150,7 +150,7 @@ module _ (C : Code) (F : FieldOf C) (n k L G : ℕ) (r rows₀ scores₀ : List 
         let product : k * a .count ≡ k * length listed = ap (λ (x : ℕ). k * x) many in
         let flat = length-flatten k listed (list-sized C F n k (matrix L r)) in
         let long : length rows ≡ length (flatten listed) + length (drop (k * length listed) rows₀) = ap length rows-are ∙ length-append (flatten listed) (drop (k * length listed) rows₀) in
-        let marks : length (map (score C n (matrix L r)) listed) ≡ length listed = length-map listed (score C n (matrix L r)) in
+        let scored : length (map (score C n (matrix L r)) listed) ≡ length listed = length-map listed (score C n (matrix L r)) in
         let wide : length scores ≡ length (map (score C n (matrix L r)) listed) + length (drop (length listed) scores₀) =
         ap length scores-are ∙ length-append (map (score C n (matrix L r)) listed) (drop (length listed) scores₀) in
         (symbols, few, omega arith, omega arith)

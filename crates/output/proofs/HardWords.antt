@@ -48,28 +48,28 @@ module _ (word : List ℕ) (within : Within word) where
   stated w = length-single sixteen w word ∙ ap (λ (n : ℕ). sixteen .symbols * n) (within .0)
 
   -- so both calls are accepted
-  module _ (G rows scores : ℕ) (least : 3 ≤ G) (most : G ≤ greatestLimit) (room : greatestRows * 2 ≤ rows) (marks : greatestRows ≤ scores) where
+  module _ (G rows scores : ℕ) (least : 3 ≤ G) (most : G ≤ greatestLimit) (room-rows : greatestRows * 2 ≤ rows) (room-scores : greatestRows ≤ scores) where
     pub read-accepts : Accepts (readTable sixteen 3 2 1 G (single sixteen greatestSum word) rows scores)
     read-accepts =
         let price : cost (matrix 1 (single sixteen greatestSum word)) ≡ 3 = ap cost (single-matrix sixteen 1 word) ∙ within .2 in
-        word-taken sixteen 3 word (within .0) 2 1 G rows scores (omega arith, omega arith, omega arith) (omega arith, omega arith) most room marks (omega arith)
+        word-taken sixteen 3 word (within .0) 2 1 G rows scores (omega arith, omega arith, omega arith) (omega arith, omega arith) most room-rows room-scores (omega arith)
 
     list-accepts : Accepts (listTable sixteen 3 2 G (hardWord word) rows scores)
     list-accepts =
         let price : cost (hardWord word) ≡ 3 = within .2 in
         next refl (next (le-ltb greatestLimit G most) (next (ap not (eq-eqb (length (hardWord word)) (sixteen .symbols * 3) (stated 1)))
-        (next (le-ltb rows (greatestRows * 2) room) (next (le-ltb scores greatestRows marks)
+        (next (le-ltb rows (greatestRows * 2) room-rows) (next (le-ltb scores greatestRows room-scores)
         (next (within .1) (next (le-ltb G (cost (hardWord word)) (omega arith)) end))))))
 
   -- and leave what its list makes of the memory
   both : (l : List (List ℕ)) (left : List ℕ → List ℕ → Left) → listOf sixteen 3 2 (hardWord word) ≡ l
       → ((rows scores : List ℕ) → leftOf 3 2 rows scores (hardWord word) l ≡ left rows scores) → Both word left
-  both l left known made G rows scores least most room marks =
+  both l left known made G rows scores least most room-rows room-scores =
       let read = readTable sixteen 3 2 1 G (single sixteen greatestSum word) (length rows) (length scores) in
       let listed = listTable sixteen 3 2 G (hardWord word) (length rows) (length scores) in (
         ap (leftBy 3 2 rows scores read) (single-matrix sixteen 1 word)
-            ∙ leaves 3 2 rows scores read (read-accepts G (length rows) (length scores) least most room marks) (hardWord word) l known ∙ made rows scores,
-        leaves 3 2 rows scores listed (list-accepts G (length rows) (length scores) least most room marks) (hardWord word) l known ∙ made rows scores,
+            ∙ leaves 3 2 rows scores read (read-accepts G (length rows) (length scores) least most room-rows room-scores) (hardWord word) l known ∙ made rows scores,
+        leaves 3 2 rows scores listed (list-accepts G (length rows) (length scores) least most room-rows room-scores) (hardWord word) l known ∙ made rows scores,
       )
 
 pub within : Within (1 ∷ 1 ∷ 1 ∷ []) × Within (1 ∷ 1 ∷ 2 ∷ [])

@@ -79,11 +79,14 @@ module _ (w : Alphabet) where
 
   list-tells : (n k : ℕ) (m : List ℕ) → Tells (listText (codeOn w) n k m) (list (scoredList (codeOn w) n k m))
   unfolding textOf
-  list-tells n k m = (
-    ap₂ (λ (count : ℕ) (lines : List ℕ). listedLine count ++ lines) (sym (length-map (listOf (codeOn w) n k m) (λ (f : List ℕ). (score (codeOn w) n m f, f)))) (lines-flat (score (codeOn w) n m) (listOf (codeOn w) n k m)),
-    all-map (λ (r : ℕ × List ℕ). Symbols (codeOn w) (r .1)) (λ (f : List ℕ). (score (codeOn w) n m f, f)) (listOf (codeOn w) n k m)
-        (all-members (Symbols (codeOn w)) (listOf (codeOn w) n k m) (above-in-order (codeOn w) (zero-symbol (codeOn w) (field-on w)) n k m (bound (k - 1) (cost m)) .symbols)),
-  )
+  list-tells n k m =
+      let C = codeOn w in
+      let l = listOf C n k m in
+      let scored : List ℕ → ℕ × List ℕ = λ (f : List ℕ). (score C n m f, f) in
+      let messages = above-in-order C (zero-symbol C (field-on w)) n k m (bound (k - 1) (cost m)) .symbols in (
+        ap₂ (λ (count : ℕ) (lines : List ℕ). listedLine count ++ lines) (sym (length-map l scored)) (lines-flat (score C n m) l),
+        all-map (λ (r : ℕ × List ℕ). Symbols C (r .1)) scored l (all-members (Symbols C) l messages),
+      )
 
   refusal-tells : (number place : ℕ) → Tells (refusedLine number place) (refusal number place)
   unfolding textOf
@@ -113,7 +116,8 @@ module _ (w : Alphabet) where
   lists-apart a b l m ea eb other e = let same = same-text a b e in other (cc)
 
   -- no list is answered like a refusal
-  pub list-or-refusal : (a b : List ℕ) (l : List (ℕ × List ℕ)) (number place : ℕ) → told (codeOn w) a ≡ list l → told (codeOn w) b ≡ refusal number place → output (codeOn w) a ≡ output (codeOn w) b → ⊥
+  pub list-or-refusal : (a b : List ℕ) (l : List (ℕ × List ℕ)) (number place : ℕ) → told (codeOn w) a ≡ list l → told (codeOn w) b ≡ refusal number place
+      → output (codeOn w) a ≡ output (codeOn w) b → ⊥
   list-or-refusal a b l number place ea eb e = let same = same-text a b e in let z : _≡_ {A = ℕ} 0 1 = cc in omega arith
 
   -- what two calls wrote tells it, whatever memory was lent

@@ -114,10 +114,6 @@ module _ (C : Code) (row : List ℕ) (k left : ℕ) (M : List (List ℕ)) (z : l
       → (at ≡ at + length (rowsAfter (take (k - left) row) (search C left M))) × (d ≡ laid d at (rowsAfter (take (k - left) row) (search C left M)))
   leaf-nothing e d at = (rw (leaf-none e) (sym (add-zero at)), rw (leaf-none e) (laid-none d at))
 
--- what is tried is a symbol
-pub symbol : (C : Code) (g n : ℕ) → g ≤ n → n < C .symbols → g < C .symbols
-symbol C g n h k = omega arith
-
 -- a level that is not the last
 pub positive : (n : ℕ) → (n ≡ 0 → ⊥) → 0 < n
 positive n f =
@@ -187,6 +183,17 @@ tried-none C prefix n M d at out end g he ho b =
     before-more C prefix n M g ∙ ap (λ (l : List ℕ). rowsBefore C prefix n M g ++ l) f ∙ append-nil (rowsBefore C prefix n M g) in
     (rw e he, rw e ho)
 
+-- where g begins a root: the degree of what is handed on is within the array, its rows have room, and
+-- are written behind those before
+pub record GoneOn (C : Code) (k left D h : ℕ) (row p d : List ℕ) (at : ℕ) (out : List ℕ) (end g : ℕ) (r : List ℕ) : Type 0 where
+  pub within : DegreeWithin C (left - 1 - 1) D h r
+  pub room : end + length (rowsAfter (take (k - (left - 1)) (set row (k - left) g)) (search C (left - 1) (polynomial C h (D + 1) r))) ≤ length d
+  pub written : (e : ℕ) (o : List ℕ)
+      → e ≡ end + length (rowsAfter (take (k - (left - 1)) (set row (k - left) g)) (search C (left - 1) (polynomial C h (D + 1) r)))
+      → o ≡ laid out end (rowsAfter (take (k - (left - 1)) (set row (k - left) g)) (search C (left - 1) (polynomial C h (D + 1) r)))
+      → (e ≡ at + length (rowsBefore C (take (k - left) row) (left - 1) (polynomial C h (D + 1) p) (g + 1)))
+      × (o ≡ laid d at (rowsBefore C (take (k - left) row) (left - 1) (polynomial C h (D + 1) p) (g + 1)))
+
 module _ (C : Code) (F : FieldOf C) (k left D h : ℕ) (row p : List ℕ) (d : List ℕ) (at : ℕ) (out : List ℕ) (end g : ℕ)
     (hg : g < C .symbols) (pos : 0 < left) (fits : left ≤ k) (long : k ≤ length row)
     (room : at + length (rowsAfter (take (k - left) row) (search C left (polynomial C h (D + 1) p))) ≤ length d)
@@ -207,7 +214,7 @@ module _ (C : Code) (F : FieldOf C) (k left D h : ℕ) (row p : List ℕ) (d : L
   rows = rowsAfter (take (k - (left - 1)) (set row (k - left) g)) (search C (left - 1) (polynomial C h (D + 1) r))
 
   -- the degree of what is handed on is within the array
-  pub handed-within : DegreeWithin C (left - 1 - 1) D h r
+  handed-within : DegreeWithin C (left - 1 - 1) D h r
   handed-within = under-handed C F h D h0 g hg p (q .0) r sp (q .1) sr (q .2) (q .3) (left - 1) u
 
   -- its prefix is one symbol longer
@@ -228,7 +235,7 @@ module _ (C : Code) (F : FieldOf C) (k left D h : ℕ) (row p : List ℕ) (d : L
   all-room = subst (λ (l : List ℕ). at + length l ≤ length d) (rows-all C prefix left M pos) room
 
   -- they have room
-  pub handed-room : end + length (rowsAfter (take (k - (left - 1)) (set row (k - left) g)) (search C (left - 1) (polynomial C h (D + 1) r))) ≤ length d
+  handed-room : end + length (rowsAfter (take (k - (left - 1)) (set row (k - left) g)) (search C (left - 1) (polynomial C h (D + 1) r))) ≤ length d
   handed-room =
       let a = joined-room (rowsOf C prefix (left - 1) M) (C .symbols) g hg in
       let c = ap length handed-rows in
@@ -236,7 +243,7 @@ module _ (C : Code) (F : FieldOf C) (k left D h : ℕ) (row p : List ℕ) (d : L
       omega arith
 
   -- and are written behind those before
-  pub tried-some : (e : ℕ) (o : List ℕ)
+  tried-some : (e : ℕ) (o : List ℕ)
       → e ≡ end + length (rowsAfter (take (k - (left - 1)) (set row (k - left) g)) (search C (left - 1) (polynomial C h (D + 1) r)))
       → o ≡ laid out end (rowsAfter (take (k - (left - 1)) (set row (k - left) g)) (search C (left - 1) (polynomial C h (D + 1) r)))
       → (e ≡ at + length (rowsBefore C (take (k - left) row) (left - 1) (polynomial C h (D + 1) p) (g + 1)))
@@ -252,3 +259,7 @@ module _ (C : Code) (F : FieldOf C) (k left D h : ℕ) (row p : List ℕ) (d : L
         eo ∙ ap (λ (x : List ℕ). laid x end rows) ho ∙ laid-behind d at (rowsBefore C prefix (left - 1) M g) rows end (omega arith) he
             ∙ ap (laid d at) (sym f),
       )
+
+  -- all of it together
+  pub gone-on : GoneOn C k left D h row p d at out end g r
+  gone-on = record { within = handed-within; room = handed-room; written = tried-some }

@@ -7,10 +7,14 @@ use Rattle.streams.specs.declared.Moved.{Moved}
 use Rattle.reader.proofs.main.Statement.{statement}
 use Rattle.reader.proofs.main.Tie as tie
 
-read : (c : tie.After-count) → Counts (c .count .given .0 .0) (c .before .before .before .read-full .last .1 .0)
-read c =
-    let r = c .before .before .before .read-full in
-    subst (λ (moved : Moved). Within moved (r .last .1 .0)) (c .count .given .1) (r .ensures)
+abbrev read-call : tie.After-count → tie.After-read-full
+read-call at-count = at-count .before .before .before
+
+-- as many bytes as are told lie in the memory, so that the part of it that is answered has this length
+read : (at-count : tie.After-count) → Counts (at-count .count .given .0 .0) (read-call at-count .read-full .last .1 .0)
+read at-count =
+    let call = read-call at-count .read-full in
+    subst (λ (moved : Moved). Within moved (call .last .1 .0)) (at-count .count .given .1) (call .ensures)
 
 pub main-spec : {M : Type 1} → statement M
 main-spec =

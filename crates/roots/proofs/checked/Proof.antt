@@ -1,4 +1,5 @@
--- A degree of 256 or more has too many monomials, so the first chain refuses as the table does; the second tries the lines that are left.
+-- A degree of 256 or more has too many monomials, so the first chain refuses as the table does; the second
+-- tries the lines that are left.
 use mathlib.Core.Bool.{Bool, not}
 use mathlib.Core.List.{List, [], _∷_}
 use mathlib.Core.Path.{_∙_, ap}
@@ -46,19 +47,27 @@ module _ (C : Code) (D k : ℕ) where
 abbrev entry : tie.After-or → tie.Start
 entry c = c .before .before .before
 
-came-early : (c : tie.After-or) → (let a = entry c .args in Came (early (codeOn (a .alphabet)) (a .degree) (a .k)) [] (toldChecked (c .or .result)))
+came-early : (c : tie.After-or)
+    → (let a = entry c .args in Came (early (codeOn (a .alphabet)) (a .degree) (a .k)) [] (toldChecked (c .or .result)))
 came-early c = start ▸ c .before .size .ensures ▸ c .or .ensures
 
+-- The first chain refuses, and the table gives the same line.
 returns : tie.Need-returns
 returns c =
     let w = c .before .before .before in
     let a = entry w .args in
-    gives refusedAt passed (early-given (codeOn (a .alphabet)) (a .degree) (a .k) (a .coefficients .now) (a .room) (given (came-early w) (c .before .sized .given .1)))
+    let line = given (came-early w) (c .before .sized .given .1) in
+    gives refusedAt passed (early-given (codeOn (a .alphabet)) (a .degree) (a .k) (a .coefficients .now) (a .room) line)
 
-fit : (c : tie.After-enum-told) → (let a = entry (c .before .before) .args in (2 ≤ a .k) × (a .degree < greatestCount))
-fit c =
-    let a = entry (c .before .before) .args in
-    early-passed (codeOn (a .alphabet)) (a .degree) (a .k) (accepted (came-early (c .before .before)) (c .enum-told .given .1))
+abbrev first-chain : tie.After-enum-told → tie.After-or
+first-chain t = t .before .before
+
+early-accepts : (t : tie.After-enum-told)
+    → (let a = entry (first-chain t) .args in Accepts (early (codeOn (a .alphabet)) (a .degree) (a .k)))
+early-accepts t = accepted (came-early (first-chain t)) (t .enum-told .given .1)
+
+fit : (t : tie.After-enum-told) → (let a = entry (first-chain t) .args in (2 ≤ a .k) × (a .degree < greatestCount))
+fit t = let a = entry (first-chain t) .args in early-passed (codeOn (a .alphabet)) (a .degree) (a .k) (early-accepts t)
 
 sub-v : tie.Need-sub-v
 sub-v c = let f = fit c in omega arith
@@ -72,8 +81,17 @@ div-room c = let f = fit (c .before .before .before) in omega arith
 room-requires : tie.Need-room-requires
 room-requires c κs = let f = fit (c .before .before .before) in omega arith
 
+abbrev counted : tie.After-or3 → tie.After-count
+counted c = c .before .before
+
+abbrev second-chain : tie.After-or4 → tie.After-or3
+second-chain c = c .before .before .before .before
+
+abbrev between : tie.After-or4 → tie.After-enum-told
+between c = counted (second-chain c) .before
+
 came-late : (c : tie.After-or4)
-    → (let a = entry (c .before .before .before .before .before .before .before .before .before) .args in
+    → (let a = entry (first-chain (between c)) .args in
     Came (late (codeOn (a .alphabet)) (a .degree) (a .k) (a .coefficients .now) (a .room)) [] (toldChecked (c .or4 .result)))
 came-late c =
     let zero = c .before in
@@ -81,22 +99,22 @@ came-late c =
     let room = symbols .before in
     let given = room .before in
     let few = given .before in
-    let n = few .before in
-    let q = entry (n .before .before .before) .args .coefficients .now in
-    start ▸ (few .or2 .ensures ∙ ap (λ (x : ℕ). orLine passed (line 2 (ltb greatestCount x))) (n .count .ensures))
-    ▸ (given .or3 .ensures ∙ ap (λ (x : ℕ). orLine (toldChecked (few .or2 .result)) (line 3 (not (eqb (length q) x)))) (n .count .ensures))
+    let n = few .before .count .ensures in
+    let q = entry (first-chain (between c)) .args .coefficients .now in
+    start ▸ (few .or2 .ensures ∙ ap (λ (x : ℕ). orLine passed (line 2 (ltb greatestCount x))) n)
+    ▸ (given .or3 .ensures ∙ ap (λ (x : ℕ). orLine (toldChecked (few .or2 .result)) (line 3 (not (eqb (length q) x)))) n)
     ▸ room .room .ensures
     ▸ symbols .symbols-of .ensures
     ▸ (c .or4 .ensures ∙ ap (λ (b : Bool). orLine (toldChecked (symbols .symbols-of .result)) (line 8 b)) (zero .all-zero .ensures))
 
+-- The second chain has tried the lines that are left of the table, and the size before them has passed.
 returns-2 : tie.Need-returns-2
 returns-2 c =
-    let t = c .before .before .before .before .before .before .before in
-    let w = t .before .before in
-    let a = entry w .args in
+    let t = between c in
+    let a = entry (first-chain t) .args in
     let C = codeOn (a .alphabet) in
-    all-tried (came-late c)
-    ∙ front-passes refusedAt passed (late C (a .degree) (a .k) (a .coefficients .now) (a .room)) (size-passed C (a .degree) (a .k) (accepted (came-early w) (t .enum-told .given .1)))
+    let left = late C (a .degree) (a .k) (a .coefficients .now) (a .room) in
+    all-tried (came-late c) ∙ front-passes refusedAt passed left (size-passed C (a .degree) (a .k) (early-accepts t))
 
 pub checked-spec : {M : Type 1} → statement M
 checked-spec =

@@ -1,4 +1,4 @@
--- What the lines of the table let pass has its roots searched.
+-- One chain tries the whole table; the lines that a call has passed say all that the search asks.
 use mathlib.Core.Bool.{false}
 use mathlib.Core.List.{List, []}
 use mathlib.Core.Path.{_≡_, _∙_, ap}
@@ -44,22 +44,28 @@ abbrev entry : tie.After-checked → tie.Start
 entry c = c .before .before .before
 
 came : (c : tie.After-checked)
-    → (let a = entry c .args in Came (rootsTable (codeOn (a .alphabet)) (a .degree) (a .k) (a .coefficients .now) (length (a .out .now))) [] (toldChecked (c .checked .result)))
+    → (let a = entry c .args in
+    Came (rootsTable (codeOn (a .alphabet)) (a .degree) (a .k) (a .coefficients .now) (length (a .out .now))) [] (toldChecked (c .checked .result)))
 came c = has-tried _ (c .checked .ensures)
 
+-- A line of the table is given: its refusal, and the lent memory is as it was.
 returns : tie.Need-returns
 returns c =
     let w = c .before .before .before in
-    (answers (came w) [] _ (c .before .checked2 .given .1), stops (came w) [] (λ _ _. entry w .args .out .now) _ (c .before .checked2 .given .1))
+    let refused = c .before .checked2 .given .1 in
+    (answers (came w) [] _ refused, stops (came w) [] (λ _ _. entry w .args .out .now) _ refused)
 
 roots-into-requires : tie.Need-roots-into-requires
 roots-into-requires c κs =
     let t = c .before in
     let w = t .before .before in
     let a = entry w .args in
-    let f = fits (codeOn (a .alphabet)) (let z = sized (a .alphabet) .least in omega arith) (a .degree) (a .k) (a .coefficients .now) (length (a .out .now)) (accepted (came w) (t .enum-told .given .1)) in
+    let some : 0 < codeOn (a .alphabet) .symbols = let z = sized (a .alphabet) .least in omega arith in
+    let accepts = accepted (came w) (t .enum-told .given .1) in
+    let f = fits (codeOn (a .alphabet)) some (a .degree) (a .k) (a .coefficients .now) (length (a .out .now)) accepts in
     ((f .sized .0, f .sized .1, f .few), ((f .full, f .spacious), (f .symbols, f .nonzero)))
 
+-- The table accepts the call, so its answer and its memory are those of the search.
 returns-2 : tie.Need-returns-2
 returns-2 c =
     let r = c .before .before in

@@ -1,4 +1,4 @@
--- Each turn leaves one try fewer.
+-- Every turn hands the same memory to the system, and what is told of it counts bytes of that memory.
 use mathlib.Core.Path.{_≡_}
 use lib.ListN.{length}
 use native.Mathlib.Omega.{arith}
@@ -6,9 +6,11 @@ use borrow.Author.Needs.{needs}
 use Rattle.streams.proofs.read_some.Statement.{statement}
 use Rattle.streams.proofs.read_some.Tie as tie
 
+-- A call may change the bytes of the memory, but not their number.
 abbrev Inv-loop : tie.InvT-loop
 Inv-loop fd buf₀ left₀ buf left = length buf ≡ length buf₀
 
+-- each turn leaves one try fewer
 abbrev μ-loop : tie.MeasureT-loop
 μ-loop fd buf₀ left₀ buf left = left
 

@@ -1,6 +1,7 @@
--- Each turn that goes on leaves fewer bytes to be written.
+-- What a call takes lies in the rest that it is shown, so that the rest always begins within the memory.
+use mathlib.Core.List.{List}
 use mathlib.Core.Path.{refl}
-use Prim.Native.Nat.{_+_, _-_, _≤_}
+use Prim.Native.Nat.{ℕ, _+_, _-_, _≤_}
 use lib.ListN.{length}
 use native.Mathlib.Omega.{arith}
 use borrow.Author.Needs.{needs}
@@ -9,18 +10,28 @@ use Rattle.streams.proofs.Moving.{moved-within}
 use Rattle.streams.proofs.write_all.Statement.{statement}
 use Rattle.streams.proofs.write_all.Tie as tie
 
+-- As many bytes as were written lie within the memory.
 abbrev Inv-loop : tie.InvT-loop
 Inv-loop fd buf done₀ done = done ≤ length buf
 
+-- each turn that goes on leaves fewer bytes to be written
 abbrev μ-loop : tie.MeasureT-loop
 μ-loop fd buf done₀ done = length buf - done
 
-within : (c : tie.After-taken Inv-loop μ-loop) → c .before .before .before .before .before .loop .done + c .taken .given .0 .0 ≤ length (c .before .before .before .before .before .before .before .args .buf .now)
-within c =
-    let loop = c .before .before .before .before .before .loop in
-    let buf = c .before .before .before .before .before .before .before .args .buf .now in
-    let written = c .before .before .write-some in
-    moved-within (loop .done) (c .taken .given .0 .0) buf (midOf (loop .done) (length buf - loop .done) buf) (written .result) (loop .inv) refl (c .taken .given .1) (written .ensures)
+-- where the turn began whose call took bytes, and the whole memory
+abbrev turn : tie.After-taken Inv-loop μ-loop → tie.At-loop Inv-loop μ-loop
+turn at-taken = at-taken .before .before .before .before .before
+
+abbrev whole : tie.After-taken Inv-loop μ-loop → List ℕ
+whole at-taken = turn at-taken .before .before .args .buf .now
+
+within : (at-taken : tie.After-taken Inv-loop μ-loop) → turn at-taken .loop .done + at-taken .taken .given .0 .0 ≤ length (whole at-taken)
+within at-taken =
+    let loop = turn at-taken .loop in
+    let buf = whole at-taken in
+    let rest = midOf (loop .done) (length buf - loop .done) buf in
+    let written = at-taken .before .before .write-some in
+    moved-within (loop .done) (at-taken .taken .given .0 .0) buf rest (written .result) (loop .inv) refl (at-taken .taken .given .1) (written .ensures)
 
 add-done : tie.Need-add-done Inv-loop μ-loop
 add-done c = omega (arith, within (c .before .before))

@@ -1,12 +1,14 @@
--- Each turn leaves one try fewer.
+-- The memory is only read, so that what is told of a call is promised of the memory at the entry.
 use native.Mathlib.Omega.{arith}
 use borrow.Author.Needs.{needs}
 use Rattle.streams.proofs.write_some.Statement.{statement}
 use Rattle.streams.proofs.write_some.Tie as tie
 
+-- Nothing changes from turn to turn but the tries that are left.
 abbrev Inv-loop : tie.InvT-loop
 Inv-loop fd buf left₀ left = Unit {0}
 
+-- each turn leaves one try fewer
 abbrev μ-loop : tie.MeasureT-loop
 μ-loop fd buf left₀ left = left
 

@@ -1,7 +1,7 @@
 -- The first entry that is not zero tells how many columns go; the rest moves to the front.
 use mathlib.Core.Path.{_≡_, sym, subst}
-use mathlib.Core.List.{_++_}
-use Prim.Native.Nat.{ℕ, _-_, _*_, _/_}
+use mathlib.Core.List.{List, _++_}
+use Prim.Native.Nat.{ℕ, _-_, _*_, _/_, _≤_}
 use lib.ListN.{take, drop}
 use Rattle.alphabet.specs.Codes.{codeOn}
 use Rattle.definitions.specs.Code.{Symbols}
@@ -17,28 +17,43 @@ use borrow.Author.Needs.{needs}
 use Rattle.substitution.proofs.freed.Statement.{statement}
 use Rattle.substitution.proofs.freed.Tie as tie
 
-mul-moved : tie.Need-mul-moved
-mul-moved c =
-    let low = div-mul-le-self (c .first-other .result) (c .before .args .h) in
-    let e = c .first-other .ensures in
-    let b = smallest-le (isOther (c .before .args .p .now)) (c .before .args .w * c .before .args .h) in
+abbrev size : tie.Start → ℕ
+size s = s .args .w * s .args .h
+
+-- where the column of a first entry i begins
+abbrev column : tie.Start → ℕ → ℕ
+column s i = i / s .args .h * s .args .h
+
+-- the first column that is not zero begins in the array
+within : (o : tie.After-first-other) → column (o .before) (o .first-other .result) ≤ size (o .before)
+within o =
+    let s = o .before in
+    let low = div-mul-le-self (o .first-other .result) (s .args .h) in
+    let e = o .first-other .ensures in
+    let b = smallest-le (isOther (s .args .p .now)) (size s) in
     omega arith
 
-moved-requires : tie.Need-moved-requires
-moved-requires c κs =
-    let low = div-mul-le-self (c .first-other .result) (c .before .args .h) in
-    let e = c .first-other .ensures in
-    let b = smallest-le (isOther (c .before .args .p .now)) (c .before .args .w * c .before .args .h) in
-    (omega arith, omega arith, c .before .pre .2)
+mul-moved : tie.Need-mul-moved
+mul-moved c = let i = within c in omega arith
 
+moved-requires : tie.Need-moved-requires
+moved-requires c κs = (within c, c .before .pre .1, c .before .pre .2)
+
+-- what is moved, if the first entry other than zero is at i
+abbrev Moved : tie.Start → List ℕ → ℕ → Type 0
+Moved s r i = r ≡ take (size s - column s i) (drop (column s i) (s .args .p .now)) ++ drop (size s - column s i) (zeros places)
+
+-- The columns before the first that is not zero are gone, and the entries are those of the array, or zeros.
 returns : tie.Need-returns
 returns c =
     let o = c .before in
     let s = o .before in
-    let e : c .moved .result ≡ take (s .args .w * s .args .h - smallest (isOther (s .args .p .now)) (s .args .w * s .args .h) / s .args .h * s .args .h) (drop (smallest (isOther (s .args .p .now)) (s .args .w * s .args .h) / s .args .h * s .args .h) (s .args .p .now)) ++ drop (s .args .w * s .args .h - smallest (isOther (s .args .p .now)) (s .args .w * s .args .h) / s .args .h * s .args .h) (zeros places) =
-    subst (λ (i : ℕ). c .moved .result ≡ take (s .args .w * s .args .h - i / s .args .h * s .args .h) (drop (i / s .args .h * s .args .h) (s .args .p .now)) ++ drop (s .args .w * s .args .h - i / s .args .h * s .args .h) (zeros places)) (o .first-other .ensures) (c .moved .ensures) in (
-      (λ w. freed-moved (codeOn w) (s .args .h) (s .args .w) (s .pre .0) (s .args .p .now) (s .pre .2) (s .pre .1) (c .moved .result) e),
-      λ w sp. subst (Symbols (codeOn w)) (sym e) (copied-symbols (codeOn w) (field-on w) (s .args .p .now) (s .args .w * s .args .h - smallest (isOther (s .args .p .now)) (s .args .w * s .args .h) / s .args .h * s .args .h) (smallest (isOther (s .args .p .now)) (s .args .w * s .args .h) / s .args .h * s .args .h) places sp),
+    let a = s .args in
+    let r = c .moved .result in
+    let i = smallest (isOther (a .p .now)) (size s) in
+    let e = subst (Moved s r) (o .first-other .ensures) (c .moved .ensures) in (
+      (λ w. freed-moved (codeOn w) (a .h) (a .w) (s .pre .0) (a .p .now) (s .pre .2) (s .pre .1) r e),
+      λ w sp. subst (Symbols (codeOn w)) (sym e) (copied-symbols (codeOn w) (field-on w) (a .p .now) (size s - column s i) (column s i) places sp),
     )
 
 pub freed-spec : {M : Type 1} → statement M

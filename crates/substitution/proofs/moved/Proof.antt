@@ -1,4 +1,4 @@
--- The loop has copied the first i of the entries that move to the front.
+-- The law of copying loops (definitions, Loops), over a row of zeros.
 use mathlib.Core.Path.{_≡_, refl}
 use Prim.Native.Nat.{_-_, _≤_}
 use lib.ListN.{take, drop}
@@ -11,6 +11,7 @@ use Rattle.substitution.specs.Array.{places}
 use Rattle.substitution.proofs.moved.Statement.{statement}
 use Rattle.substitution.proofs.moved.Tie as tie
 
+-- Before round i the first i entries from `from` on are at the front, and zeros follow.
 abbrev Inv-loop : tie.InvT-loop
 Inv-loop p from n q₀ i₀ q i = (i ≤ n - from) × (q ≡ take i (drop from p) ++ drop i (zeros places))
 
@@ -28,6 +29,7 @@ loop-again c =
     let z = length-zeros places in
     (omega arith, copied-more (s .args .p .now) (zeros places) (l .loop .q) (s .args .from) (l .loop .i) (omega arith) (omega arith) (l .loop .inv .1))
 
+-- The loop has ended at i = n - from: all that moves has moved.
 returns : tie.Need-returns Inv-loop μ-loop
 returns c =
     let l = c .before in

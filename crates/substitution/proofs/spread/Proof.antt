@@ -1,4 +1,5 @@
--- The loop has laid the first a columns.
+-- Column a is a part of the array, which is proved once in the loop; `lay` lays it, and one law of
+-- Substitution adds it to those before.
 use mathlib.Core.Path.{_≡_, refl, subst}
 use Prim.Native.Nat.{ℕ, _+_, _*_, _-_, _≤_}
 use native.Mathlib.Omega.{arith}
@@ -15,6 +16,7 @@ use Rattle.substitution.specs.Array.{places, Spread, SymbolsKept}
 use Rattle.substitution.proofs.spread.Statement.{statement}
 use Rattle.substitution.proofs.spread.Tie as tie
 
+-- Before column a the columns before it are laid, over zeros; what was symbols is symbols.
 abbrev Inv-loop : tie.InvT-loop
 Inv-loop p h w q₀ a₀ q a = (a ≤ w) × (length q ≡ places) × SymbolsKept p q × Spread h w a p q
 
@@ -23,59 +25,65 @@ abbrev μ-loop : tie.MeasureT-loop
 
 loop-holds : tie.Need-loop-holds Inv-loop μ-loop
 unfolding zeros
-loop-holds c = let s = c .before in (omega arith, refl, (λ c sp. zeros-symbols (codeOn c) (field-on c) places), spread-none (s .args .h) (s .args .w) (s .args .p .now) places)
+loop-holds c =
+    let a = c .before .args in
+    (omega arith, refl, (λ c sp. zeros-symbols (codeOn c) (field-on c) places), spread-none (a .h) (a .w) (a .p .now) places)
+
+abbrev entry : tie.At-loop Inv-loop μ-loop → tie.Start Inv-loop μ-loop
+entry l = l .before .before
+
+-- column a is in the array
+within : (c : tie.In-loop Inv-loop μ-loop)
+    → (let a = entry (c .before) .args in c .before .loop .a * a .h + a .h ≤ a .w * a .h)
+within c = let a = entry (c .before) .args in column-within (c .before .loop .a) (a .h) (a .w) (omega arith)
 
 mul-from : tie.Need-mul-from Inv-loop μ-loop
-mul-from c =
-    let l = c .before in
-    let s = l .before .before in
-    let i = column-within (l .loop .a) (s .args .h) (s .args .w) (omega arith) in
-    omega arith
+mul-from c = let i = within c in omega arith
 
 add-to : tie.Need-add-to Inv-loop μ-loop
-add-to c =
-    let l = c .before in
-    let s = l .before .before in
-    let i = column-within (l .loop .a) (s .args .h) (s .args .w) (omega arith) in
-    omega arith
+add-to c = let i = within c in omega arith
 
 part-lay-end : tie.Need-part-lay-end Inv-loop μ-loop
-part-lay-end c =
-    let l = c .before .before in
-    let s = l .before .before in
-    let i = column-within (l .loop .a) (s .args .h) (s .args .w) (omega arith) in
-    omega arith
+part-lay-end c = let i = within (c .before) in omega arith
+
+-- the part from a h to a h + h has h entries
+height : (l : tie.At-loop Inv-loop μ-loop)
+    → (let a = entry l .args in l .loop .a * a .h + a .h - l .loop .a * a .h ≡ a .h)
+height l = omega arith
 
 lay-requires : tie.Need-lay-requires Inv-loop μ-loop
 lay-requires c κs =
     let l = c .before .before .before in
-    let s = l .before .before in
-    let i = column-within (l .loop .a) (s .args .h) (s .args .w) (omega arith) in
-    let e : l .loop .a * s .args .h + s .args .h - l .loop .a * s .args .h ≡ s .args .h = omega arith in
-    let long : length (take (s .args .h) (drop (l .loop .a * s .args .h) (s .args .p .now))) ≡ s .args .h =
-    length-take-le (s .args .h) (drop (l .loop .a * s .args .h) (s .args .p .now)) (rw length-drop (omega arith)) in
-    rw (e, long) (omega arith, omega arith, omega arith)
+    let a = entry l .args in
+    let i = within (c .before .before) in
+    let rest = drop (l .loop .a * a .h) (a .p .now) in
+    let long : length (take (a .h) rest) ≡ a .h = length-take-le (a .h) rest (rw length-drop (omega arith)) in
+    rw (height l, long) (omega arith, omega arith, omega arith)
 
 loop-again : tie.Need-loop-again Inv-loop μ-loop
 loop-again c =
-    let l = c .before .before .before .before .before in
-    let s = l .before .before in
+    let at-loop = c .before .before .before .before .before in
+    let l = at-loop .loop in
+    let a = entry at-loop .args in
+    let p = a .p .now in
     let r = c .before .lay in
-    let e : l .loop .a * s .args .h + s .args .h - l .loop .a * s .args .h ≡ s .args .h = omega arith in (
+    let e = height at-loop in (
       omega arith,
       omega arith,
-      (λ c sp. rw e at (r .ensures .1) c
-          (take-symbols (codeOn c) (zero-symbol (codeOn c) (field-on c)) (s .args .h) (drop (l .loop .a * s .args .h) (s .args .p .now)) (drop-symbols (codeOn c) (l .loop .a * s .args .h) (s .args .p .now) sp))
-          (l .loop .inv .2 c sp)),
-      spread-more (s .args .h) (s .args .w) (s .args .p .now) (l .loop .a) (l .loop .q) (r .last .0) (l .loop .inv .3) (rw e at (r .ensures .0)),
+      (λ c sp.
+          let rest = drop-symbols (codeOn c) (l .a * a .h) p sp in
+          let column = take-symbols (codeOn c) (zero-symbol (codeOn c) (field-on c)) (a .h) (drop (l .a * a .h) p) rest in
+          rw e at (r .ensures .1) c column (l .inv .2 c sp)),
+      spread-more (a .h) (a .w) p (l .a) (l .q) (r .last .0) (l .inv .3) (rw e at (r .ensures .0)),
     )
 
+-- The loop has ended at a = w: all columns are laid.
 returns : tie.Need-returns Inv-loop μ-loop
 returns c =
-    let l = c .before in
-    let s = l .before .before in
-    let e : l .loop .a ≡ s .args .w = omega arith in
-    (subst (λ (n : ℕ). Spread (s .args .h) (s .args .w) n (s .args .p .now) (l .loop .q)) e (l .loop .inv .3), l .loop .inv .2)
+    let l = c .before .loop in
+    let a = entry (c .before) .args in
+    let end : l .a ≡ a .w = omega arith in
+    (subst (λ (n : ℕ). Spread (a .h) (a .w) n (a .p .now) (l .q)) end (l .inv .3), l .inv .2)
 
 pub spread-spec : {M : Type 1} → statement M
 spread-spec =

@@ -1,4 +1,4 @@
--- The columns are shifted in place, and then spread.
+-- x y + g for y is y + g for y, in place, and then x y for y: one law joins the two promises.
 use mathlib.Core.Path.{_≡_}
 use native.Mathlib.Omega.{arith}
 use borrow.Author.Needs.{needs}
@@ -16,11 +16,17 @@ shift-requires c κs =
     let full : length (s .args .p) ≡ places = search needs in
     (s .pre .0, (s .pre .1 .0, (s .pre .1 .1 .0, omega arith, s .pre .1 .1 .1)))
 
+-- Shifted columns, spread, are the substitution; `spread` keeps the symbols that `shift` promises.
 returns : tie.Need-returns
 returns c =
-    let x = c .before .before .before .shift in
-    let s = c .before .before .before .before .before .before in
-    (spread-shifted (codeOn (s .args .alphabet)) (field-on (s .args .alphabet)) (s .args .h) (s .args .w) (s .args .g) (s .args .p) (x .last .1 .1 .0) (c .spread .result) (s .pre .1 .1 .1) (s .pre .1 .0) (x .ensures .0) (c .spread .ensures .0), c .spread .ensures .1 (s .args .alphabet) (x .ensures .1))
+    let at-shift = c .before .before .before in
+    let x = at-shift .shift in
+    let s = at-shift .before .before .before in
+    let a = s .args in
+    let q = c .spread in (
+      spread-shifted (codeOn (a .alphabet)) (field-on (a .alphabet)) (a .h) (a .w) (a .g) (a .p) (x .last .1 .1 .0) (q .result) (s .pre .1 .1 .1) (s .pre .1 .0) (x .ensures .0) (q .ensures .0),
+      q .ensures .1 (a .alphabet) (x .ensures .1),
+    )
 
 pub substituted-spec : {M : Type 1} → statement M
 substituted-spec =

@@ -1,25 +1,33 @@
--- Three parts are put one behind the other.
-use mathlib.Core.List.{_++_}
+-- Three parts, each put where the one before it ends: word, count and line feed.
 use Prim.Native.Nat.{_≤_}
 use lib.ListN.{length}
 use native.Mathlib.Omega.{arith}
 use Rattle.text.proofs.Putting.{puts-more}
-use Rattle.text.specs.Text.{decimal, listedWord, lineFeed}
 use borrow.Author.Needs.{needs}
 use Rattle.text.proofs.put_listed.Statement.{statement}
 use Rattle.text.proofs.put_listed.Tie as tie
 
+abbrev entry : tie.After-put → tie.Start
+entry c = c .before .before .before .before
+
+abbrev named : tie.After-put-decimal → tie.After-put
+named c = c .before .before .before .before
+
+abbrev counted : tie.After-put2 → tie.After-put-decimal
+counted c = c .before .before .before .before .before
+
+within : (s : tie.Start) → s .args .at ≤ length (s .args .out .now)
+within s = omega arith
+
+-- The word, the count and the line feed are put, one behind the other; together they have room.
 returns : tie.Need-returns
 returns c =
-    let s = c .before .before .before .before .before .before .before .before .before .before .before .before .before .before .before in
-    let a = c .before .before .before .before .before .before .before .before .before .before .before .put in
-    let b = c .before .before .before .before .before .before .before .put-decimal in
-    let d = c .before .before .put2 in
-    let out = s .args .out .now in
-    let at = s .args .at in
-    let within : at ≤ length out = omega arith in
-    let p1 = puts-more out (a .last .0) (b .last .0) (listedWord) (decimal (s .args .count)) at (a .result) (b .result) within (a .ensures) (b .ensures .0) in
-    let p2 = puts-more out (b .last .0) (d .last .0) (listedWord ++ decimal (s .args .count)) (lineFeed) at (b .result) (d .result) within p1 (d .ensures) in
+    let last = c .before .before in
+    let count = counted last in
+    let word = named count in
+    let h = within (entry word) in
+    let p1 = puts-more _ _ _ _ _ _ _ _ h (word .put .ensures) (count .put-decimal .ensures .0) in
+    let p2 = puts-more _ _ _ _ _ _ _ _ h p1 (last .put2 .ensures) in
     (p2, omega arith)
 
 pub put-listed-spec : {M : Type 1} → statement M

@@ -1,4 +1,4 @@
--- In either case the digits are those of the alphabet.
+-- The digits of each branch are the text in the alphabet that it knows, and go back to the call's.
 use mathlib.Core.List.{List, [], _∷_}
 use mathlib.Core.Path.{_≡_, sym, ap, ap₂, subst}
 use Prim.Native.Nat.{ℕ, _+_}
@@ -10,6 +10,11 @@ use borrow.Author.Needs.{needs}
 use Rattle.text.proofs.put_symbol.Statement.{statement}
 use Rattle.text.proofs.put_symbol.Tie as tie
 
+-- the digits put, of one alphabet
+abbrev Put : tie.Start → ℕ → List ℕ → Alphabet → Type 0
+Put s end after w = Puts (s .args .out .now) (s .args .at) (symbolText (codeOn w) (s .args .x)) end after
+
+-- The alphabet has thirty-two symbols, whose text is two digits.
 returns : tie.Need-returns
 returns c =
     let p = c .before .before in
@@ -17,19 +22,22 @@ returns c =
     let first = second .before in
     let t = first .before in
     let s = t .before .before .before in
-    let words = subst (λ (u : List ℕ). Puts (s .args .out .now) (s .args .at) u (p .put .result) (p .put .last .0)) (ap₂ (λ (a b : ℕ). a ∷ b ∷ []) (first .digit .ensures) (second .digit2 .ensures)) (p .put .ensures) in
+    let two = ap₂ (λ (a b : ℕ). a ∷ b ∷ []) (first .digit .ensures) (second .digit2 .ensures) in
+    let words = subst (λ (u : List ℕ). Puts (s .args .out .now) (s .args .at) u (p .put .result) (p .put .last .0)) two (p .put .ensures) in
     let e : p .put .result ≡ s .args .at + 2 = p .put .ensures .0 in
-    (subst (λ (w : Alphabet). Puts (s .args .out .now) (s .args .at) (symbolText (codeOn w) (s .args .x)) (p .put .result) (p .put .last .0)) (sym (t .enum-told .given .1)) words, omega arith)
+    (subst (Put s (p .put .result) (p .put .last .0)) (sym (t .enum-told .given .1)) words, omega arith)
 
+-- The alphabet has sixteen symbols, whose text is one digit.
 returns-2 : tie.Need-returns-2
 returns-2 c =
     let p = c .before .before in
-    let one = p .before .before .before in
-    let t = one .before in
+    let last = p .before .before .before in
+    let t = last .before in
     let s = t .before .before .before in
-    let words = subst (λ (u : List ℕ). Puts (s .args .out .now) (s .args .at) u (p .put2 .result) (p .put2 .last .0)) (ap (λ (a : ℕ). a ∷ []) (one .digit3 .ensures)) (p .put2 .ensures) in
+    let one = ap (λ (a : ℕ). a ∷ []) (last .digit3 .ensures) in
+    let words = subst (λ (u : List ℕ). Puts (s .args .out .now) (s .args .at) u (p .put2 .result) (p .put2 .last .0)) one (p .put2 .ensures) in
     let e : p .put2 .result ≡ s .args .at + 1 = p .put2 .ensures .0 in
-    (subst (λ (w : Alphabet). Puts (s .args .out .now) (s .args .at) (symbolText (codeOn w) (s .args .x)) (p .put2 .result) (p .put2 .last .0)) (sym (t .enum-told2 .given .1)) words, omega arith)
+    (subst (Put s (p .put2 .result) (p .put2 .last .0)) (sym (t .enum-told2 .given .1)) words, omega arith)
 
 pub put-symbol-spec : {M : Type 1} → statement M
 put-symbol-spec =

@@ -1,20 +1,30 @@
--- A leaf lays its row by memory's put; a level lays, symbol after symbol, the rows of what it hands on behind those before them.
+-- A leaf lays its row by memory's put; a level lays, symbol after symbol, the rows of what it hands on
+-- behind those before them. The levels left fall.
+use mathlib.Core.Bool.{true}
 use mathlib.Core.Logic.{⊎-elim}
 use mathlib.Core.List.{List}
 use mathlib.Core.Path.{_≡_, refl, sym, _∙_, ap}
-use Prim.Native.Nat.{ℕ, _+_, _-_, _≤_, _<_}
+use Prim.Native.Nat.{ℕ, _+_, _-_, _*_, _≤_, _<_}
 use native.Mathlib.Omega.{arith}
 use borrow.Author.Needs.{needs}
 use lib.ListN.{length, take}
 use lib.Seq.{length-take-le}
 use Rattle.alphabet.proofs.Alphabet.greatest_symbol.Reads as greatest-symbol-reads
 use Rattle.alphabet.proofs.Sizes.{sized}
-use Rattle.alphabet.specs.Codes.{codeOn, mostSymbols}
+use Rattle.alphabet.specs.Codes.{codeOn}
+use Rattle.definitions.specs.Code.{Symbols}
+use Rattle.definitions.specs.Field.{Code}
 use Rattle.instances.proofs.Codes.{field-on}
-use Rattle.substitution.specs.Array.{places, polynomial}
 use Rattle.memory.specs.Laid.{laid}
-use Rattle.roots.proofs.Rows.{rowsBefore, before-nothing, rows-all, leaf-root-length, leaf-written, leaf-nothing, symbol, positive, fewer, fewer-fit, same-room, row-holds, columns-fit, height-fits, begins-yes, begins-no, tried-none, tried-some, handed-within, handed-room}
-use borrow.Fn.Kinds.{In}
+use Rattle.root_tree.specs.Tree.{constantsZero}
+use Rattle.root_tree.specs.Tree as tree
+use Rattle.substitution.specs.Array.{places, polynomial, Handed}
+use Rattle.tables.specs.Table.{Tabled}
+use Rattle.roots.specs.Rows.{DegreeWithin, rowsAfter}
+use Rattle.roots.proofs.Rows.{rowsBefore, before-nothing, rows-all, leaf-root-length, leaf-written, leaf-nothing}
+use Rattle.roots.proofs.Rows.{positive, fewer, fewer-fit, same-room, row-holds, columns-fit, height-fits}
+use Rattle.roots.proofs.Rows.{begins-yes, begins-no, tried-none, GoneOn, gone-on}
+use borrow.Fn.Kinds.{In, Out}
 use borrow.Fn.PlainCycle.{Measures, is, falls, and}
 use Rattle.roots.proofs.inside.search.Reads as search′
 use Rattle.roots.proofs.inside.search.Kinds as search-kinds
@@ -52,189 +62,233 @@ claims t = (
   search′.Post,
 )
 
+-- Before symbol g the rows of all smaller symbols lie from `at` on, and `end` is the place after them.
 abbrev search-Inv-loop : search-lts.InvT-loop
-search-Inv-loop alphabet table degree h k left out₀ at p row end₀ g₀ greatest out end g = (g ≤ (codeOn alphabet) .symbols) × (length out ≡ length out₀) × (end ≡ at + length (rowsBefore (codeOn alphabet) (take (k - left) row) (left - 1) (polynomial (codeOn alphabet) h (degree + 1) p) g))
-    × (out ≡ laid out₀ at (rowsBefore (codeOn alphabet) (take (k - left) row) (left - 1) (polynomial (codeOn alphabet) h (degree + 1) p) g))
+search-Inv-loop alphabet table degree h k left out₀ at p row end₀ g₀ greatest out end g =
+    let C = codeOn alphabet in
+    let before = rowsBefore C (take (k - left) row) (left - 1) (polynomial C h (degree + 1) p) g in
+    (g ≤ C .symbols) × (length out ≡ length out₀) × (end ≡ at + length before) × (out ≡ laid out₀ at before)
 
 abbrev search-μ-loop : search-lts.MeasureT-loop
-search-μ-loop alphabet table degree h k left out₀ at p row end₀ g₀ greatest out end g = (codeOn alphabet) .symbols - g
+search-μ-loop alphabet table degree h k left out₀ at p row end₀ g₀ greatest out end g = codeOn alphabet .symbols - g
 
-search-add-constants-zero : (t : ℕ) → search-lts.Need-add-constants-zero (claims t) (search-at t) search′.Post search-Inv-loop search-μ-loop
-search-add-constants-zero t c =
-    let s = c .before .before .before .before in
-    let q = s .pre .1 .1 .1 .0 in
-    let f = columns-fit (s .args .h) (s .args .degree + 1) (q .0) (q .1) in
-    omega arith
+-- a place, or a need, of a call with t symbols left
+abbrev Of : (search-lts.Claims → In 2 search-kinds.ps → Out 2 search-kinds.ps search-kinds.r → search-lts.InvT-loop → search-lts.MeasureT-loop → Type 0) → ℕ → Type 0
+Of X t = X (claims t) (search-at t) search′.Post search-Inv-loop search-μ-loop
 
-search-constants-zero-requires : (t : ℕ) → search-lts.Need-constants-zero-requires (claims t) (search-at t) search′.Post search-Inv-loop search-μ-loop
-search-constants-zero-requires t c κs =
-    let q = c .before .before .before .before .pre .1 .1 .1 .0 in
-    (q .0, q .1)
+module _ (t : ℕ) where
+  -- ---- the entry; `t3` and `t6` are the generated names of the arrays p and row
 
-search-array-share-prefix-row : (t : ℕ) → search-lts.Need-array-share-prefix-row (claims t) (search-at t) search′.Post search-Inv-loop search-μ-loop
-search-array-share-prefix-row t c =
-    let z = sized (c .before .before .before .before .before .before .before .args .alphabet) in
-    let zp = z .points in
-    let zm = z .most in
-    search needs
+  module _ (s : Of search-lts.Start t) where
+    abbrev C : Code
+    C = codeOn (s .args .alphabet)
 
-search-slice-aggregate-put : (t : ℕ) → search-lts.Need-slice-aggregate-put (claims t) (search-at t) search′.Post search-Inv-loop search-μ-loop
-search-slice-aggregate-put t c =
-    let s = c .before .before .before .before .before .before .before .before in
-    let size : length (s .args .t6) ≡ mostSymbols = search needs in
-    let z = sized (s .args .alphabet) in
-    let zp = z .points in
-    let zm = z .most in
-    let q = s .pre .1 .1 .1 .0 in
-    sym (length-take-le (s .args .k) (s .args .t6) (omega arith))
+    -- the polynomial of which roots are searched
+    abbrev M : List (List ℕ)
+    M = polynomial C (s .args .h) (s .args .degree + 1) (s .args .t3)
 
-search-put-requires : (t : ℕ) → search-lts.Need-put-requires (claims t) (search-at t) search′.Post search-Inv-loop search-μ-loop
-search-put-requires t c κs =
-    let s = c .before .before .before .before .before .before .before .before in
-    let C = codeOn (s .args .alphabet) in
-    let size : length (s .args .t6) ≡ mostSymbols = search needs in
-    let z = sized (s .args .alphabet) in
-    let zp = z .points in
-    let zm = z .most in
-    let q = s .pre .1 .1 .1 .0 in
-    let n = leaf-root-length C (s .args .t6) (s .args .k) (s .args .left) (polynomial C (s .args .h) (s .args .degree + 1) (s .args .t3)) (c .before .before .before .before .before .if1 .taken) (sym (c .before .before .if2 .taken) ∙ c .before .before .before .constants-zero .ensures (s .args .alphabet)) (omega arith) in
-    let room = s .pre .1 .1 .1 .1 .1 in
-    let long = length-take-le (s .args .k) (s .args .t6) (omega arith) in
-    omega arith
+    -- the symbols fixed so far
+    abbrev prefix : List ℕ
+    prefix = take (s .args .k - s .args .left) (s .args .t6)
 
-search-add-result : (t : ℕ) → search-lts.Need-add-result (claims t) (search-at t) search′.Post search-Inv-loop search-μ-loop
-search-add-result t c =
-    let s = c .before .before .before .before .before .before .before .before .before .before .before in
-    let C = codeOn (s .args .alphabet) in
-    let size : length (s .args .t6) ≡ mostSymbols = search needs in
-    let z = sized (s .args .alphabet) in
-    let zp = z .points in
-    let zm = z .most in
-    let q = s .pre .1 .1 .1 .0 in
-    let n = leaf-root-length C (s .args .t6) (s .args .k) (s .args .left) (polynomial C (s .args .h) (s .args .degree + 1) (s .args .t3)) (c .before .before .before .before .before .before .before .before .if1 .taken) (sym (c .before .before .before .before .before .if2 .taken) ∙ c .before .before .before .before .before .before .constants-zero .ensures (s .args .alphabet)) (omega arith) in
-    let room = s .pre .1 .1 .1 .1 .1 in
-    omega arith
+    -- the rows of all ways to go on
+    abbrev rows : List ℕ
+    rows = rowsAfter prefix (tree.search C (s .args .left) M)
 
-search-same-length : (t : ℕ) → search-lts.Need-same-length (claims t) (search-at t) search′.Post search-Inv-loop search-μ-loop
-search-same-length t c = search needs
+    tabled : Tabled C (s .args .table .now)
+    tabled = s .pre .1 .0
 
-search-returns : (t : ℕ) → search-lts.Need-returns (claims t) (search-at t) search′.Post search-Inv-loop search-μ-loop
-search-returns t c =
-    let s = c .before .before .before .before .before .before .before .before .before .before .before in
-    let C = codeOn (s .args .alphabet) in
-    let size : length (s .args .t6) ≡ mostSymbols = search needs in
-    let z = sized (s .args .alphabet) in
-    let zp = z .points in
-    let zm = z .most in
-    let q = s .pre .1 .1 .1 .0 in
-    let e = sym (c .before .before .before .before .before .if2 .taken) ∙ c .before .before .before .before .before .before .constants-zero .ensures (s .args .alphabet) in (
-      ap (λ (n : ℕ). s .args .at + n) (sym (leaf-root-length C (s .args .t6) (s .args .k) (s .args .left) (polynomial C (s .args .h) (s .args .degree + 1) (s .args .t3)) (c .before .before .before .before .before .before .before .before .if1 .taken) e (omega arith))),
-      leaf-written C (s .args .t6) (s .args .k) (s .args .left) (polynomial C (s .args .h) (s .args .degree + 1) (s .args .t3)) (c .before .before .before .before .before .before .before .before .if1 .taken) e (s .args .out .now) _ (s .args .at) (c .before .before .put .ensures),
-    )
+    symbols : Symbols C (s .args .t3)
+    symbols = s .pre .1 .1 .0
 
-search-returns-2 : (t : ℕ) → search-lts.Need-returns-2 (claims t) (search-at t) search′.Post search-Inv-loop search-μ-loop
-search-returns-2 t c =
-    let s = c .before .before .before .before .before .before in
-    let C = codeOn (s .args .alphabet) in
-    leaf-nothing C (s .args .t6) (s .args .k) (s .args .left) (polynomial C (s .args .h) (s .args .degree + 1) (s .args .t3)) (c .before .before .before .if1 .taken) (sym (c .if2 .left) ∙ c .before .constants-zero .ensures (s .args .alphabet)) (s .args .out .now) (s .args .at)
+    abbrev sizes : (0 < s .args .h) × ((s .args .degree + 1) * s .args .h ≤ places) × (s .args .left ≤ s .args .k) × (s .args .k ≤ C .positions)
+    sizes = s .pre .1 .1 .1 .0
 
-search-loop-holds : (t : ℕ) → search-lts.Need-loop-holds (claims t) (search-at t) search′.Post search-Inv-loop search-μ-loop
-search-loop-holds t c =
-    let s = c .before .before .before .before in
-    let C = codeOn (s .args .alphabet) in
-    let z = before-nothing C (take (s .args .k - s .args .left) (s .args .t6)) (s .args .left - 1) (polynomial C (s .args .h) (s .args .degree + 1) (s .args .t3)) (s .args .out .now) (s .args .at) in
-    (omega arith, refl, z .0, z .1)
+    within : DegreeWithin C (s .args .left - 1) (s .args .degree) (s .args .h) (s .args .t3)
+    within = s .pre .1 .1 .1 .1 .0
 
-search-first-value-requires : (t : ℕ) → search-lts.Need-first-value-requires (claims t) (search-at t) search′.Post search-Inv-loop search-μ-loop
-search-first-value-requires t c κs =
-    let s = c .before .before .before .before .before .before .before in
-    let z = sized (s .args .alphabet) .least in
-    let q = s .pre .1 .1 .1 .0 in
-    let n : length (s .args .t3) ≡ places = search needs in
-    (s .pre .1 .0, (s .pre .1 .1 .0, (omega arith, omega arith, n)))
+    room : s .args .at + length rows ≤ length (s .args .out .now)
+    room = s .pre .1 .1 .1 .1 .1
 
-search-sub-next : (t : ℕ) → search-lts.Need-sub-next (claims t) (search-at t) search′.Post search-Inv-loop search-μ-loop
-search-sub-next t c = omega arith
+    columns : s .args .degree + 1 ≤ places
+    columns = columns-fit (s .args .h) (s .args .degree + 1) (sizes .0) (sizes .1)
 
-search-array-write-next : (t : ℕ) → search-lts.Need-array-write-next (claims t) (search-at t) search′.Post search-Inv-loop search-μ-loop
-search-array-write-next t c = let z = sized (c .before .before .before .before .before .before .before .before .before .args .alphabet) in omega arith
+    -- the row has an entry for each symbol of a message
+    long : s .args .k ≤ length (s .args .t6)
+    long = row-holds (s .args .alphabet) (s .args .t6) (s .args .k) (search needs) (sizes .3)
 
-search-add-handed : (t : ℕ) → search-lts.Need-add-handed (claims t) (search-at t) search′.Post search-Inv-loop search-μ-loop
-search-add-handed t c =
-    let s = c .before .before .before .before .before .before .before .before .before in
-    let q = s .pre .1 .1 .1 .0 in
-    let f = columns-fit (s .args .h) (s .args .degree + 1) (q .0) (q .1) in
-    omega arith
+  -- ---- the leaf
 
-search-handed-requires : (t : ℕ) → search-lts.Need-handed-requires (claims t) (search-at t) search′.Post search-Inv-loop search-μ-loop
-search-handed-requires t c κs =
-    let s = c .before .before .before .before .before .before .before .before .before in
-    let z = sized (s .args .alphabet) .least in
-    let q = s .pre .1 .1 .1 .0 in
-    (s .pre .1 .0, (s .pre .1 .1 .0, (q .0, height-fits (s .args .h) (s .args .degree + 1) (omega arith) (q .1), omega arith, q .1)))
+  abbrev leaf : Of search-lts.After-p t → Of search-lts.Start t
+  leaf c = c .before .before .before .before
 
-search-sub-search : (t : ℕ) → search-lts.Need-sub-search (claims t) (search-at t) search′.Post search-Inv-loop search-μ-loop
-search-sub-search t c = omega arith
+  add-constants-zero : Of search-lts.Need-add-constants-zero t
+  add-constants-zero c = let f = columns (leaf c) in omega arith
 
-search-search-requires : (t : ℕ) → search-lts.Need-search-requires (claims t) (search-at t) search′.Post search-Inv-loop search-μ-loop
-search-search-requires t c κs =
-    let l = c .before .before .before .before .before .before in
-    let s = c .before .before .before .before .before .before .before .before .before .before .before in
-    let z = sized (s .args .alphabet) .least in
-    let q = s .pre .1 .1 .1 .0 in
-    let fits = row-holds (s .args .alphabet) (s .args .t6) (s .args .k) (search needs) (q .3) in
-    let C = codeOn (s .args .alphabet) in
-    let hg = symbol C (l .loop .g) _ (c .before .before .before .before .before .loop-test .taken) (omega arith) in
-    let pos = positive (s .args .left) (c .before .before .before .before .before .before .before .before .if1 .left) in
-    let f = c .before .before .before .first-value in
-    let b = begins-yes C (s .args .h) (s .args .degree) (l .loop .g) (s .args .t3) (f .result) (f .ensures) (c .before .before .if3 .taken) in
-    let r = c .before .handed in
-    let within = handed-within C (field-on (s .args .alphabet)) (s .args .k) (s .args .left) (s .args .degree) (s .args .h) (s .args .t6) (s .args .t3) (s .args .out .now) (s .args .at) (l .loop .out) (l .loop .end) (l .loop .g) hg pos (q .2) fits (s .pre .1 .1 .1 .1 .1) (l .loop .inv .2) (l .loop .inv .3) (q .0) (s .pre .1 .1 .0) (s .pre .1 .1 .1 .1 .0) b (r .result) (r .ensures .1) (r .ensures .0) in
-    let room = handed-room C (field-on (s .args .alphabet)) (s .args .k) (s .args .left) (s .args .degree) (s .args .h) (s .args .t6) (s .args .t3) (s .args .out .now) (s .args .at) (l .loop .out) (l .loop .end) (l .loop .g) hg pos (q .2) fits (s .pre .1 .1 .1 .1 .1) (l .loop .inv .2) (l .loop .inv .3) (q .0) (s .pre .1 .1 .0) (s .pre .1 .1 .1 .1 .0) b (r .result) (r .ensures .1) (r .ensures .0) in
-    (fewer (s .args .left) t (s .pre .0) pos, (s .pre .1 .0, (r .ensures .1, ((q .0, q .1, fewer-fit (s .args .left) (s .args .k) (q .2), q .3), (within, same-room _ _ _ (l .loop .inv .1) room)))))
+  constants-zero-requires : Of search-lts.Need-constants-zero-requires t
+  constants-zero-requires c κs = (sizes (leaf c) .0, sizes (leaf c) .1)
 
-search-add-g : (t : ℕ) → search-lts.Need-add-g (claims t) (search-at t) search′.Post search-Inv-loop search-μ-loop
-search-add-g t c = let z = sized (c .before .before .before .before .before .before .before .before .before .args .alphabet) in omega arith
+  abbrev root : Of search-lts.Then2 t → Of search-lts.Start t
+  root c = leaf (c .before .before)
 
-search-loop-less : (t : ℕ) → search-lts.Need-loop-less (claims t) (search-at t) search′.Post search-Inv-loop search-μ-loop
-search-loop-less t c = let z = sized (c .before .before .before .before .before .before .before .before .before .args .alphabet) in omega arith
+  -- the test has found all constants zero
+  is-root : (c : Of search-lts.Then2 t) → true ≡ constantsZero (M (root c))
+  is-root c = sym (c .if2 .taken) ∙ c .before .constants-zero .ensures (root c .args .alphabet)
 
-search-loop-again : (t : ℕ) → search-lts.Need-loop-again (claims t) (search-at t) search′.Post search-Inv-loop search-μ-loop
-search-loop-again t c =
-    let l = c .before .before .before .before in
-    let s = c .before .before .before .before .before .before .before .before .before in
-    let C = codeOn (s .args .alphabet) in
-    let z = sized (s .args .alphabet) .least in
-    let q = s .pre .1 .1 .1 .0 in
-    let f = c .before .first-value in
-    let fits = row-holds (s .args .alphabet) (s .args .t6) (s .args .k) (search needs) (q .3) in
-    let hg = symbol C (l .loop .g) _ (c .before .before .before .loop-test .taken) (omega arith) in
-    let pos = positive (s .args .left) (c .before .before .before .before .before .before .if1 .left) in
-    ⊎-elim
-    (λ w.
-    let b = begins-yes C (s .args .h) (s .args .degree) (l .loop .g) (s .args .t3) (f .result) (f .ensures) (w .0 .taken) in
-    let z = tried-some C (field-on (s .args .alphabet)) (s .args .k) (s .args .left) (s .args .degree) (s .args .h) (s .args .t6) (s .args .t3) (s .args .out .now) (s .args .at) (l .loop .out) (l .loop .end) (l .loop .g) hg pos (q .2) fits (s .pre .1 .1 .1 .1 .1) (l .loop .inv .2) (l .loop .inv .3) (q .0) (s .pre .1 .1 .0) (s .pre .1 .1 .1 .1 .0) b (w .1 .result) (w .1 .ensures .1) (w .1 .ensures .0) (c .if3 .end) (c .if3 .out)
-    (w .7 ∙ w .3 .ensures .0) (w .6 ∙ w .3 .ensures .1) in
-    (omega arith, ap length (w .6) ∙ w .3 .kept .1 .1 .1 .1 .1 .1 .1 .1 .0 ∙ l .loop .inv .1, z .0, z .1))
-    (λ w.
-    let z = tried-none C (take (s .args .k - s .args .left) (s .args .t6)) (s .args .left - 1) (polynomial C (s .args .h) (s .args .degree + 1) (s .args .t3)) (s .args .out .now) (s .args .at) (l .loop .out) (l .loop .end) (l .loop .g) (l .loop .inv .2) (l .loop .inv .3) (begins-no C (s .args .h) (s .args .degree) (l .loop .g) (s .args .t3) (f .result) (f .ensures) (w .0 .left)) in
-    (omega arith, ap length (w .1) ∙ l .loop .inv .1, w .2 ∙ z .0, w .1 ∙ z .1))
-    (c .if3 .came)
+  root-length : (c : Of search-lts.Then2 t) → length (rows (root c)) ≡ root c .args .k
+  root-length c =
+      let a = root c .args in
+      leaf-root-length (C (root c)) (a .t6) (a .k) (a .left) (M (root c)) (c .before .before .before .if1 .taken) (is-root c) (long (root c))
 
-search-same-length-2 : (t : ℕ) → search-lts.Need-same-length-2 (claims t) (search-at t) search′.Post search-Inv-loop search-μ-loop
-search-same-length-2 t c = c .before .loop .inv .1
+  array-share-prefix-row : Of search-lts.Need-array-share-prefix-row t
+  array-share-prefix-row c = let l = long (root (c .before)) in search needs
 
-search-returns-3 : (t : ℕ) → search-lts.Need-returns-3 (claims t) (search-at t) search′.Post search-Inv-loop search-μ-loop
-search-returns-3 t c =
-    let l = c .before in
-    let s = c .before .before .before .before .before .before in
-    let C = codeOn (s .args .alphabet) in
-    let z = sized (s .args .alphabet) .least in
-    let r = rows-all C (take (s .args .k - s .args .left) (s .args .t6)) (s .args .left) (polynomial C (s .args .h) (s .args .degree + 1) (s .args .t3)) (omega arith) in
-    let e : l .loop .g ≡ C .symbols = omega arith in (
-      l .loop .inv .2 ∙ ap (λ (n : ℕ). s .args .at + length (rowsBefore C (take (s .args .k - s .args .left) (s .args .t6)) (s .args .left - 1) (polynomial C (s .args .h) (s .args .degree + 1) (s .args .t3)) n)) e ∙ ap (λ (x : List ℕ). s .args .at + length x) (sym r),
-      l .loop .inv .3 ∙ ap (λ (n : ℕ). laid (s .args .out .now) (s .args .at) (rowsBefore C (take (s .args .k - s .args .left) (s .args .t6)) (s .args .left - 1) (polynomial C (s .args .h) (s .args .degree + 1) (s .args .t3)) n)) e ∙ ap (laid (s .args .out .now) (s .args .at)) (sym r),
-    )
+  slice-aggregate-put : Of search-lts.Need-slice-aggregate-put t
+  slice-aggregate-put c = let s = root (c .before .before) in sym (length-take-le (s .args .k) (s .args .t6) (long s))
+
+  put-requires : Of search-lts.Need-put-requires t
+  put-requires c κs =
+      let s = root (c .before .before) in
+      let n = root-length (c .before .before) in
+      let r = room s in
+      let l = length-take-le (s .args .k) (s .args .t6) (long s) in
+      omega arith
+
+  abbrev laid-row : Of search-lts.After-slice-known2 t → Of search-lts.Then2 t
+  laid-row c = c .before .before .before .before .before
+
+  add-result : Of search-lts.Need-add-result t
+  add-result c =
+      let n = root-length (laid-row c) in
+      let r = room (root (laid-row c)) in
+      omega arith
+
+  -- No symbol is left and the constants are zero: the row itself is written, k entries.
+  returns : Of search-lts.Need-returns t
+  returns c =
+      let w = laid-row c in
+      let s = root w in
+      let a = s .args in (
+        ap (λ (n : ℕ). a .at + n) (sym (root-length w)),
+        leaf-written (C s) (a .t6) (a .k) (a .left) (M s) (w .before .before .before .if1 .taken) (is-root w) (a .out .now) _ (a .at) (c .before .before .put .ensures),
+      )
+
+  -- No symbol is left and a constant is not zero: there is no row, and nothing is written.
+  returns-2 : Of search-lts.Need-returns-2 t
+  returns-2 c =
+      let s = leaf (c .before .before) in
+      let a = s .args in
+      let no-root = sym (c .if2 .left) ∙ c .before .constants-zero .ensures (a .alphabet) in
+      leaf-nothing (C s) (a .t6) (a .k) (a .left) (M s) (c .before .before .before .if1 .taken) no-root (a .out .now) (a .at)
+
+  -- ---- one symbol after the other
+
+  loop-holds : Of search-lts.Need-loop-holds t
+  loop-holds c =
+      let s = c .before .before .before .before in
+      let z = before-nothing (C s) (prefix s) (s .args .left - 1) (M s) (s .args .out .now) (s .args .at) in
+      (omega arith, refl, z .0, z .1)
+
+  abbrev level : Of search-lts.At-loop t → Of search-lts.Start t
+  level l = l .before .before .before .before .before
+
+  -- a symbol is left
+  some-left : (l : Of search-lts.At-loop t) → 0 < level l .args .left
+  some-left l = positive (level l .args .left) (l .before .before .if1 .left)
+
+  abbrev tried : Of search-lts.After-first-value t → Of search-lts.At-loop t
+  tried c = c .before .before .before
+
+  -- what is tried is a symbol
+  is-symbol : (c : Of search-lts.In-loop t) → c .before .loop .g < C (level (c .before)) .symbols
+  is-symbol c =
+      let z = sized (level (c .before) .args .alphabet) .least in
+      omega arith
+
+  first-value-requires : Of search-lts.Need-first-value-requires t
+  first-value-requires c κs =
+      let s = level (c .before .before) in
+      let g = is-symbol (c .before) in
+      let f = height-fits (s .args .h) (s .args .degree + 1) (omega arith) (sizes s .1) in
+      let n : length (s .args .t3) ≡ places = search needs in
+      (tabled s, (symbols s, (omega arith, omega arith, n)))
+
+  array-write-next : Of search-lts.Need-array-write-next t
+  array-write-next c = let z = sized (level (tried (c .before)) .args .alphabet) in omega arith
+
+  add-handed : Of search-lts.Need-add-handed t
+  add-handed c = let f = columns (level (tried (c .before))) in omega arith
+
+  handed-requires : Of search-lts.Need-handed-requires t
+  handed-requires c κs =
+      let s = level (tried (c .before)) in
+      let g = is-symbol (c .before .before .before) in
+      (tabled s, (symbols s, (sizes s .0, height-fits (s .args .h) (s .args .degree + 1) (omega arith) (sizes s .1), g, sizes s .1)))
+
+  -- a symbol that begins a root: what is handed on is within the array, its rows go behind those before
+  gone : (c : Of search-lts.After-first-value t) (r : List ℕ)
+      → (let l = tried c .loop in let s = level (tried c) in let a = s .args in
+      c .first-value .result ≡ 0 → Symbols (C s) r → Handed (C s) (a .h) (a .degree + 1) (l .g) (a .t3) r
+      → GoneOn (C s) (a .k) (a .left) (a .degree) (a .h) (a .t6) (a .t3) (a .out .now) (a .at) (l .out) (l .end) (l .g) r)
+  gone c r zero sr handed =
+      let l = tried c .loop in
+      let s = level (tried c) in
+      let a = s .args in
+      let v = c .first-value in
+      let begun = begins-yes (C s) (a .h) (a .degree) (l .g) (a .t3) (v .result) (v .ensures) zero in
+      gone-on (C s) (field-on (a .alphabet)) (a .k) (a .left) (a .degree) (a .h) (a .t6) (a .t3) (a .out .now) (a .at) (l .out) (l .end) (l .g)
+      (is-symbol (c .before .before)) (some-left (tried c)) (sizes s .2) (long s) (room s) (l .inv .2) (l .inv .3) (sizes s .0) (symbols s) (within s) begun r sr handed
+
+  search-requires : Of search-lts.Need-search-requires t
+  search-requires c κs =
+      let h = c .before in
+      let f = h .before .before in
+      let s = level (tried f) in
+      let r = h .handed in
+      let g = gone f (r .result) (h .before .if3 .taken) (r .ensures .1) (r .ensures .0) in
+      let room = same-room _ _ _ (tried f .loop .inv .1) (g .room) in (
+        fewer (s .args .left) t (s .pre .0) (some-left (tried f)),
+        (tabled s, (r .ensures .1, ((sizes s .0, sizes s .1, fewer-fit _ _ (sizes s .2), sizes s .3), (g .within, room)))),
+      )
+
+  add-g : Of search-lts.Need-add-g t
+  add-g c = let z = sized (level (tried (c .before)) .args .alphabet) in omega arith
+
+  loop-less : Of search-lts.Need-loop-less t
+  loop-less c = let g = is-symbol (c .before .before .before) in omega arith
+
+  -- In w stand the branch's test, the calls of `handed` and `search`, and `out` and `end` after them.
+  loop-again : Of search-lts.Need-loop-again t
+  loop-again c =
+      let l = tried (c .before) .loop in
+      let s = level (tried (c .before)) in
+      let a = s .args in
+      let v = c .before .first-value in
+      let g = is-symbol (c .before .before .before) in
+      ⊎-elim
+      (λ w.
+      let more = gone (c .before) (w .1 .result) (w .0 .taken) (w .1 .ensures .1) (w .1 .ensures .0) .written _ _ (w .7 ∙ w .3 .ensures .0) (w .6 ∙ w .3 .ensures .1) in
+      (omega arith, ap length (w .6) ∙ w .3 .kept .1 .1 .1 .1 .1 .1 .1 .1 .0 ∙ l .inv .1, more .0, more .1))
+      (λ w.
+      let begins = begins-no (C s) (a .h) (a .degree) (l .g) (a .t3) (v .result) (v .ensures) (w .0 .left) in
+      let same = tried-none (C s) (prefix s) (a .left - 1) (M s) (a .out .now) (a .at) (l .out) (l .end) (l .g) (l .inv .2) (l .inv .3) begins in
+      (omega arith, ap length (w .1) ∙ l .inv .1, w .2 ∙ same .0, w .1 ∙ same .1))
+      (c .if3 .came)
+
+  same-length-2 : Of search-lts.Need-same-length-2 t
+  same-length-2 c = c .before .loop .inv .1
+
+  -- The loop has ended behind the greatest symbol, so the rows of all symbols are written.
+  returns-3 : Of search-lts.Need-returns-3 t
+  returns-3 c =
+      let l = c .before .loop in
+      let s = level (c .before) in
+      let a = s .args in
+      let z = sized (a .alphabet) .least in
+      let end : l .g ≡ C s .symbols = omega arith in
+      let before = rowsBefore (C s) (prefix s) (a .left - 1) (M s) in
+      let all : before (l .g) ≡ rows s = ap before end ∙ sym (rows-all (C s) (prefix s) (a .left) (M s) (some-left (c .before))) in
+      (l .inv .2 ∙ ap (λ (x : List ℕ). a .at + length x) all, l .inv .3 ∙ ap (laid (a .out .now) (a .at)) all)
 
 pub +search-spec : {M : Type 1} → statement M
 +search-spec = close μ-search λ t. search-lts.spec (claims t)
@@ -242,26 +296,26 @@ pub +search-spec : {M : Type 1} → statement M
     search′.Post
     search-Inv-loop
     search-μ-loop
-    (search-add-constants-zero t)
-    (search-constants-zero-requires t)
-    (search-array-share-prefix-row t)
-    (search-slice-aggregate-put t)
-    (search-put-requires t)
-    (search-add-result t)
-    (search-same-length t)
-    (search-returns t)
-    (search-returns-2 t)
+    (add-constants-zero t)
+    (constants-zero-requires t)
+    (array-share-prefix-row t)
+    (slice-aggregate-put t)
+    (put-requires t)
+    (add-result t)
+    (λ c. search needs)
+    (returns t)
+    (returns-2 t)
     (λ c κs. search needs)
-    (search-loop-holds t)
-    (search-first-value-requires t)
-    (search-sub-next t)
-    (search-array-write-next t)
-    (search-add-handed t)
-    (search-handed-requires t)
-    (search-sub-search t)
-    (search-search-requires t)
-    (search-add-g t)
-    (search-loop-less t)
-    (search-loop-again t)
-    (search-same-length-2 t)
-    (search-returns-3 t)
+    (loop-holds t)
+    (first-value-requires t)
+    (λ c. omega arith)
+    (array-write-next t)
+    (add-handed t)
+    (handed-requires t)
+    (λ c. omega arith)
+    (search-requires t)
+    (add-g t)
+    (loop-less t)
+    (loop-again t)
+    (same-length-2 t)
+    (returns-3 t)

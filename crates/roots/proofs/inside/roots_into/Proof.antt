@@ -1,4 +1,5 @@
--- The search finds the rows of all roots, k symbols each; in either case those of the alphabet.
+-- What the search asks and promises is stated of any alphabet and proved of the call's; each branch then
+-- takes it to the alphabet that it knows.
 use mathlib.Core.List.{List}
 use mathlib.Core.Path.{_≡_, sym, subst}
 use Prim.Native.Nat.{ℕ, _+_, _-_, _*_, _/_, _≤_, _<_}
@@ -25,70 +26,102 @@ use Rattle.roots.proofs.inside.roots_into.Tie as tie
 abbrev entry : tie.After-freed → tie.Start
 entry c = c .before .before .before .before .before
 
+abbrev height : tie.Start → ℕ
+height s = s .args .degree / (s .args .k - 1) + 1
+
+-- the array has room for every accepted polynomial
+fit : (s : tie.Start) → (s .args .degree + 1) * height s ≤ places
+fit s = array-fits (s .args .degree) (s .args .k) (s .pre .0 .0) (s .pre .0 .2)
+
 add-h : tie.Need-add-h
 add-h c =
     let s = c .before .before in
-    let f = height-fits (s .args .degree / (s .args .k - 1) + 1) (s .args .degree + 1) (omega arith) (array-fits (s .args .degree) (s .args .k) (s .pre .0 .0) (s .pre .0 .2)) in
+    let f = height-fits (height s) (s .args .degree + 1) (omega arith) (fit s) in
     omega arith
 
 load-requires : tie.Need-load-requires
-load-requires c κs =
-    let s = c .before .before in
-    ((omega arith, array-fits (s .args .degree) (s .args .k) (s .pre .0 .0) (s .pre .0 .2)), s .pre .1 .0 .0)
+load-requires c κs = let s = c .before .before in ((omega arith, fit s), s .pre .1 .0 .0)
 
 add-freed : tie.Need-add-freed
 add-freed c =
     let s = c .before .before .before .before in
-    let f = columns-fit (s .args .degree / (s .args .k - 1) + 1) (s .args .degree + 1) (omega arith) (array-fits (s .args .degree) (s .args .k) (s .pre .0 .0) (s .pre .0 .2)) in
+    let f = columns-fit (height s) (s .args .degree + 1) (omega arith) (fit s) in
     omega arith
 
 freed-requires : tie.Need-freed-requires
 freed-requires c κs =
     let s = c .before .before .before .before in
+    let a = s .args in
     let l = c .before .load in
-    (omega arith, array-fits (s .args .degree) (s .args .k) (s .pre .0 .0) (s .pre .0 .2), loaded-length (codeOn (s .args .alphabet)) (s .args .degree) (s .args .k) (s .args .coefficients .now) (l .result) (l .ensures (s .args .alphabet)))
+    (omega arith, fit s, loaded-length (codeOn (a .alphabet)) (a .degree) (a .k) (a .coefficients .now) (l .result) (l .ensures (a .alphabet)))
 
--- what is loaded are symbols
-are-symbols : (c : tie.After-freed) → Symbols (codeOn (entry c .args .alphabet)) (c .before .before .load .result)
+-- what is loaded, and freed, are symbols
+are-symbols : (c : tie.After-freed) → Symbols (codeOn (entry c .args .alphabet)) (c .freed .result)
 are-symbols c =
     let s = entry c in
-    let l = c .before .before .load in
-    loaded-are-symbols (codeOn (s .args .alphabet)) (field-on (s .args .alphabet)) (s .args .degree) (s .args .k) (s .args .coefficients .now) (s .pre .0 .0) (s .pre .0 .2) (s .pre .1 .0 .0) (s .pre .1 .1 .0) (l .result) (l .ensures (s .args .alphabet))
+    let w = s .args .alphabet in
+    let loaded = loaded-are-symbols (codeOn w) (field-on w) _ _ (s .args .coefficients .now) (s .pre .0 .0) (s .pre .0 .2) (s .pre .1 .0 .0) (s .pre .1 .1 .0) _ (c .before .before .load .ensures w) in
+    c .freed .ensures .1 w loaded
+
+-- the rows that the search finds in one alphabet
+abbrev rows : tie.After-freed → Alphabet → List ℕ
+rows c w =
+    let s = entry c in
+    let k = s .args .k in
+    rowsAfter (take (k - k) (zeros mostSymbols)) (tree.search (codeOn w) k (polynomial (codeOn w) (height s) (s .args .degree + 1) (c .freed .result)))
 
 -- what the search asks, of one alphabet
 abbrev Ready : tie.After-freed → Alphabet → Type 0
 Ready c w =
     let s = entry c in
-    let f = c .freed in
-    Symbols (codeOn w) (f .result) × (((0 < s .args .degree / (s .args .k - 1) + 1) × ((s .args .degree + 1) * (s .args .degree / (s .args .k - 1) + 1) ≤ places) × (s .args .k ≤ s .args .k) × (s .args .k ≤ codeOn w .positions))
-    × (DegreeWithin (codeOn w) (s .args .k - 1) (s .args .degree) (s .args .degree / (s .args .k - 1) + 1) (f .result) × (0 + length (rowsAfter (take (s .args .k - s .args .k) (zeros mostSymbols)) (tree.search (codeOn w) (s .args .k) (polynomial (codeOn w) (s .args .degree / (s .args .k - 1) + 1) (s .args .degree + 1) (f .result)))) ≤ length (s .args .out .now))))
+    let a = s .args in
+    let p = c .freed .result in
+    Symbols (codeOn w) p
+    × (((0 < height s) × ((a .degree + 1) * height s ≤ places) × (a .k ≤ a .k) × (a .k ≤ codeOn w .positions))
+    × (DegreeWithin (codeOn w) (a .k - 1) (a .degree) (height s) p × (0 + length (rows c w) ≤ length (a .out .now))))
 
 -- it holds of the call's alphabet
 ready : (c : tie.After-freed) → Ready c (entry c .args .alphabet)
 ready c =
     let s = entry c in
-    let C = codeOn (s .args .alphabet) in
-    let l = c .before .before .load in
-    let f = c .freed in
-    let w = within C (field-on (s .args .alphabet)) (s .args .degree) (s .args .k) (s .args .coefficients .now) (s .pre .0 .0) (s .pre .0 .2) (s .pre .1 .0 .0) (s .pre .1 .1 .0) (l .result) (l .ensures (s .args .alphabet)) (f .result) (f .ensures .1 (s .args .alphabet) (are-symbols c)) (f .ensures .0 (s .args .alphabet)) in
-    let room = room-enough C (field-on (s .args .alphabet)) (s .args .degree) (s .args .k) (s .args .coefficients .now) (s .pre .0 .0) (s .pre .0 .2) (s .pre .1 .0 .0) (s .pre .1 .1 .0) (l .result) (l .ensures (s .args .alphabet)) (f .result) (f .ensures .1 (s .args .alphabet) (are-symbols c)) (f .ensures .0 (s .args .alphabet)) (zeros mostSymbols) (s .pre .1 .1 .1) (length (s .args .out .now)) (s .pre .1 .0 .1) in
-    (f .ensures .1 (s .args .alphabet) (are-symbols c), ((omega arith, array-fits (s .args .degree) (s .args .k) (s .pre .0 .0) (s .pre .0 .2), omega arith, s .pre .0 .1), (w, room)))
+    let w = s .args .alphabet in
+    let C = codeOn w in
+    let F = field-on w in
+    let two = s .pre .0 .0 in
+    let small = s .pre .0 .2 in
+    let full = s .pre .1 .0 .0 in
+    let symbols = s .pre .1 .1 .0 in
+    let loaded = c .before .before .load .ensures w in
+    let freed = c .freed .ensures .0 w in
+    let low = within C F _ _ _ two small full symbols _ loaded _ (are-symbols c) freed in
+    let room = room-enough C F _ _ _ two small full symbols _ loaded _ (are-symbols c) freed (zeros mostSymbols) (s .pre .1 .1 .1) _ (s .pre .1 .0 .1) in
+    (are-symbols c, ((omega arith, fit s, omega arith, s .pre .0 .1), (low, room)))
 
--- what the search promises of one alphabet is the answer
+-- what the search promises, of one alphabet
+abbrev Found : tie.After-freed → ℕ → List ℕ → Alphabet → Type 0
+Found c e r w = (e ≡ 0 + length (rows c w)) × (r ≡ laid (entry c .args .out .now) 0 (rows c w))
+
+-- the y-roots of document 01
+abbrev roots : tie.After-freed → List (List ℕ)
+roots c = let a = entry c .args in rootsOf (codeOn (a .alphabet)) (a .degree) (a .k) (a .coefficients .now)
+
+-- of the call's alphabet it is the answer
 answered : (c : tie.After-freed) (w : Alphabet) (e : ℕ) (r : List ℕ)
-    → (let s = entry c in let f = c .freed in
-    s .args .alphabet ≡ w → e ≡ 0 + length (rowsAfter (take (s .args .k - s .args .k) (zeros mostSymbols)) (tree.search (codeOn w) (s .args .k) (polynomial (codeOn w) (s .args .degree / (s .args .k - 1) + 1) (s .args .degree + 1) (f .result)))) → r ≡ laid (s .args .out .now) 0 (rowsAfter (take (s .args .k - s .args .k) (zeros mostSymbols)) (tree.search (codeOn w) (s .args .k) (polynomial (codeOn w) (s .args .degree / (s .args .k - 1) + 1) (s .args .degree + 1) (f .result))))
-    → (e / s .args .k ≡ length (rootsOf (codeOn (s .args .alphabet)) (s .args .degree) (s .args .k) (s .args .coefficients .now)))
-    × (r ≡ rowsOnto (s .args .k) (rootsOf (codeOn (s .args .alphabet)) (s .args .degree) (s .args .k) (s .args .coefficients .now)) (s .args .out .now)))
-answered c w e r same he hr =
+    → (let a = entry c .args in
+    a .alphabet ≡ w → Found c e r w → (e / a .k ≡ length (roots c)) × (r ≡ rowsOnto (a .k) (roots c) (a .out .now)))
+answered c w e r same found =
     let s = entry c in
     let C = codeOn (s .args .alphabet) in
-    let l = c .before .before .load in
-    let f = c .freed in
-    let both : (e ≡ 0 + length (rowsAfter (take (s .args .k - s .args .k) (zeros mostSymbols)) (tree.search C (s .args .k) (polynomial C (s .args .degree / (s .args .k - 1) + 1) (s .args .degree + 1) (f .result))))) × (r ≡ laid (s .args .out .now) 0 (rowsAfter (take (s .args .k - s .args .k) (zeros mostSymbols)) (tree.search C (s .args .k) (polynomial C (s .args .degree / (s .args .k - 1) + 1) (s .args .degree + 1) (f .result))))) =
-    subst (λ (w : Alphabet). (e ≡ 0 + length (rowsAfter (take (s .args .k - s .args .k) (zeros mostSymbols)) (tree.search (codeOn w) (s .args .k) (polynomial (codeOn w) (s .args .degree / (s .args .k - 1) + 1) (s .args .degree + 1) (f .result))))) × (r ≡ laid (s .args .out .now) 0 (rowsAfter (take (s .args .k - s .args .k) (zeros mostSymbols)) (tree.search (codeOn w) (s .args .k) (polynomial (codeOn w) (s .args .degree / (s .args .k - 1) + 1) (s .args .degree + 1) (f .result)))))) (sym same) (he, hr) in (
-      rows-counted C (field-on (s .args .alphabet)) (s .args .degree) (s .args .k) (s .args .coefficients .now) (s .pre .0 .0) (s .pre .0 .2) (s .pre .1 .0 .0) (s .pre .1 .1 .0) (l .result) (l .ensures (s .args .alphabet)) (f .result) (f .ensures .1 (s .args .alphabet) (are-symbols c)) (f .ensures .0 (s .args .alphabet)) (zeros mostSymbols) e (both .0),
-      rows-written C (field-on (s .args .alphabet)) (s .args .degree) (s .args .k) (s .args .coefficients .now) (s .pre .0 .0) (s .pre .0 .2) (s .pre .1 .0 .0) (s .pre .1 .1 .0) (l .result) (l .ensures (s .args .alphabet)) (f .result) (f .ensures .1 (s .args .alphabet) (are-symbols c)) (f .ensures .0 (s .args .alphabet)) (zeros mostSymbols) (s .args .out .now) r (both .1),
+    let F = field-on (s .args .alphabet) in
+    let two = s .pre .0 .0 in
+    let small = s .pre .0 .2 in
+    let full = s .pre .1 .0 .0 in
+    let symbols = s .pre .1 .1 .0 in
+    let loaded = c .before .before .load .ensures (s .args .alphabet) in
+    let freed = c .freed .ensures .0 (s .args .alphabet) in
+    let here = subst (Found c e r) (sym same) found in (
+      rows-counted C F _ _ _ two small full symbols _ loaded _ (are-symbols c) freed (zeros mostSymbols) e (here .0),
+      rows-written C F _ _ _ two small full symbols _ loaded _ (are-symbols c) freed (zeros mostSymbols) _ r (here .1),
     )
 
 search-requires : tie.Need-search-requires
@@ -98,12 +131,13 @@ search-requires c κs =
     let t = p .before in
     (p .products-of-thirty-two .ensures, subst (Ready (t .before .before)) (t .enum-told .given .1) (ready (t .before .before)))
 
+-- The alphabet is that of thirty-two symbols, in which the search has found all roots.
 returns : tie.Need-returns
 unfolding zeros
 returns c =
     let r = c .before .before in
     let t = r .before .before .before .before in
-    answered (t .before .before) ThirtyTwo (r .search .result) _ (t .enum-told .given .1) (r .search .ensures .0) (r .search .ensures .1)
+    answered (t .before .before) ThirtyTwo (r .search .result) _ (t .enum-told .given .1) (r .search .ensures)
 
 search-requires-2 : tie.Need-search-requires-2
 unfolding zeros
@@ -112,12 +146,13 @@ search-requires-2 c κs =
     let t = p .before in
     (p .products-of-sixteen .ensures, subst (Ready (t .before .before)) (t .enum-told2 .given .1) (ready (t .before .before)))
 
+-- The alphabet is that of sixteen symbols, in which the search has found all roots.
 returns-2 : tie.Need-returns-2
 unfolding zeros
 returns-2 c =
     let r = c .before .before in
     let t = r .before .before .before .before in
-    answered (t .before .before) Sixteen (r .search2 .result) _ (t .enum-told2 .given .1) (r .search2 .ensures .0) (r .search2 .ensures .1)
+    answered (t .before .before) Sixteen (r .search2 .result) _ (t .enum-told2 .given .1) (r .search2 .ensures)
 
 pub roots-into-spec : {M : Type 1} → statement M
 roots-into-spec =
