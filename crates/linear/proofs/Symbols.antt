@@ -8,7 +8,9 @@ use Prim.Native.Nat.{ℕ, zero, suc, _+_, _≤_, _<_}
 use native.Mathlib.Decide.{ℕ-discrete, decLt}
 use native.Mathlib.Omega.{arith}
 use lib.ListN.{getD}
-use Rattle.algebra.proofs.Elements.{number-injective, one-not-zero, symbol-injective, zero-element, zero-symbol, one-symbol, plus-symbol, times-symbol, element-zero, element-one, element-plus, element-times, plus-none, none-times}
+use Rattle.algebra.proofs.Elements.{number-injective, one-not-zero, symbol-injective, plus-none, none-times}
+use Rattle.algebra.proofs.Elements.{zero-symbol, one-symbol, plus-symbol, times-symbol}
+use Rattle.algebra.proofs.Elements.{zero-element, element-zero, element-one, element-plus, element-times}
 use Rattle.algebra.proofs.Solutions.{number-dot}
 use Rattle.algebra.proofs.RingLaws.{zero-times}
 use Rattle.algebra.specs.FieldOf.{FieldOf}

@@ -13,7 +13,8 @@ use Rattle.algebra.proofs.Evaluation.{evaluate, evaluate-sum, evaluate-multiple
 use Rattle.algebra.proofs.Polynomials.{coefficient-plus}
 use Rattle.algebra.proofs.RingLaws.{ring, zero-plus, plus-self, equal-of-sum}
 use Rattle.algebra.proofs.RootCounting.{Zero}
-use Rattle.algebra.proofs.Series.{Series, series, addS, mulS, constant, constants, zeroS, linear, addS-at, addS-comm, zeroS-at, mulS-zero, constant-zero, constant-suc, linear-add, linear-mul-zero, linear-mul-suc}
+use Rattle.algebra.proofs.Series.{Series, series, addS, mulS, constant, constants, zeroS, linear}
+use Rattle.algebra.proofs.Series.{addS-at, addS-comm, zeroS-at, mulS-zero, constant-zero, constant-suc, linear-add, linear-mul-zero, linear-mul-suc}
 use Rattle.algebra.proofs.Taylor.{taylor, taylor-zero}
 use Rattle.root_tree.specs.Columns.{first, shift, shiftColumns, plusColumns, timesY, diagonal, spread, substitute}
 

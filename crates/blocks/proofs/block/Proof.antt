@@ -1,4 +1,4 @@
--- Each pass copies one entry more.
+-- Each pass copies one entry more of the row to the block.
 use mathlib.Core.Path.{_≡_, refl, _∙_}
 use Prim.Native.Nat.{ℕ, _+_, _-_, _≤_, _<_}
 use native.Mathlib.Omega.{arith}
@@ -9,6 +9,7 @@ use borrow.Author.Needs.{needs}
 use Rattle.blocks.proofs.block.Statement.{statement}
 use Rattle.blocks.proofs.block.Tie as tie
 
+-- The first i entries of part are those of the row from `at` on.
 abbrev Inv-loop : tie.InvT-loop
 Inv-loop row at part₀ i₀ part i = (i ≤ block) × (length part ≡ block) × Front i (λ (k : ℕ). getD row (at + k) 0) part
 
@@ -30,6 +31,7 @@ loop-again c =
       front-more (l .loop .i) _ (λ k. getD (a .row .now) (a .at + k) 0) (l .loop .part) h (l .loop .inv .2) refl,
     )
 
+-- The loop has ended at i = block, so the whole block is copied.
 returns : tie.Need-returns Inv-loop μ-loop
 returns c =
     let l = c .before in

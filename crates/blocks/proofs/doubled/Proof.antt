@@ -1,4 +1,4 @@
--- Each pass doubles one entry more.
+-- Each pass doubles one entry more of the block.
 use mathlib.Core.Path.{_≡_, refl, _∙_}
 use Prim.Native.Nat.{ℕ, _-_, _≤_, _<_}
 use native.Mathlib.Omega.{arith}
@@ -10,6 +10,7 @@ use borrow.Author.Needs.{needs}
 use Rattle.blocks.proofs.doubled.Statement.{statement}
 use Rattle.blocks.proofs.doubled.Tie as tie
 
+-- The first i entries of times are twice those of the block.
 abbrev Inv-loop : tie.InvT-loop
 Inv-loop alphabet a times₀ i₀ times i = (i ≤ block) × (length times ≡ block) × Front i (λ (k : ℕ). codeOn alphabet .times 2 (getD a k 0)) times
 
@@ -34,6 +35,7 @@ loop-again c =
       front-more (l .loop .i) _ (λ k. codeOn (a .alphabet) .times 2 (getD (a .a .now) k 0)) (l .loop .times) h (l .loop .inv .2) (c .twice .ensures),
     )
 
+-- The loop has ended at i = block, so every entry is doubled.
 returns : tie.Need-returns Inv-loop μ-loop
 returns c =
     let l = c .before in

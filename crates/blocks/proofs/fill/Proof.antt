@@ -1,4 +1,4 @@
--- Each pass makes one multiple more of one below h.
+-- Each pass makes one multiple more from h on: one below h, with the multiple h added.
 use mathlib.Core.Path.{_≡_, subst}
 use Prim.Native.Nat.{ℕ, _+_, _-_, _≤_, _<_}
 use native.Mathlib.Omega.{arith}
@@ -10,6 +10,7 @@ use borrow.Author.Needs.{needs}
 use Rattle.blocks.proofs.fill.Statement.{statement}
 use Rattle.blocks.proofs.fill.Tie as tie
 
+-- The first c multiples from h on are made, and those below h are as they were.
 abbrev Inv-loop : tie.InvT-loop
 Inv-loop times₀ high h c₀ times c = (c ≤ h) × FilledTo sumOf h c high times₀ times
 
@@ -27,11 +28,12 @@ loop-again c =
     let a = l .before .args in
     let low : l .loop .c < a .h = omega arith in
     let room : a .h + l .loop .c < length (a .times .now) = omega arith in
-    (omega arith, fill-more sumOf (a .h) (l .loop .c) (a .high .now) (c .summed .result) (a .times .now) (l .loop .times) low room (l .loop .inv .1) (c .summed .ensures))
+    (omega arith, fill-more sumOf _ _ _ (c .summed .result) _ _ low room (l .loop .inv .1) (c .summed .ensures))
 
 same-length : tie.Need-same-length Inv-loop μ-loop
 same-length c = c .before .loop .inv .1 .size
 
+-- The loop has ended at c = h, so as many multiples are made as there were.
 returns : tie.Need-returns Inv-loop μ-loop
 returns c =
     let l = c .before in

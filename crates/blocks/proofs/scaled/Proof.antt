@@ -1,4 +1,4 @@
--- Each pass looks up one product more.
+-- Each pass looks up one product more, of u and an entry of the block.
 use mathlib.Core.Path.{_≡_, refl, _∙_}
 use Prim.Native.Nat.{ℕ, _-_, _≤_, _<_}
 use native.Mathlib.Omega.{arith}
@@ -10,6 +10,7 @@ use borrow.Author.Needs.{needs}
 use Rattle.blocks.proofs.scaled.Statement.{statement}
 use Rattle.blocks.proofs.scaled.Tie as tie
 
+-- The first i entries of times are u times those of the block.
 abbrev Inv-loop : tie.InvT-loop
 Inv-loop alphabet table a u times₀ i₀ times i = (i ≤ block) × (length times ≡ block) × Front i (λ (k : ℕ). codeOn alphabet .times u (getD a k 0)) times
 
@@ -23,8 +24,9 @@ loop-holds c =
 
 look-requires : tie.Need-look-requires Inv-loop μ-loop
 look-requires c κs =
-    let s = c .before .before .before .before in
-    (s .pre .0, (s .pre .1 .0, s .pre .1 .1 (c .before .before .loop .i) (omega arith)))
+    let l = c .before .before in
+    let s = l .before .before in
+    (s .pre .0, (s .pre .1 .0, s .pre .1 .1 (l .loop .i) (omega arith)))
 
 loop-again : tie.Need-loop-again Inv-loop μ-loop
 loop-again c =
@@ -36,6 +38,7 @@ loop-again c =
       front-more (l .loop .i) _ (λ k. codeOn (a .alphabet) .times (a .u) (getD (a .a .now) k 0)) (l .loop .times) h (l .loop .inv .2) (c .look .ensures),
     )
 
+-- The loop has ended at i = block, so every product is there.
 returns : tie.Need-returns Inv-loop μ-loop
 returns c =
     let l = c .before in

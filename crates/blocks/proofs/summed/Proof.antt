@@ -1,4 +1,4 @@
--- Each pass adds one entry more.
+-- Each pass puts one sum more, of the entries of both blocks at its place.
 use mathlib.Core.Path.{_≡_, refl, _∙_}
 use Prim.Native.Nat.{ℕ, _-_, _≤_, _<_}
 use native.Mathlib.Omega.{arith}
@@ -10,6 +10,7 @@ use borrow.Author.Needs.{needs}
 use Rattle.blocks.proofs.summed.Statement.{statement}
 use Rattle.blocks.proofs.summed.Tie as tie
 
+-- The first i entries of sum are the sums of the entries of both blocks.
 abbrev Inv-loop : tie.InvT-loop
 Inv-loop a b sum₀ i₀ sum i = (i ≤ block) × (length sum ≡ block) × Front i (λ (k : ℕ). sumOf (getD a k 0) (getD b k 0)) sum
 
@@ -32,6 +33,7 @@ loop-again c =
       front-more (l .loop .i) _ (λ k. sumOf (getD (a .a .now) k 0) (getD (a .b .now) k 0)) (l .loop .sum) h (l .loop .inv .2) refl,
     )
 
+-- The loop has ended at i = block, so every sum is there.
 returns : tie.Need-returns Inv-loop μ-loop
 returns c =
     let l = c .before in

@@ -1,4 +1,5 @@
--- Where the highest bit does not leave, twice is the double; where it does, the modulus is added.
+-- The double is compared with the greatest symbol: this tells whether a bit leaves the symbol, and so
+-- whether the modulus is to be added.
 use mathlib.Core.Path.{_∙_, ap}
 use Prim.Native.Nat.{ℕ, _*_}
 use native.Mathlib.Omega.{arith}
@@ -10,10 +11,11 @@ use borrow.Author.Needs.{needs}
 use Rattle.blocks.proofs.twice.Statement.{statement}
 use Rattle.blocks.proofs.twice.Tie as tie
 
--- it has room in a byte
+-- The double has room in a byte.
 mul-double : tie.Need-mul-double
 mul-double c = let most = sized (c .args .alphabet) .most in omega arith
 
+-- No bit leaves: the double is the product.
 returns : tie.Need-returns
 returns c =
     let a = c .before .before .args in
@@ -23,6 +25,7 @@ returns c =
     let least = sized (a .alphabet) .least in
     twice-low (widthOn (a .alphabet)) (modulusOn (a .alphabet)) (positionsOn (a .alphabet)) (w .0) (a .x) (omega arith)
 
+-- A bit leaves: the product is the double with the modulus added.
 returns-2 : tie.Need-returns-2
 unfolding sumOf
 returns-2 c =

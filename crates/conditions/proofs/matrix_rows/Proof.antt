@@ -1,4 +1,5 @@
--- The loop puts the rows of one position more behind those of the positions before it, and holds the next point.
+-- The loop puts the rows of one position more behind those of the positions before it, and goes from
+-- each point to the next by one product.
 use mathlib.Core.List.{List, [], flatMap}
 use mathlib.Core.Path.{_≡_, refl, sym, _∙_, ap, ap₂, subst}
 use Prim.Native.Nat.{ℕ, _+_, _-_, _*_, _/_, _≤_, _<_}
@@ -18,7 +19,7 @@ use Rattle.conditions.specs.MaskedRows.{maskedColumn, columnAt, maskedRo
 use Rattle.definitions.proofs.Codeword.{power-zero, power-suc}
 use Rattle.definitions.proofs.Joined.{joined-room}
 use Rattle.definitions.specs.Code.{Symbols, point}
-use Rattle.definitions.specs.Field.{numbers, power}
+use Rattle.definitions.specs.Field.{Code, numbers, power}
 use Rattle.definitions.specs.Tools.{below}
 use Rattle.instances.proofs.Codes.{field-on}
 use Rattle.blocks.proofs.Filled.{filled-zeros, zeros-from}
@@ -26,6 +27,8 @@ use Rattle.blocks.specs.Row.{width, block, ZeroFrom}
 use Rattle.conditions.proofs.matrix_rows.Statement.{statement}
 use Rattle.conditions.proofs.matrix_rows.Tie as tie
 
+-- The rows of the first i positions stand in front, next is the place after them, and a is the point
+-- of position i; px is a row that may be filled with its powers.
 abbrev Inv-loop : tie.InvT-loop
 Inv-loop alphabet rows₀ table matrix v d blocks positions es px₀ next₀ a₀ i₀ rows px next a i =
     (i ≤ (codeOn alphabet) .positions) × (length rows ≡ length rows₀) × (a ≡ point (codeOn alphabet) i) × (next ≡ 0 + length (flatMap (columnAt (codeOn alphabet) v d blocks matrix) (below i)))
@@ -34,108 +37,124 @@ Inv-loop alphabet rows₀ table matrix v d blocks positions es px₀ next₀ a�
 abbrev μ-loop : tie.MeasureT-loop
 μ-loop alphabet rows₀ table matrix v d blocks positions es px₀ next₀ a₀ i₀ rows px next a i = (codeOn alphabet) .positions - i
 
+-- the rows of a position
+abbrev rowsOf : tie.Start Inv-loop μ-loop → ℕ → List (List ℕ)
+rowsOf s = let a = s .args in columnAt (codeOn (a .alphabet)) (a .v) (a .d) (a .blocks) (a .matrix .now)
+
 loop-holds : tie.Need-loop-holds Inv-loop μ-loop
 loop-holds c =
-    let a = c .before .before .before .args in
-    let C = codeOn (a .alphabet) in
-    let f = columnAt C (a .v) (a .d) (a .blocks) (a .matrix .now) in
-    (omega arith, refl, sym (power-zero (numbers C) 2), none-counted f (a .rows .now) 0, joined-none f (a .rows .now) 0, zeros-from (a .d + 1))
+    let s = c .before .before .before in
+    let a = s .args in
+    let o = a .rows .now in
+    let first = sym (power-zero (numbers (codeOn (a .alphabet))) 2) in
+    (omega arith, refl, first, none-counted (rowsOf s) o 0, joined-none (rowsOf s) o 0, zeros-from (a .d + 1))
 
--- the point is a symbol
-symbol : (c : tie.At-loop Inv-loop μ-loop) → c .loop .a < codeOn (c .before .before .before .before .args .alphabet) .symbols
-symbol c =
-    let a = c .before .before .before .before .args in
-    let C = codeOn (a .alphabet) in
-    subst (λ (x : ℕ). x < C .symbols) (sym (c .loop .inv .2)) (point-symbol C (field-on (a .alphabet)) (c .loop .i))
+abbrev entry : tie.At-loop Inv-loop μ-loop → tie.Start Inv-loop μ-loop
+entry l = l .before .before .before .before
+
+abbrev codeAt : tie.At-loop Inv-loop μ-loop → Code
+codeAt l = codeOn (entry l .args .alphabet)
+
+-- The point is a symbol.
+symbol : (l : tie.At-loop Inv-loop μ-loop) → l .loop .a < codeAt l .symbols
+symbol l = subst (λ (x : ℕ). x < codeAt l .symbols) (sym (l .loop .inv .2)) (point-symbol (codeAt l) (field-on (entry l .args .alphabet)) (l .loop .i))
 
 powers-requires : tie.Need-powers-requires Inv-loop μ-loop
 powers-requires c κs =
     let l = c .before .before in
-    (l .before .before .before .before .pre .0, (symbol l, omega arith, l .loop .inv .5))
+    (entry l .pre .0, (symbol l, omega arith, l .loop .inv .5))
 
--- the powers of the position's point
-of-x : (c : tie.After-powers Inv-loop μ-loop)
-    → (let l = c .before .before .before in c .powers .last .1 .1 .1 .1 .0 ≡ powersRow (codeOn (l .before .before .before .before .args .alphabet)) (l .before .before .before .before .args .d + 1) (point (codeOn (l .before .before .before .before .args .alphabet)) (l .loop .i)))
-of-x c = let l = c .before .before .before in c .powers .ensures ∙ ap (powersRow (codeOn (l .before .before .before .before .args .alphabet)) (l .before .before .before .before .args .d + 1)) (l .loop .inv .2)
+abbrev at-loop : tie.After-powers Inv-loop μ-loop → tie.At-loop Inv-loop μ-loop
+at-loop p = p .before .before .before
 
--- what is put are the rows of the position
-is-column : (c : tie.After-powers Inv-loop μ-loop)
-    → (let l = c .before .before .before in let a = l .before .before .before .before .args in
-    maskedColumn (codeOn (a .alphabet)) (c .powers .last .1 .1 .1 .1 .0) (a .d / a .v + 1) (a .blocks) (l .before .exponents .result) (getD (a .matrix .now) (l .loop .i) [])
-    ≡ columnAt (codeOn (a .alphabet)) (a .v) (a .d) (a .blocks) (a .matrix .now) (l .loop .i))
-is-column c =
-    let l = c .before .before .before in
-    let a = l .before .before .before .before .args in
-    ap₂ (λ (px : List ℕ) (es : List (List ℕ)). maskedColumn (codeOn (a .alphabet)) px (a .d / a .v + 1) (a .blocks) es (getD (a .matrix .now) (l .loop .i) [])) (of-x c) (l .before .exponents .ensures)
+-- the row of powers as it is filled
+abbrev filledRow : tie.After-powers Inv-loop μ-loop → List ℕ
+filledRow p = p .powers .last .1 .1 .1 .1 .0
 
--- the powers of y fit into a row
-few : (c : tie.Start Inv-loop μ-loop) → c .args .d / c .args .v + 1 ≤ width
-few c = let q = div-le-self (c .args .d) (c .args .v) in omega arith
+-- The row is filled with the powers of the position's point.
+of-x : (p : tie.After-powers Inv-loop μ-loop)
+    → (let l = at-loop p in filledRow p ≡ powersRow (codeAt l) (entry l .args .d + 1) (point (codeAt l) (l .loop .i)))
+of-x p = let l = at-loop p in p .powers .ensures ∙ ap (powersRow (codeAt l) (entry l .args .d + 1)) (l .loop .inv .2)
+
+-- the rows of the position, of a row of powers and of the exponents
+abbrev rowsBy : tie.At-loop Inv-loop μ-loop → List ℕ → List (List ℕ) → List (List ℕ)
+rowsBy l px es = let a = entry l .args in maskedColumn (codeAt l) px (a .d / a .v + 1) (a .blocks) es (getD (a .matrix .now) (l .loop .i) [])
+
+-- What is put are the rows of the position.
+is-column : (p : tie.After-powers Inv-loop μ-loop)
+    → (let l = at-loop p in rowsBy l (filledRow p) (l .before .exponents .result) ≡ rowsOf (entry l) (l .loop .i))
+is-column p = let l = at-loop p in ap₂ (rowsBy l) (of-x p) (l .before .exponents .ensures)
+
+-- The powers of y fit into a row.
+few : (s : tie.Start Inv-loop μ-loop) → s .args .d / s .args .v + 1 ≤ width
+few s = let q = div-le-self (s .args .d) (s .args .v) in omega arith
+
+abbrev at-powers : tie.After-es Inv-loop μ-loop → tie.After-powers Inv-loop μ-loop
+at-powers e = e .before .before .before
 
 add-column-rows : tie.Need-add-column-rows Inv-loop μ-loop
-add-column-rows c = let h = few (c .before .before .before .before .before .before .before .before .before .before .before) in omega arith
+add-column-rows c = let h = few (entry (at-loop (at-powers (c .before)))) in omega arith
 
 mul-column-rows : tie.Need-mul-column-rows Inv-loop μ-loop
-mul-column-rows c = let z = sized (c .before .before .before .before .before .before .before .before .before .before .args .alphabet) in omega arith
+mul-column-rows c = let z = sized (entry (at-loop (at-powers c)) .args .alphabet) in omega arith
 
 index-1-column-rows : tie.Need-index-1-column-rows Inv-loop μ-loop
-index-1-column-rows c = let z = sized (c .before .before .before .before .before .before .before .before .before .before .args .alphabet) in omega arith
+index-1-column-rows c = let z = sized (entry (at-loop (at-powers c)) .args .alphabet) in omega arith
 
 column-rows-requires : tie.Need-column-rows-requires Inv-loop μ-loop
 column-rows-requires c κs =
-    let p = c .before .before .before .before in
-    let l = p .before .before .before in
-    let s = l .before .before .before .before in
+    let p = at-powers (c .before) in
+    let l = at-loop p in
+    let s = entry l in
     let a = s .args in
-    let C = codeOn (a .alphabet) in
-    let fits = joined-room (columnAt C (a .v) (a .d) (a .blocks) (a .matrix .now)) (C .positions) (l .loop .i) (omega arith) in
-    let clear = clear-behind (a .rows .now) (l .loop .rows) (flatMap (columnAt C (a .v) (a .d) (a .blocks) (a .matrix .now)) (below (l .loop .i))) 0 (a .blocks * block) (l .loop .next)
-    (s .pre .1 .1 .1) (l .loop .inv .4) (l .loop .inv .3) in
-    let room : l .loop .next + length (columnAt C (a .v) (a .d) (a .blocks) (a .matrix .now) (l .loop .i)) ≤ length (l .loop .rows) = omega arith in (
-      s .pre .0,
-      (
-        (
-          subst (Symbols C) (sym (of-x p)) (powers-symbols C (field-on (a .alphabet)) (a .d + 1) (point C (l .loop .i)) (point-symbol C (field-on (a .alphabet)) (l .loop .i))),
-          subst Places (sym (l .before .exponents .ensures)) (exponents-places (a .v) (omega arith) (a .blocks * block) (omega arith)),
-        ),
-        ((few s, omega arith), (subst (λ (rows : List (List ℕ)). l .loop .next + length rows ≤ length (l .loop .rows)) (sym (is-column p)) room, clear)),
-      ),
-    )
+    let C = codeAt l in
+    let F = field-on (a .alphabet) in
+    let fits = joined-room (rowsOf s) (C .positions) (l .loop .i) (omega arith) in
+    let put = flatMap (rowsOf s) (below (l .loop .i)) in
+    let clear = clear-behind (a .rows .now) (l .loop .rows) put 0 (a .blocks * block) (l .loop .next) (s .pre .1 .1 .1) (l .loop .inv .4) (l .loop .inv .3) in
+    let room : l .loop .next + length (rowsOf s (l .loop .i)) ≤ length (l .loop .rows) = omega arith in
+    let symbols = subst (Symbols C) (sym (of-x p)) (powers-symbols C F (a .d + 1) (point C (l .loop .i)) (point-symbol C F (l .loop .i))) in
+    let places = subst Places (sym (l .before .exponents .ensures)) (exponents-places (a .v) (omega arith) (a .blocks * block) (omega arith)) in
+    let room-put = subst (λ (rows : List (List ℕ)). l .loop .next + length rows ≤ length (l .loop .rows)) (sym (is-column p)) room in
+    (s .pre .0, ((symbols, places), ((few s, omega arith), (room-put, clear))))
+
+abbrev powers-of : tie.After-column-rows Inv-loop μ-loop → tie.After-powers Inv-loop μ-loop
+powers-of m = at-powers (m .before .before)
 
 look-requires : tie.Need-look-requires Inv-loop μ-loop
 look-requires c κs =
-    let l = c .before .before .before .before .before .before .before .before .before in
-    let s = l .before .before .before .before in
-    let z = sized (s .args .alphabet) .least in
-    (s .pre .0, (omega arith, symbol l))
+    let l = at-loop (powers-of (c .before)) in
+    let z = sized (entry l .args .alphabet) .least in
+    (entry l .pre .0, (omega arith, symbol l))
 
 loop-again : tie.Need-loop-again Inv-loop μ-loop
 loop-again c =
     let m = c .before .before in
-    let p = m .before .before .before .before .before in
-    let l = p .before .before .before in
-    let s = l .before .before .before .before in
+    let p = powers-of m in
+    let l = at-loop p in
+    let s = entry l in
     let a = s .args in
-    let C = codeOn (a .alphabet) in
-    let row : a .d + 1 ≤ width = (let h = s .pre .1 .0 in omega arith) in
-    let f = columnAt C (a .v) (a .d) (a .blocks) (a .matrix .now) in (
+    let o = a .rows .now in
+    let C = codeAt l in
+    let i = l .loop .i in
+    let row : a .d + 1 ≤ width = (let h = s .pre .1 .0 in omega arith) in (
       omega arith,
       search needs,
-      c .look .ensures ∙ ap (C .times 2) (l .loop .inv .2) ∙ sym (power-suc (numbers C) 2 (l .loop .i)) ∙ ap (point C) (sym (add-one (l .loop .i))),
+      c .look .ensures ∙ ap (C .times 2) (l .loop .inv .2) ∙ sym (power-suc (numbers C) 2 i) ∙ ap (point C) (sym (add-one i)),
       m .column-rows .ensures .0 ∙ ap (λ (rows : List (List ℕ)). l .loop .next + length rows) (is-column p)
-          ∙ count-more f (a .rows .now) 0 (l .loop .i) (l .loop .next) (l .loop .inv .3),
-      joined-more f (a .rows .now) 0 (l .loop .rows) (m .column-rows .last .1 .0) (l .loop .i) (l .loop .next) (l .loop .inv .4) (l .loop .inv .3)
+          ∙ count-more (rowsOf s) o 0 i (l .loop .next) (l .loop .inv .3),
+      joined-more (rowsOf s) o 0 (l .loop .rows) (m .column-rows .last .1 .0) i (l .loop .next) (l .loop .inv .4) (l .loop .inv .3)
           (m .column-rows .ensures .1 ∙ ap (sets (l .loop .rows) (l .loop .next)) (is-column p)),
-      subst (ZeroFrom (a .d + 1)) (sym (of-x p)) (filled-zeros (power (numbers C) (point C (l .loop .i))) (a .d + 1) row),
+      subst (ZeroFrom (a .d + 1)) (sym (of-x p)) (filled-zeros (power (numbers C) (point C i)) (a .d + 1) row),
     )
 
+-- The loop has ended behind the last position, so the rows of the whole matrix are put.
 returns : tie.Need-returns Inv-loop μ-loop
 returns c =
     let l = c .before in
-    let a = l .before .before .before .before .args in
-    let C = codeOn (a .alphabet) in
-    let e : l .loop .i ≡ C .positions = omega arith in
-    let n : l .loop .next ≡ 0 + length (maskedRows C (a .v) (a .d) (a .blocks) (a .matrix .now)) = rw e at (l .loop .inv .3) in
+    let a = entry l .args in
+    let e : l .loop .i ≡ codeAt l .positions = omega arith in
+    let n : l .loop .next ≡ 0 + length (maskedRows (codeAt l) (a .v) (a .d) (a .blocks) (a .matrix .now)) = rw e at (l .loop .inv .3) in
     (omega arith, rw e at (l .loop .inv .4))
 
 pub matrix-rows-spec : {M : Type 1} → statement M

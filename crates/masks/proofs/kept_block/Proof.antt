@@ -11,6 +11,7 @@ use Rattle.masks.specs.Masks.{keptEntry}
 use Rattle.masks.proofs.kept_block.Statement.{statement}
 use Rattle.masks.proofs.kept_block.Tie as tie
 
+-- The first k entries of part are what their masks leave.
 abbrev Inv-loop : tie.InvT-loop
 Inv-loop a es asked order part₀ k₀ part k = (k ≤ block) × (length part ≡ block) × Front k (keptEntry a es asked order) part
 
@@ -33,6 +34,7 @@ loop-again c =
           (ap (bitAnd (getD (s .a .now) (l .loop .k) 0)) (c .mask .ensures)),
     )
 
+-- The loop has ended at k = block, so every entry of the block is masked.
 returns : tie.Need-returns Inv-loop μ-loop
 returns c =
     let l = c .before in

@@ -1,4 +1,4 @@
--- The loop walks along the monomials, and fills both rows from the front.
+-- The loop walks along the monomials in their order, and each step fills in one power of x and one of y.
 use mathlib.Core.Logic.{⊎-elim}
 use mathlib.Core.List.{List, [], _∷_}
 use mathlib.Core.Path.{_≡_, _∙_, ap₂}
@@ -13,6 +13,8 @@ use Rattle.blocks.specs.Row.{width}
 use Rattle.monomials.proofs.exponents.Statement.{statement}
 use Rattle.monomials.proofs.exponents.Tie as tie
 
+-- x, y and degree are where the walk stands after so many steps, and the rows hold the powers of the
+-- places before.
 abbrev Inv-loop : tie.InvT-loop
 Inv-loop v count xs₀ ys₀ x₀ y₀ degree₀ step₀ xs ys x y degree step =
     (step ≤ count) × ((x ≡ walked v step .0) × (y ≡ walked v step .1) × (degree ≡ walked v step .2))
@@ -27,7 +29,7 @@ loop-holds c =
     let n = c .args .count in
     (omega arith, walk-begins v, filling-none n (λ k. walked v k .0) (replicate width 0) (zeros-from n), filling-none n (λ k. walked v k .1) (replicate width 0) (zeros-from n))
 
--- no power is above the number of steps
+-- No power is above the number of steps.
 low : (c : tie.At-loop Inv-loop μ-loop) → (c .loop .x ≤ c .loop .step) × (c .loop .y ≤ c .loop .step) × (c .loop .degree ≤ c .loop .step)
 low c =
     let w = walked-le (c .before .args .v) (omega arith) (c .loop .step) in
@@ -54,15 +56,16 @@ loop-again c =
       omega arith,
       ⊎-elim
           (λ w.
-          let r = walk-stays v (l .loop .step) (l .loop .x) (l .loop .y) (l .loop .degree) (i .0) (i .1) (i .2) (w .0 .taken) in
+          let r = walk-stays v (l .loop .step) _ _ _ (i .0) (i .1) (i .2) (w .0 .taken) in
           (w .1 ∙ r .0, w .2 ∙ r .1, w .3 ∙ r .2))
           (λ w.
-          let r = walk-turns v (l .loop .step) (l .loop .x) (l .loop .y) (l .loop .degree) (i .0) (i .1) (i .2) (w .0 .left) in
+          let r = walk-turns v (l .loop .step) _ _ _ (i .0) (i .1) (i .2) (w .0 .left) in
           (w .1 ∙ r .0, w .2 ∙ r .1, w .3 ∙ r .2)) (c .if1 .came),
       filling-more n (λ k. walked v k .0) (l .loop .step) (l .loop .x) (l .loop .xs) (omega arith) (omega arith) (l .loop .inv .2) (i .0),
       filling-more n (λ k. walked v k .1) (l .loop .step) (l .loop .y) (l .loop .ys) (omega arith) (omega arith) (l .loop .inv .3) (i .1),
     )
 
+-- The loop has ended at step = count, so both rows are filled.
 returns : tie.Need-returns Inv-loop μ-loop
 returns c =
     let l = c .before in

@@ -1,4 +1,5 @@
--- The rows that are not zero in column j are listed first, and each pass takes from them in one block more.
+-- The rows that are not zero in column j are listed first. Each pass takes from them in one block
+-- more, by the factors that stood in column j at the entry.
 use mathlib.Core.Path.{_≡_, refl, subst}
 use Prim.Native.Nat.{ℕ, _+_, _*_, _/_, _-_, _≤_}
 use native.Mathlib.Omega.{arith}
@@ -13,12 +14,16 @@ use borrow.Author.Needs.{needs}
 use Rattle.pivots.proofs.clear.Statement.{statement}
 use Rattle.pivots.proofs.clear.Tie as tie
 
+-- The listed rows have lost their multiples of row j in the blocks from that of column j up to next.
 abbrev Inv-loop : tie.InvT-loop
 Inv-loop alphabet system₀ j rows blocks places c n next₀ system next =
     (j / block ≤ next) × (next ≤ blocks) × LoweredIn (codeOn alphabet) (j / block * block) (next * block) rows j (columnOf system₀ j) system₀ system
 
 abbrev μ-loop : tie.MeasureT-loop
 μ-loop alphabet system₀ j rows blocks places c n next₀ system next = blocks - next
+
+abbrev entry : tie.At-loop Inv-loop μ-loop → tie.Start Inv-loop μ-loop
+entry l = l .before .before .before .before .before
 
 factors-requires : tie.Need-factors-requires Inv-loop μ-loop
 factors-requires c κs =
@@ -32,55 +37,62 @@ loop-holds c =
     let a = s .args in
     let w = s .pre .1 .0 in
     let h : a .j / block ≤ a .blocks = omega arith in
-    (omega arith, h, lower-none (codeOn (a .alphabet)) (a .j / block * block) (a .rows) (a .j) (columnOf (a .system .now) (a .j)) (a .system .now) (s .pre .0))
+    (omega arith, h, lower-none _ _ _ _ _ _ (s .pre .0))
 
 clear-block-requires : tie.Need-clear-block-requires Inv-loop μ-loop
 clear-block-requires c κs =
     let l = c .before .before .before .before in
-    let f = l .before in
-    let s = f .before .before .before .before in
+    let f = l .before .factors in
+    let s = entry l in
     let a = s .args in
     let w = s .pre .1 .0 in
     let d = l .loop .inv .2 in
     let e = d .size in
-    let n = f .factors .ensures .0 in
+    let n = f .ensures .0 in
     let room : a .rows ≤ length (l .loop .system) = omega arith in
     let inside : InRow (l .loop .next * block) = omega arith in
-    let few : f .factors .result ≤ greatestLimit = omega arith in (
-      d .system,
-      (
-        (inside, omega arith, few),
-        listed-rows (codeOn (a .alphabet)) (a .rows) (length (l .loop .system)) (a .j) (f .factors .result) (a .system .now) (f .factors .last .1 .1 .1 .0)
-            (f .factors .last .1 .1 .1 .1 .0) room (s .pre .0) (f .factors .ensures .1),
-      ),
-    )
+    let few : f .result ≤ greatestLimit = omega arith in
+    (d .system, ((inside, omega arith, few), listed-rows _ _ _ _ _ _ (f .last .1 .1 .1 .0) (f .last .1 .1 .1 .1 .0) room (s .pre .0) (f .ensures .1)))
+
+abbrev at-loop : tie.After-clear-block Inv-loop μ-loop → tie.At-loop Inv-loop μ-loop
+at-loop x = x .before .before .before .before .before
+
+-- the block is cleared up to this column
+abbrev ClearedTo : tie.After-clear-block Inv-loop μ-loop → ℕ → Type 0
+ClearedTo x to =
+    let l = at-loop x in
+    let f = l .before .factors in
+    let a = entry l .args in
+    DoneIn (codeOn (a .alphabet)) (l .loop .next * block) to (a .j) (f .result) (f .last .1 .1 .1 .0) (f .last .1 .1 .1 .1 .0) (l .loop .system) (x .clear-block .last .1 .0)
 
 loop-again : tie.Need-loop-again Inv-loop μ-loop
 loop-again c =
-    let l = c .before .before .before .before .before .before in
-    let f = l .before in
-    let a = f .before .before .before .before .args in
-    let C = codeOn (a .alphabet) in
-    let x = c .before .clear-block in
-    let e : l .loop .next * block + block ≡ (l .loop .next + 1) * block = omega arith in
-    let h : a .j / block ≤ l .loop .next + 1 = omega arith in
-    let g : l .loop .next + 1 ≤ a .blocks = omega arith in (
-      h,
-      g,
-      lower-more C (field-on (a .alphabet)) (a .j / block * block) (l .loop .next * block) ((l .loop .next + 1) * block) (a .rows) (a .j) (f .factors .result) (columnOf (a .system .now) (a .j))
-          (f .factors .last .1 .1 .1 .0) (f .factors .last .1 .1 .1 .1 .0) (a .system .now) (l .loop .system) (x .last .1 .0) (omega arith) (omega arith) (f .factors .ensures .1) (l .loop .inv .2)
-          (subst (λ (to : ℕ). DoneIn C (l .loop .next * block) to (a .j) (f .factors .result) (f .factors .last .1 .1 .1 .0) (f .factors .last .1 .1 .1 .1 .0) (l .loop .system) (x .last .1 .0)) e (x .ensures)),
-    )
+    let x = c .before in
+    let l = at-loop x in
+    let a = entry l .args in
+    let p = l .loop .next in
+    let e : p * block + block ≡ (p + 1) * block = omega arith in
+    let h : a .j / block ≤ p + 1 = omega arith in
+    let g : p + 1 ≤ a .blocks = omega arith in
+    let cleared = subst (ClearedTo x) e (x .clear-block .ensures) in
+    (h, g, lower-more _ (field-on (a .alphabet)) _ _ _ _ _ _ _ _ _ _ _ _ (omega arith) (omega arith) (l .before .factors .ensures .1) (l .loop .inv .2) cleared)
 
 same-length : tie.Need-same-length Inv-loop μ-loop
 same-length c = c .before .loop .inv .2 .size
 
+-- the rows are lowered up to this block
+abbrev LoweredTo : tie.At-loop Inv-loop μ-loop → ℕ → Type 0
+LoweredTo l p =
+    let a = entry l .args in
+    let m = a .system .now in
+    LoweredIn (codeOn (a .alphabet)) (a .j / block * block) (p * block) (a .rows) (a .j) (columnOf m (a .j)) m (l .loop .system)
+
+-- The loop has ended at next = blocks, so the rows are cleared in all blocks from that of column j on.
 returns : tie.Need-returns Inv-loop μ-loop
 returns c =
     let l = c .before in
-    let a = l .before .before .before .before .before .args in
-    let e : l .loop .next ≡ a .blocks = omega arith in
-    subst (λ (n : ℕ). LoweredIn (codeOn (a .alphabet)) (a .j / block * block) (n * block) (a .rows) (a .j) (columnOf (a .system .now) (a .j)) (a .system .now) (l .loop .system)) e (l .loop .inv .2)
+    let e : l .loop .next ≡ entry l .args .blocks = omega arith in
+    subst (LoweredTo l) e (l .loop .inv .2)
 
 pub clear-spec : {M : Type 1} → statement M
 clear-spec =

@@ -1,4 +1,4 @@
--- 1 is put first, and each pass puts one zero more behind it.
+-- 1 is put at place j before the loop, and each pass puts one zero more behind it.
 use mathlib.Core.Path.{_≡_, subst}
 use Prim.Native.Nat.{ℕ, _-_, _≤_, _<_}
 use native.Mathlib.Omega.{arith}
@@ -9,6 +9,7 @@ use borrow.Author.Needs.{needs}
 use Rattle.polynomial.proofs.lead.Statement.{statement}
 use Rattle.polynomial.proofs.lead.Tie as tie
 
+-- From j up to k stand 1 and zeros; from k on stands what the loop began with.
 abbrev Inv-loop : tie.InvT-loop
 Inv-loop j count out₀ k₀ out k = (j < k) × (k ≤ count) × Led j k out₀ out × (count ≤ length out)
 
@@ -29,7 +30,7 @@ loop-again c =
     let s = l .loop .inv .2 .size in
     (omega arith, omega arith, led-more (a .j) (l .loop .k) _ (l .loop .out) (l .loop .inv .0) (omega arith) (l .loop .inv .2), omega arith)
 
--- 1, and zeros behind it
+-- The loop has ended at k = count, and what it began with differs from out at the entry only at j.
 led : (c : tie.After-loop Inv-loop μ-loop) → (let a = c .before .before .args in Led (a .j) (a .count) (a .out .now) (c .before .loop .out))
 led c =
     let l = c .before in
@@ -40,6 +41,7 @@ led c =
 same-length : tie.Need-same-length Inv-loop μ-loop
 same-length c = led c .size
 
+-- The loop has ended: 1 stands at j and zeros behind it, up to count.
 returns : tie.Need-returns Inv-loop μ-loop
 returns c = led c
 

@@ -1,4 +1,5 @@
--- The conditions are a system; its first column that depends on those before it, solved for, is the polynomial.
+-- The conditions are a system. Its first column that depends on the columns before it is led by 1,
+-- solved for, and the polynomial.
 use Prim.Native.Nat.{_*_, _≤_, _<_}
 use native.Mathlib.Omega.{arith}
 use lib.ListN.{length}
@@ -14,100 +15,94 @@ use Rattle.polynomial.proofs.polynomial_by.Statement.{statement}
 use Rattle.polynomial.proofs.polynomial_by.Tie as tie
 
 abbrev entry : tie.After-matrix-rows → tie.Start
-entry c = c .before .before .before .before
+entry m = m .before .before .before .before
+
+abbrev at-rows : tie.After-first-dependent → tie.After-matrix-rows
+at-rows d = d .before .before .before
+
+abbrev at-column : tie.After-lead → tie.After-first-dependent
+at-column l = l .before .before .before
 
 matrix-rows-requires : tie.Need-matrix-rows-requires
 matrix-rows-requires c κs =
     let s = c .before .before .before in
-    let a = s .args in
-    let C = codeOn (a .alphabet) in
     let g = s .pre .1 .0 in
-    let e = rows-priced C (a .matrix .now) (a .v) (a .d) (a .count) (a .cost) (a .out .now) g in (
+    let e = rows-priced _ _ _ _ _ _ _ g in (
       s .pre .0,
       (
-        (
-          g .weighted,
-          degree-small C (a .matrix .now) (a .v) (a .d) (a .count) (a .cost) (a .out .now) g,
-          blocks-fit C (a .matrix .now) (a .v) (a .d) (a .count) (a .cost) (a .out .now) g,
-        ),
-        (omega arith, clear-from (a .system .now) (s .pre .1 .1 .0) (blocksFor (a .cost) * block)),
+        (g .weighted, degree-small _ _ _ _ _ _ _ g, blocks-fit _ _ _ _ _ _ _ g),
+        (omega arith, clear-from (s .args .system .now) (s .pre .1 .1 .0) (blocksFor (s .args .cost) * block)),
       ),
     )
 
--- the conditions are a system
-start : (c : tie.After-matrix-rows) → System (codeOn (entry c .args .alphabet)) (c .matrix-rows .last .1 .0)
-start c =
-    let s = entry c in
-    let a = s .args in
-    let C = codeOn (a .alphabet) in
-    let z = sized (a .alphabet) in
-    start-system C (a .matrix .now) (a .v) (a .d) (a .count) (a .cost) (a .out .now) (s .pre .1 .0) (a .system .now)
-    (c .matrix-rows .last .1 .0) (s .pre .1 .1 .1) (c .matrix-rows .ensures .1) (field-on (a .alphabet)) (omega arith) (clear-system (a .system .now) (s .pre .1 .1 .0) C (field-on (a .alphabet)))
+-- The zeros that are lent are a system.
+empty : (m : tie.After-matrix-rows) → (let a = entry m .args in System (codeOn (a .alphabet)) (a .system .now))
+empty m =
+    let a = entry m .args in
+    clear-system (a .system .now) (entry m .pre .1 .1 .0) (codeOn (a .alphabet)) (field-on (a .alphabet))
 
--- with room for their blocks
-within : (c : tie.After-matrix-rows) → Within (c .matrix-rows .result) (blocksFor (entry c .args .cost)) (c .matrix-rows .last .1 .0)
-within c =
-    let s = entry c in
-    let a = s .args in
-    start-within (codeOn (a .alphabet)) (a .matrix .now) (a .v) (a .d) (a .count) (a .cost) (a .out .now) (s .pre .1 .0) (a .system .now) (c .matrix-rows .last .1 .0) (s .pre .1 .1 .1) (c .matrix-rows .ensures .1)
-    (c .matrix-rows .result) (c .matrix-rows .ensures .0)
+-- So are the conditions that are written into them.
+start : (m : tie.After-matrix-rows) → System (codeOn (entry m .args .alphabet)) (m .matrix-rows .last .1 .0)
+start m =
+    let s = entry m in
+    let w = s .args .alphabet in
+    let z = sized w in
+    start-system (codeOn w) _ _ _ _ _ _ (s .pre .1 .0) _ _ (s .pre .1 .1 .1) (m .matrix-rows .ensures .1) (field-on w) (omega arith) (empty m)
 
-abbrev written : tie.After-first-dependent → tie.After-matrix-rows
-written c = c .before .before .before
+-- The system has room for their blocks.
+within : (m : tie.After-matrix-rows) → Within (m .matrix-rows .result) (blocksFor (entry m .args .cost)) (m .matrix-rows .last .1 .0)
+within m =
+    let s = entry m in
+    start-within _ _ _ _ _ _ _ (s .pre .1 .0) _ _ (s .pre .1 .1 .1) (m .matrix-rows .ensures .1) _ (m .matrix-rows .ensures .0)
 
 first-dependent-requires : tie.Need-first-dependent-requires
 first-dependent-requires c κs =
     let m = c .before .before in
     (start m, (entry m .pre .0, within m))
 
--- the column found is the place of a coefficient
-place : (c : tie.After-first-dependent) → c .first-dependent .result < entry (written c) .args .count
-place c =
-    let m = written c in
-    let s = entry m in
-    let a = s .args in
-    let C = codeOn (a .alphabet) in
-    let e = rows-priced C (a .matrix .now) (a .v) (a .d) (a .count) (a .cost) (a .out .now) (s .pre .1 .0) in
-    let l = more C (a .matrix .now) (a .v) (a .d) (a .count) (a .cost) (a .out .now) (s .pre .1 .0) in
+-- The column found is the place of a coefficient: there are fewer rows than monomials.
+place : (d : tie.After-first-dependent) → d .first-dependent .result < entry (at-rows d) .args .count
+place d =
+    let m = at-rows d in
+    let g = entry m .pre .1 .0 in
+    let e = rows-priced _ _ _ _ _ _ _ g in
+    let l = more _ _ _ _ _ _ _ g in
     let r = m .matrix-rows .ensures .0 in
-    let f = c .first-dependent .ensures .0 in
+    let f = d .first-dependent .ensures .0 in
     omega arith
 
 lead-requires : tie.Need-lead-requires
 lead-requires c κs =
     let d = c .before .before in
-    (place d, entry (written d) .pre .1 .0 .room)
+    (place d, entry (at-rows d) .pre .1 .0 .room)
 
 solve-requires : tie.Need-solve-requires
 solve-requires c κs =
     let l = c .before .before .before .before in
-    let d = l .before .before .before in
-    let m = written d in
+    let d = at-column l in
+    let m = at-rows d in
     let s = entry m in
-    let a = s .args in
     let e = d .first-dependent .ensures in
-    let p = place d in
+    let low = e .0 in
     let w = within m in
-    let inside : d .first-dependent .result < width = let f = w .fewer in let i = w .inside in let low = e .0 in omega arith in
-    let there : d .first-dependent .result ≤ length (d .first-dependent .last .1 .0) = let t = w .there in let k = e .1 .0 .size in let low = e .0 in omega arith in
-    let room : d .first-dependent .result ≤ length (l .lead .last .1 .1 .0) = let k = l .lead .ensures .size in let r = s .pre .1 .0 .room in omega arith in
-    (entry m .pre .0, (e .1 .0 .system .symbols, (inside, there, room)))
+    let inside : d .first-dependent .result < width = let f = w .fewer in let i = w .inside in omega arith in
+    let there : d .first-dependent .result ≤ length (d .first-dependent .last .1 .0) = let t = w .there in let k = e .1 .0 .size in omega arith in
+    let room : d .first-dependent .result ≤ length (l .lead .last .1 .1 .0) = let p = place d in let k = l .lead .ensures .size in let r = s .pre .1 .0 .room in omega arith in
+    (s .pre .0, (e .1 .0 .system .symbols, (inside, there, room)))
 
+-- The column found is led by 1 and solved for: so its coefficients interpolate, and it is their place.
 returns : tie.Need-returns
 returns c =
     let v = c .before .before in
     let l = v .before .before .before .before .before in
-    let d = l .before .before .before in
-    let m = written d in
+    let d = at-column l in
+    let m = at-rows d in
     let s = entry m in
-    let a = s .args in
-    let C = codeOn (a .alphabet) in
+    let w = s .args .alphabet in
+    let z = sized w in
     let e = d .first-dependent .ensures in
-    let z = sized (a .alphabet) in
-    polynomial-found C (field-on (a .alphabet)) (omega arith) (λ z. omega arith) (a .matrix .now) (a .v) (a .d) (a .count) (a .cost) (a .out .now) (s .pre .1 .0) (a .system .now)
-    (m .matrix-rows .last .1 .0) (d .first-dependent .last .1 .0) (clear-system (a .system .now) (s .pre .1 .1 .0) C (field-on (a .alphabet))) (s .pre .1 .1 .1) (m .matrix-rows .ensures .1) (m .matrix-rows .result)
-    (d .first-dependent .result) (m .matrix-rows .ensures .0) (e .0) (e .1 .0) (e .1 .1) (l .lead .last .1 .1 .0) (v .solve .last .1 .1 .1 .1 .0)
-    (l .lead .ensures) (v .solve .ensures)
+    polynomial-found (codeOn w) (field-on w) (omega arith) (λ z. omega arith) _ _ _ _ _ _ (s .pre .1 .0) _ _ _ (empty m) (s .pre .1 .1 .1) (m .matrix-rows .ensures .1) _ _
+    (m .matrix-rows .ensures .0) (e .0) (e .1 .0) (e .1 .1) _ _ (l .lead .ensures) (v .solve .ensures)
 
 pub polynomial-by-spec : {M : Type 1} → statement M
 polynomial-by-spec =

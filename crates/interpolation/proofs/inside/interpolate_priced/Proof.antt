@@ -1,4 +1,5 @@
--- The stored cost is that of the bytes: it is refused, or the entries are opened and the polynomial of their columns is that of the bytes.
+-- The stored cost is that of the bytes. It is refused, or the entries are taken in columns, and the
+-- polynomial of the columns is that of the bytes.
 use mathlib.Core.List.{List}
 use mathlib.Core.Path.{_≡_, _∙_, ap}
 use Prim.Native.Nat.{ℕ, _*_, _-_, _≤_}
@@ -21,6 +22,7 @@ use Rattle.interpolation.proofs.inside.interpolate_priced.Tie as tie
 abbrev bytes : tie.Start → List ℕ
 bytes s = take (codeOn (s .args .alphabet) .symbols * s .args .n) (s .args .entries .now)
 
+-- The limit is below the cost: refusal 7, and out is as it was.
 returns : tie.Need-returns
 returns c =
     let s = c .before .before .before in
@@ -31,6 +33,7 @@ returns c =
 abbrev entry : tie.Else1 → tie.Start
 entry c = c .before .before .before
 
+-- The cost is at most the limit, and the limit at most the greatest.
 cheap : (c : tie.Else1) → entry c .args .cost ≤ greatestLimit
 cheap c = let low = entry c .pre .0 .low in omega arith
 
@@ -43,18 +46,27 @@ count-requires c κs =
     let d = c .bound .ensures in
     (omega arith, omega arith)
 
--- the stored cost is that of the columns
+-- The stored cost is that of the columns.
 paid : (c : tie.After-in-columns) → entry (c .before) .args .cost ≡ matrixCost (codeOn (entry (c .before) .args .alphabet)) (c .in-columns .result)
 paid c =
     let s = entry (c .before) in
     opened-cost (codeOn (s .args .alphabet)) (s .args .n) (s .args .cost) (s .args .entries .now) (s .pre .0 .sized .2) (s .pre .1) (c .in-columns .result) (c .in-columns .ensures)
 
+abbrev at-bound : tie.After-count → tie.After-bound
+at-bound n = n .before
+
+abbrev at-columns : tie.After-count → tie.After-in-columns
+at-columns n = at-bound n .before
+
+abbrev at-start : tie.After-count → tie.Start
+at-start n = entry (at-columns n .before)
+
 polynomial-requires : tie.Need-polynomial-requires
 polynomial-requires c κs =
     let n = c .before .before in
-    let d = n .before in
-    let o = d .before in
-    let s = entry (o .before) in
+    let d = at-bound n in
+    let o = at-columns n in
+    let s = at-start n in
     let v = s .args .k - 1 in
     let f = s .pre .0 in
     let sized = f .sized in
@@ -69,13 +81,14 @@ polynomial-requires c κs =
       room = omega arith;
     }
 
+-- The polynomial of the columns is written into out, and the columns hold the entries of the bytes.
 returns-2 : tie.Need-returns-2
 returns-2 c =
     let p = c .before .before in
     let n = p .before .before .before in
-    let d = n .before in
-    let o = d .before in
-    let s = entry (o .before) in
+    let d = at-bound n in
+    let o = at-columns n in
+    let s = at-start n in
     let a = s .args in
     let C = codeOn (a .alphabet) in
     let f = s .pre .0 in
