@@ -1,4 +1,5 @@
--- The chain tries the lines of the table; what it lets pass is encoded.
+-- The chain of four checks tries the four lines of `encodeTable`; a call that it lets pass has a
+-- message of symbols and room for n, which is all that `encode_into` asks.
 use mathlib.Core.List.{List, []}
 use mathlib.Core.Path.{_∙_}
 use Prim.Native.Nat.{ℕ, _≤_, _<_}
@@ -18,7 +19,9 @@ use Rattle.code.proofs.encode.Statement.{statement}
 use Rattle.code.proofs.encode.Tie as tie
 
 abbrev entry : tie.After-symbols-of → tie.Start
-entry c = c .before .before .before .before .before .before
+entry c =
+    let at-sizes = c .before .before .before in
+    at-sizes .before .before .before
 
 abbrev table : tie.After-symbols-of → List Line
 table c = let a = entry c .args in encodeTable (codeOn (a .alphabet)) (a .n) (a .k) (a .message .now) (length (a .out .now))
@@ -30,29 +33,39 @@ came c =
     let sizes = given .before in
     start ▸ sizes .sizes .ensures ▸ given .or .ensures ▸ room .or2 .ensures ▸ c .symbols-of .ensures
 
+-- The chain ended in a refusal: it is that of the table's first line that fails, and `out` is as it
+-- was.
 returns : tie.Need-returns
 returns c =
-    let w = c .before .before .before in
-    (answers (came w) [] _ (c .before .checked .given .1), stops (came w) [] (λ _ _. entry w .args .out .now) _ (c .before .checked .given .1))
+    let at-symbols = c .before .before .before in
+    let refusal = c .before .checked .given .1 in
+    (answers (came at-symbols) [] _ refusal, stops (came at-symbols) [] (λ _ _. entry at-symbols .args .out .now) _ refusal)
 
 fits : (C : Code) (n k : ℕ) (f : List ℕ) (room : ℕ) → 0 < C .symbols → Accepts (encodeTable C n k f room) → Symbols C f × (n ≤ room)
 fits C n k f room pos (next s (next l (next r (next a end)))) = (symbols-mean C pos f a, room-means n room r)
 
+-- The call passed all checks: the message has symbols only, and `out` has room for the codeword.
 fit : (c : tie.After-enum-told) → (let a = entry (c .before .before) .args in Symbols (codeOn (a .alphabet)) (a .message .now) × (a .n ≤ length (a .out .now)))
 fit c =
-    let a = entry (c .before .before) .args in
-    fits (codeOn (a .alphabet)) (a .n) (a .k) (a .message .now) (length (a .out .now)) (let z = sized (a .alphabet) .least in omega arith) (accepted (came (c .before .before)) (c .enum-told .given .1))
+    let at-symbols = c .before .before in
+    let a = entry at-symbols .args in
+    let some : 0 < codeOn (a .alphabet) .symbols = let z = sized (a .alphabet) .least in omega arith in
+    fits (codeOn (a .alphabet)) (a .n) (a .k) (a .message .now) (length (a .out .now)) some (accepted (came at-symbols) (c .enum-told .given .1))
 
 encode-into-requires : tie.Need-encode-into-requires
 encode-into-requires c κs = fit (c .before)
 
+-- The chain let the call pass: the answer is n, and the codeword stands at the front of `out`.
 returns-2 : tie.Need-returns-2
 returns-2 c =
-    let e = c .before .before in
-    let t = e .before .before in
-    let w = t .before .before in
-    let passed = t .enum-told .given .1 in
-    (goes-on (came w) [] refused (counted (entry w .args .n)) passed, e .encode-into .ensures ∙ goes-on (came w) [] (λ _ _. entry w .args .out .now) _ passed)
+    let at-encode = c .before .before in
+    let at-passed = at-encode .before .before in
+    let at-symbols = at-passed .before .before in
+    let passed = at-passed .enum-told .given .1 in
+    let a = entry at-symbols .args in (
+      goes-on (came at-symbols) [] refused (counted (a .n)) passed,
+      at-encode .encode-into .ensures ∙ goes-on (came at-symbols) [] (λ _ _. a .out .now) _ passed,
+    )
 
 pub encode-spec : {M : Type 1} → statement M
 encode-spec =

@@ -1,4 +1,5 @@
--- The chain tries the lines of the table; what it lets pass is judged by its scores.
+-- The chain of four checks tries the four lines of `judgeTable` in their order; a call that it lets
+-- pass is judged by its scores alone.
 use mathlib.Core.List.{[], _∷_}
 use mathlib.Core.Path.{_∙_}
 use Prim.Native.Nat.{ℕ, _<_}
@@ -18,13 +19,17 @@ use Rattle.counter.proofs.judge.Tie as tie
 sized : (C : Code) (k g : ℕ) → Accepts (size C k ∷ lead g ∷ []) → 0 < k
 sized C k g (next s (next l end)) = let h = size-means C k s in omega arith
 
-list-checked-requires : tie.Need-list-checked-requires
-list-checked-requires c κs passed =
-    let a = c .before .before .before .before .args in
-    sized (codeOn (a .alphabet)) (a .k) (a .lead) (accepted (start ▸ c .before .size .ensures ▸ c .or .ensures) passed)
+abbrev or-entry : tie.After-or → tie.Start
+or-entry c = c .before .before .before .before
 
 abbrev entry : tie.After-symbols-of → tie.Start
-entry c = c .before .before .before .before .before .before
+entry c = or-entry (c .before .before)
+
+-- A call that passed the first two checks has a k above 0, which the check of the list asks for.
+list-checked-requires : tie.Need-list-checked-requires
+list-checked-requires c κs passed =
+    let a = or-entry c .args in
+    sized (codeOn (a .alphabet)) (a .k) (a .lead) (accepted (start ▸ c .before .size .ensures ▸ c .or .ensures) passed)
 
 came : (c : tie.After-symbols-of)
     → (let a = entry c .args in Came (judgeTable (codeOn (a .alphabet)) (a .k) (a .rows .now) (a .scores .now) (a .lead)) [] (toldChecked (c .symbols-of .result)))
@@ -33,15 +38,18 @@ came c =
     let lead = listed .before in
     start ▸ lead .before .size .ensures ▸ lead .or .ensures ▸ listed .list-checked .ensures ▸ c .symbols-of .ensures
 
+-- The chain ended in a refusal: it is the refusal of the table's first line that fails.
 returns : tie.Need-returns
 returns c = answers (came (c .before .before .before)) [] _ (c .before .checked .given .1)
 
+-- The chain let the call pass, so no line of the table fails, and the answer is the verdict on the
+-- scores.
 returns-2 : tie.Need-returns-2
 returns-2 c =
-    let t = c .before in
-    let w = t .before .before in
-    let a = entry w .args in
-    c .judged .ensures ∙ goes-on (came w) [] refused (valued (judged (a .lead) (a .scores .now))) (t .enum-told .given .1)
+    let passed = c .before in
+    let at-symbols = passed .before .before in
+    let a = entry at-symbols .args in
+    c .judged .ensures ∙ goes-on (came at-symbols) [] refused (valued (judged (a .lead) (a .scores .now))) (passed .enum-told .given .1)
 
 pub judge-spec : {M : Type 1} → statement M
 judge-spec =

@@ -1,4 +1,4 @@
--- The part has k symbols: its end is k behind its start.
+-- The part begins at k·i and its end is k behind its beginning, so it has k symbols.
 use mathlib.Core.Path.{_≡_, refl, ap}
 use Prim.Native.Nat.{ℕ, _+_, _*_, _-_}
 use native.Mathlib.Omega.{arith}
@@ -7,6 +7,7 @@ use borrow.Author.Needs.{needs}
 use Rattle.rows.proofs.row.Statement.{statement}
 use Rattle.rows.proofs.row.Tie as tie
 
+-- The part from k·i to k·i + k is row i, and it lies k·i behind the place of the list.
 returns : tie.Need-returns
 returns c =
     let a = c .before .args in
