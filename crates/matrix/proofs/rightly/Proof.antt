@@ -20,7 +20,7 @@ handed s = held (s .args .n) (s .args .cost) (s .args .totals .now) (s .args .en
 abbrev code : tie.Start → Code
 code s = codeOn (s .args .alphabet)
 
--- the entry, from where each test has passed
+-- the entry, from where the first tests have passed
 abbrev at-first : tie.Else1 → tie.Start
 at-first e = e .before .before .before .before
 
@@ -30,7 +30,7 @@ at-second e = at-first (e .before .before)
 abbrev at-third : tie.Else3 → tie.Start
 at-third e = at-second (e .before .before)
 
--- and what it says there
+-- what each of them says there
 counted : (c : tie.Else1) → (let s = at-first c in counts (code s) (handed s) ≡ true)
 counted c = eq-eqb _ _ (c .if1 .left ∙ c .before .positions .ensures)
 

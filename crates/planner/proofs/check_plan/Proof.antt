@@ -60,6 +60,7 @@ settled c =
     let given = whole .before in
     start ▸ sizing c .size .ensures ▸ given .before .steps .ensures ▸ given .entries .ensures ▸ whole .entries2 .ensures ▸ c .symbols .ensures
 
+-- the entry, from the check of the columns
 abbrev checking : tie.After-columns-checked → tie.Start
 checking c = entry (c .before)
 
@@ -79,7 +80,7 @@ returns c =
     let a = checking w .args in
     answers (came w) (ruled (a .reliabilities .now) (a .steps) (a .plan .now) ∷ []) _ (c .before .checked .given .1)
 
--- the chain has passed
+-- where the chain has passed: the check of the columns, and the entry
 abbrev columned : tie.After-enum-told → tie.After-columns-checked
 columned t = t .before .before
 

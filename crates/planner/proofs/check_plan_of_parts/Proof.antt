@@ -74,6 +74,7 @@ settled c =
     start ▸ sizing c .size .ensures ▸ whole .before .steps .ensures ▸ whole .entries .ensures
     ▸ stored-tried (code s) (given s) (toldChecked (whole .entries .result)) (held .or .ensures) (held .before .rightly .ensures) ▸ c .symbols .ensures
 
+-- the entry, from the check of the columns
 abbrev checking : tie.After-columns-checked → tie.Start
 checking c = entry (c .before)
 
@@ -94,7 +95,7 @@ returns c =
     let a = s .args in
     answers (came w) (ruled (a .reliabilities .now) (a .steps) (bytesOf (code s) (given s)) ∷ []) _ (c .before .checked .given .1)
 
--- the chain has passed
+-- where the chain has passed: the check of the columns, and the entry
 abbrev columned : tie.After-enum-told → tie.After-columns-checked
 columned t = t .before .before
 

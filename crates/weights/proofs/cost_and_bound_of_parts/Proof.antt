@@ -60,7 +60,7 @@ came c =
 returns : tie.Need-returns
 returns c = answers (came (c .before .before .before)) [] _ (c .before .checked .given .1)
 
--- the chain has passed
+-- where the chain has passed: its last check, and the entry
 abbrev checked : tie.After-enum-told → tie.After-symbols
 checked t = t .before .before
 

@@ -65,6 +65,7 @@ settled c =
     let given = c .before in
     start ▸ sizing c .size .ensures ▸ given .before .level .ensures ▸ given .entries .ensures ▸ c .entries-room .ensures
 
+-- the entry, from the check of the columns
 abbrev checking : tie.After-columns-checked → tie.Start
 checking c = entry (c .before)
 
@@ -84,7 +85,7 @@ returns c =
     let refusal = c .before .checked .given .1 in
     (answers (came w) [] _ refusal, stops (came w) [] (λ _ _. checking w .args .out .now) _ refusal)
 
--- the chain has passed
+-- where the chain has passed: the check of the columns, and the entry
 abbrev columned : tie.After-enum-told → tie.After-columns-checked
 columned t = t .before .before
 
