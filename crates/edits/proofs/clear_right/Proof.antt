@@ -1,4 +1,5 @@
--- The lowest place above 5 is that of the old entries; where there is none, zeros are laid over the column, and its cost is taken away.
+-- The lowest place above 5 is that of the old entries; where there is none, zeros are laid over
+-- the column, and its cost is taken away.
 use mathlib.Core.List.{List, [], _∷_}
 use mathlib.Core.Path.{_≡_, _∙_, ap, ap₂}
 use Prim.Native.Nat.{ℕ, _*_, _+_, _-_, _≤_, _<_}
@@ -28,6 +29,10 @@ handed s = held (s .args .n) (s .args .cost) (s .args .totals .now) (s .args .en
 abbrev after : tie.Start → List ℕ
 after s = withoutColumn (code s) (s .args .entries .now) (s .args .position)
 
+-- what goes in and comes out
+abbrev both : tie.Start → List (List ℕ)
+both s = s .args .entries .now ∷ after s ∷ []
+
 right : (s : tie.Start) → Rightly (code s) (handed s)
 right s = rightly-means (code s) (handed s) (s .pre .1)
 
@@ -41,16 +46,17 @@ abbrev entry : tie.After-first-above → tie.Start
 entry b = b .before .before .before .before
 
 -- the lowest of what goes in and comes out
-lowest : (b : tie.After-first-above) → (let s = entry b in b .first-above .result ≡ lowestAbove (code s) (s .args .entries .now ∷ after s ∷ []))
+lowest : (b : tie.After-first-above) → (let s = entry b in b .first-above .result ≡ lowestAbove (code s) (both s))
 lowest b =
     let s = entry b in
     b .first-above .ensures ∙ lowest-cleared (code s) (s .args .entries .now) (right s .full) (s .args .position) (here s)
 
+-- An entry is above 5: the lowest of them is refused, and the record is as it was.
 returns : tie.Need-returns
 returns c =
     let b = c .before in
     let s = entry b in
-    above-refused (code s) (s .args .entries .now ∷ after s ∷ []) (handed s) (heldOf (code s) (s .args .n) (after s)) (b .first-above .result) (lowest b)
+    above-refused (code s) (both s) (handed s) (heldOf (code s) (s .args .n) (after s)) (b .first-above .result) (lowest b)
     (let f = right s .full in omega arith)
 
 abbrev begun : tie.After-symbols → tie.Start
@@ -68,20 +74,27 @@ column y =
     let most = sized (s .args .alphabet) .most in
     (omega arith, omega arith)
 
--- the column's cost is a part of the stored one
+abbrev lent : tie.After-cost → tie.After-symbols
+lent p = p .before .before .before
+
+-- the cost of the part that is lent is the column's
 paid : (p : tie.After-cost)
-    → (let s = begun (p .before .before .before) in
+    → (let s = begun (lent p) in
     p .cost .result ≡ cost (take (code s .symbols) (drop (code s .symbols * s .args .position) (s .args .entries .now))))
 paid p =
-    let y = p .before .before .before in
+    let y = lent p in
     let s = begun y in
     let q = y .symbols .result in
     let e : q * s .args .position + q - q * s .args .position ≡ q = omega arith in
     p .cost .ensures
-    ∙ ap₂ (λ (n from : ℕ). cost (take n (drop from (s .args .entries .now)))) (e ∙ y .symbols .ensures) (ap (λ (x : ℕ). x * s .args .position) (y .symbols .ensures))
+    ∙ ap₂ (λ (n from : ℕ). cost (take n (drop from (s .args .entries .now)))) (e ∙ y .symbols .ensures)
+    (ap (λ (x : ℕ). x * s .args .position) (y .symbols .ensures))
+
+abbrev counted : tie.After-clear → tie.After-cost
+counted k = k .before .before
 
 abbrev started : tie.After-clear → tie.After-symbols
-started k = k .before .before .before .before .before
+started k = lent (counted k)
 
 -- zeros are laid over the column
 cleared : (k : tie.After-clear) → k .clear .last .0 ≡ after (begun (started k))
@@ -93,30 +106,31 @@ cleared k =
     ∙ laid-cleared (code s) (s .args .entries .now) (s .args .position)
 
 -- what is left with the column's cost is the stored cost
-moved : (p : tie.After-cost) → (let s = begun (p .before .before .before) in cost (after s) + p .cost .result ≡ s .args .cost)
+moved : (p : tie.After-cost) → (let s = begun (lent p) in cost (after s) + p .cost .result ≡ s .args .cost)
 moved p =
-    let s = begun (p .before .before .before) in
+    let s = begun (lent p) in
     without-column (code s) (handed s) (right s) (s .args .position) (here s) (p .cost .result) (paid p)
 
 cost-requires : tie.Need-cost-requires
 cost-requires c κs = let w = column (c .before .before) in omega arith
 
 clear-requires : tie.Need-clear-requires
-clear-requires c κs = let w = column (c .before .before .before .before) in omega arith
+clear-requires c κs = let w = column (lent (c .before)) in omega arith
 
 sub-t14 : tie.Need-sub-t14
-sub-t14 c = let m = moved (c .before .before .before .before) in omega arith
+sub-t14 c = let m = moved (counted (c .before .before)) in omega arith
 
+-- No entry is above 5: the column is zeros, and so is its total;
+-- its cost is taken off the stored one.
 returns-2 : tie.Need-returns-2
 returns-2 c =
     let k = c .before .before in
-    let p = k .before .before in
-    let y = p .before .before .before in
-    let b = y .before .before in
+    let p = counted k in
+    let b = lent p .before .before in
     let s = entry b in
     let m = moved p in
-    clear-done (code s) (handed s) (right s) (s .args .position) (here s) (b .first-above .result) (lowest b) (let f = right s .full in omega arith) (p .cost .result) _ (paid p) (omega arith)
-    (k .clear .last .0) (cleared k)
+    clear-done (code s) (handed s) (right s) (s .args .position) (here s) (b .first-above .result) (lowest b) (let f = right s .full in omega arith)
+    (p .cost .result) _ (paid p) (omega arith) (k .clear .last .0) (cleared k)
 
 pub clear-right-spec : {M : Type 1} → statement M
 clear-right-spec =

@@ -55,6 +55,7 @@ count-requires c κs =
     let s = entry (laid k) in
     (s .pre .1, ap length (there k) ∙ length-filled (codeOn (s .args .alphabet)) (s .args .bytes .now) (s .pre .0))
 
+-- What was counted are the entries of the bytes: so are the cost and the totals.
 returns : tie.Need-returns
 returns c =
     let n = c .before .before in

@@ -1,4 +1,4 @@
--- Two checks are two lines.
+-- The chain has two checks, and each of them tries one line.
 use mathlib.Core.Path.{_∙_, ap}
 use borrow.Author.Needs.{needs}
 use Rattle.definitions.specs.Editing.{position}
@@ -6,6 +6,7 @@ use Rattle.refusals.specs.Checked.{Outcome, orLine}
 use Rattle.edits.proofs.placed.Statement.{statement}
 use Rattle.edits.proofs.placed.Tie as tie
 
+-- The position's line is tried of what the size's line has left.
 returns : tie.Need-returns
 returns c =
     let a = c .before .before .args in

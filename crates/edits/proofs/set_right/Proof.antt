@@ -1,4 +1,5 @@
--- The lowest place above 5 is refused; where there is none, the new total and the new cost are told by the old ones.
+-- The lowest place above 5 is refused; where there is none, the new total and
+-- the new cost are told by the old ones.
 use mathlib.Core.Bool.{false}
 use mathlib.Core.List.{List, [], _∷_}
 use mathlib.Core.Path.{_≡_, _∙_, ap}
@@ -27,6 +28,10 @@ handed s = held (s .args .n) (s .args .cost) (s .args .totals .now) (s .args .en
 
 abbrev after : tie.Start → List ℕ
 after s = withEntry (code s) (s .args .entries .now) (s .args .position) (s .args .symbol) (s .args .entry)
+
+-- what goes in and comes out
+abbrev both : tie.Start → List (List ℕ)
+both s = s .args .entries .now ∷ after s ∷ []
 
 right : (s : tie.Start) → Rightly (code s) (handed s)
 right s = rightly-means (code s) (handed s) (s .pre .1)
@@ -58,41 +63,50 @@ set-there : (y : tie.After-symbols) → (let s = entry y in set (s .args .entrie
 set-there y = let s = entry y in ap (λ (j : ℕ). set (s .args .entries .now) j (s .args .entry)) (at-is y)
 
 -- the lowest of what goes in and comes out
-lowest : (b : tie.After-lowest-set) → (let s = entry (b .before .before) in b .lowest-set .result ≡ lowestAbove (code s) (s .args .entries .now ∷ after s ∷ []))
+lowest : (b : tie.After-lowest-set) → (let s = entry (b .before .before) in b .lowest-set .result ≡ lowestAbove (code s) (both s))
 lowest b =
     let y = b .before .before in
     let s = entry y in
     b .lowest-set .ensures (code s) (right s .full) ∙ ap (λ (l : List ℕ). lowestAbove (code s) (s .args .entries .now ∷ l ∷ [])) (set-there y)
 
+-- An entry is above 5: the lowest of them is refused, and the record is as it was.
 returns : tie.Need-returns
 returns c =
     let b = c .before in
     let s = entry (b .before .before) in
-    above-refused (code s) (s .args .entries .now ∷ after s ∷ []) (handed s) (heldOf (code s) (s .args .n) (after s)) (b .lowest-set .result) (lowest b)
+    above-refused (code s) (both s) (handed s) (heldOf (code s) (s .args .n) (after s)) (b .lowest-set .result) (lowest b)
     (let f = right s .full in omega arith)
 
--- no entry is above 5
-passed : (c : tie.Else1) → (let s = entry (c .before .before .before) in inOrOut (code s) (s .args .entries .now ∷ after s ∷ []) .given ≡ false)
+-- where no entry is above 5, the places before it
+abbrev placed : tie.Else1 → tie.After-symbols
+placed e = e .before .before .before
+
+abbrev begun : tie.Else1 → tie.Start
+begun e = entry (placed e)
+
+passed : (c : tie.Else1) → (let s = begun c in inOrOut (code s) (both s) .given ≡ false)
 passed c =
     let b = c .before in
-    let s = entry (b .before .before) in
-    not-given (code s) (s .args .entries .now ∷ after s ∷ []) (handed s) (heldOf (code s) (s .args .n) (after s)) (b .lowest-set .result) (lowest b)
+    let s = begun c in
+    not-given (code s) (both s) (handed s) (heldOf (code s) (s .args .n) (after s)) (b .lowest-set .result) (lowest b)
     (let f = right s .full in omega arith)
 
 -- the total and the cost that are stored are small
 small : (c : tie.Else1)
-    → (let s = entry (c .before .before .before) in
-    (getD (s .args .totals .now) (s .args .position) 0 ≤ 5 * 32) × (s .args .cost ≤ 15 * 992))
+    → (let s = begun c in (getD (s .args .totals .now) (s .args .position) 0 ≤ 5 * 32) × (s .args .cost ≤ 15 * 992))
 small c =
-    let s = entry (c .before .before .before) in
+    let s = begun c in
     let total = total-limited (code s) (handed s) (right s) (after s ∷ []) (passed c) (s .args .position) (here s) in
     let price = cost-limited (code s) (handed s) (right s) (after s ∷ []) (passed c) in
     let most = sized (s .args .alphabet) .most in
     let room = places-within (s .args .alphabet) in
     (omega arith, omega arith)
 
+abbrev low : tie.After-short → tie.Else1
+low n = n .before .before .before
+
 add-totals : tie.Need-add-totals
-add-totals c = let t = small (c .before .before .before) .0 in let x = c .short .ensures .1 in omega arith
+add-totals c = let t = small (low c) .0 in let x = c .short .ensures .1 in omega arith
 
 -- the entry that lay there
 abbrev old : tie.After-symbols → ℕ
@@ -113,7 +127,7 @@ cost-moved y =
     ∙ cost-moves (code s) (handed s) (right s) (s .args .position) (here s) (s .args .symbol) (s .args .entry) (s .pre .0 .2)
 
 abbrev started : tie.After-short → tie.After-symbols
-started n = n .before .before .before .before .before .before
+started n = placed (low n)
 
 sub-totals : tie.Need-sub-totals
 sub-totals c =
@@ -124,7 +138,7 @@ sub-totals c =
     omega arith
 
 add-t13 : tie.Need-add-t13
-add-t13 c = let t = small (c .before .before .before .before .before) .1 in let x = c .entry-cost .ensures .1 in omega arith
+add-t13 c = let t = small (low (c .before .before)) .1 in let x = c .entry-cost .ensures .1 in omega arith
 
 sub-t29 : tie.Need-sub-t29
 sub-t29 c =
@@ -134,6 +148,7 @@ sub-t29 c =
     let was = c .entry-cost2 .ensures .0 in
     omega arith
 
+-- No entry is above 5: the entry is set, and the total and the cost lose the old one and gain it.
 returns-2 : tie.Need-returns-2
 returns-2 c =
     let p = c .before in
@@ -141,7 +156,7 @@ returns-2 c =
     let n = o .before in
     let y = started n in
     let s = entry y in
-    let b = n .before .before .before .before in
+    let b = low n .before in
     let place = at-is y in
     let there = ap (λ (j : ℕ). getD (s .args .entries .now) j 0) place in
     let total = total-moved y in
@@ -150,8 +165,8 @@ returns-2 c =
     let was = o .short2 .ensures .0 in
     let cost-new = p .entry-cost .ensures .0 in
     let cost-was = c .entry-cost2 .ensures .0 ∙ ap entryCost there in
-    set-done (code s) (handed s) (right s) (s .args .position) (here s) (s .args .symbol) (s .args .entry) (s .pre .0 .2) (b .lowest-set .result) (lowest b)
-    (let f = right s .full in omega arith) _ _ (omega arith) (omega arith) _ (set-there y)
+    set-done (code s) (handed s) (right s) (s .args .position) (here s) (s .args .symbol) (s .args .entry) (s .pre .0 .2)
+    (b .lowest-set .result) (lowest b) (let f = right s .full in omega arith) _ _ (omega arith) (omega arith) _ (set-there y)
 
 pub set-right-spec : {M : Type 1} → statement M
 set-right-spec =
@@ -163,10 +178,10 @@ set-right-spec =
     (λ c κs. within (c .before))
     (λ c. search needs)
     returns
-    (λ c. within (c .before .before .before .before))
-    (λ c. let p = totalled (entry (c .before .before .before .before)) in omega arith)
-    (λ c. totalled (entry (c .before .before .before .before .before)))
-    (λ c. within (c .before .before .before .before .before))
+    (λ c. within (placed (c .before)))
+    (λ c. let p = totalled (begun (c .before)) in omega arith)
+    (λ c. totalled (begun (c .before .before)))
+    (λ c. within (placed (c .before .before)))
     (λ c κs. search needs)
     add-totals
     (λ c κs. search needs)

@@ -12,15 +12,18 @@ use Rattle.memory.proofs.Laid.{laid-front}
 use Rattle.edits.proofs.turn.Statement.{statement}
 use Rattle.edits.proofs.turn.Tie as tie
 
+abbrev lending : tie.After-put-arg → tie.Start
+lending c = c .before .before .before
+
 put-requires : tie.Need-put-requires
 put-requires c κs =
-    let s = c .before .before .before in
+    let s = lending c in
     let h = s .pre in
     let most = places-within (s .args .alphabet) in
     omega arith
 
 abbrev entry : tie.After-put → tie.Start
-entry p = p .before .before .before .before
+entry p = lending (p .before)
 
 -- the bytes stand in front
 front : (p : tie.After-put) → (let bytes = entry p .args .bytes .now in take (length bytes) (p .put .last .0) ≡ bytes)
@@ -29,10 +32,13 @@ front p =
     let bytes = a .bytes .now in
     ap (take (length bytes)) (p .put .ensures ∙ laid-front (a .entries .now) bytes (length bytes) refl) ∙ take-at bytes _ (length bytes) refl
 
+-- What was turned is the front of the entries, and the front is the bytes.
 returns : tie.Need-returns
 returns c =
-    let n = c .before .before in
-    subst (λ (bytes : List ℕ). Turned bytes (n .turn-in-place .result) (n .turn-in-place .last .1 .1 .0)) (front (n .before .before .before .before)) (n .turn-in-place .ensures)
+    let turned = c .before .before in
+    let put = turned .before .before .before .before in
+    subst (λ (bytes : List ℕ). Turned bytes (turned .turn-in-place .result) (turned .turn-in-place .last .1 .1 .0)) (front put)
+    (turned .turn-in-place .ensures)
 
 pub turn-spec : {M : Type 1} → statement M
 turn-spec = tie.close (tie.spec put-requires (λ c κs. search needs) (λ c. search needs) returns)

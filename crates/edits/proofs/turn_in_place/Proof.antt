@@ -1,4 +1,5 @@
--- Zeros are laid behind the bytes, and what lies there then is counted, the totals in front of an array of their own.
+-- Zeros are laid behind the bytes, and what lies there then is counted, the
+-- totals in front of an array of their own.
 use mathlib.Core.Path.{_≡_, sym, _∙_}
 use Prim.Native.Nat.{ℕ, _≤_}
 use native.Mathlib.Omega.{arith}
@@ -53,10 +54,11 @@ count-requires c κs =
     let p = measured k in
     (length-totals (p .before) ∙ p .before .positions .ensures, length-turning (turning k) ∙ p .places .ensures)
 
+-- The entries with zeros behind them have been counted, and zeros cost nothing.
 returns : tie.Need-returns
 returns c =
-    let n = c .before in
-    turned (turning (n .before .before .before .before .before)) _ (n .count .ensures .0)
+    let counted = c .before in
+    turned (turning (counted .before .before .before .before .before)) _ (counted .count .ensures .0)
 
 pub turn-in-place-spec : {M : Type 1} → statement M
 turn-in-place-spec =

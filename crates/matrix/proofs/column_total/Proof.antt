@@ -1,4 +1,4 @@
--- The loop has added up the first b entries of the column.
+-- The loop adds up a column of bytes, at most thirty-two of them: so the total fits sixteen bits.
 use mathlib.Core.Path.{_≡_, _∙_, ap, ap₂}
 use Prim.Native.Nat.{ℕ, _+_, _*_, _-_, _≤_}
 use native.Mathlib.Omega.{arith}
@@ -10,6 +10,7 @@ use Rattle.definitions.specs.Tools.{sum}
 use Rattle.matrix.proofs.column_total.Statement.{statement}
 use Rattle.matrix.proofs.column_total.Tie as tie
 
+-- The total is that of the column's first b entries, each at most 255.
 abbrev Inv-loop : tie.InvT-loop
 Inv-loop entries i symbols first total₀ b₀ total b = (b ≤ symbols) × (total ≡ sum b (λ (j : ℕ). getD entries (first + j) 0)) × (total ≤ 255 * b)
 
@@ -17,7 +18,10 @@ abbrev μ-loop : tie.MeasureT-loop
 μ-loop entries i symbols first total₀ b₀ total b = symbols - b
 
 -- the column begins, and ends, within the entries
-column : (c : tie.After-symbols Inv-loop μ-loop) → (let s = c .before .before in c .symbols .result * s .args .i + c .symbols .result ≤ length (s .args .entries .now)) × (c .symbols .result ≤ 32)
+column : (c : tie.After-symbols Inv-loop μ-loop)
+    → (let a = c .before .before .args in
+    let q = c .symbols .result in
+    (q * a .i + q ≤ length (a .entries .now)) × (q ≤ 32))
 column c =
     let s = c .before .before in
     let e = c .symbols .ensures in
@@ -46,6 +50,7 @@ loop-again c =
     let small = c .short .ensures .1 in
     (omega arith, sum-more _ (l .loop .b) (l .loop .total) (c .short .result) (l .loop .inv .1) (c .short .ensures .0), omega arith)
 
+-- The loop has ended at b = symbols, so the total is the whole column's.
 returns : tie.Need-returns Inv-loop μ-loop
 returns c =
     let l = c .before in

@@ -1,4 +1,4 @@
--- The loop has added up the costs of the first j entries.
+-- The loop adds up the costs of the entries; a cost is at most 32,640, so no sum overflows.
 use mathlib.Core.Path.{_≡_}
 use Prim.Native.Nat.{ℕ, _*_, _-_, _≤_}
 use native.Mathlib.Omega.{arith}
@@ -10,6 +10,7 @@ use Rattle.definitions.specs.Weights.{entryCost}
 use Rattle.matrix.proofs.cost.Statement.{statement}
 use Rattle.matrix.proofs.cost.Tie as tie
 
+-- The total is the cost of the first j entries.
 abbrev Inv-loop : tie.InvT-loop
 Inv-loop entries total₀ j₀ total j = (j ≤ length entries) × (total ≡ sum j (λ (t : ℕ). entryCost (getD entries t 0))) × (total ≤ 32640 * j)
 
@@ -26,6 +27,7 @@ loop-again c =
     let small = c .entry-cost .ensures .1 in
     (omega arith, sum-more f (l .loop .j) (l .loop .total) (c .entry-cost .result) (l .loop .inv .1) (c .entry-cost .ensures .0), omega arith)
 
+-- The loop has ended at j = length, so the total is the cost of all entries.
 returns : tie.Need-returns Inv-loop μ-loop
 returns c =
     let l = c .before in

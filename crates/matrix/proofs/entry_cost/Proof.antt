@@ -10,6 +10,7 @@ use Rattle.matrix.proofs.entry_cost.Tie as tie
 mul-result : tie.Need-mul-result
 mul-result c = let fits = cost-fits (c .wide .result) (c .wide .ensures .1) in omega arith
 
+-- The byte is only made wider, so the half of the product is the page's cost.
 returns : tie.Need-returns
 returns c = let fits = cost-fits (c .wide .result) (c .wide .ensures .1) in (ap entryCost (c .wide .ensures .0), omega arith)
 

@@ -1,4 +1,5 @@
--- Each total that was looked at is its column's, up to the first that is not.
+-- The loop compares each total with its column's; one that differs decides the test, as do all that
+-- agree.
 use mathlib.Core.Bool.{true}
 use mathlib.Core.Path.{_≡_, sym}
 use Prim.Native.Nat.{_-_, _≤_, _<_}
@@ -14,6 +15,7 @@ use Rattle.matrix.proofs.Record.{isTotal, total-is, total-is-not}
 use Rattle.matrix.proofs.totals_right.Statement.{statement}
 use Rattle.matrix.proofs.totals_right.Tie as tie
 
+-- The totals of the first i columns are right.
 abbrev Inv-loop : tie.InvT-loop
 Inv-loop alphabet totals entries positions i₀ i = (i ≤ (codeOn alphabet) .positions) × (every i (isTotal (codeOn alphabet) totals entries) ≡ true)
 
@@ -23,22 +25,26 @@ abbrev μ-loop : tie.MeasureT-loop
 loop-holds : tie.Need-loop-holds Inv-loop μ-loop
 loop-holds c = let a = c .before .before .before .args in (omega arith, every-none (isTotal (codeOn (a .alphabet)) (a .totals .now) (a .entries .now)))
 
+abbrev entry : tie.At-loop Inv-loop μ-loop → tie.Start Inv-loop μ-loop
+entry l = l .before .before .before .before
+
 mul-if1 : tie.Need-mul-if1 Inv-loop μ-loop
-mul-if1 c = let z = sized (c .before .before .before .before .before .args .alphabet) in omega arith
+mul-if1 c = let z = sized (entry (c .before) .args .alphabet) in omega arith
 
 column-total-requires : tie.Need-column-total-requires Inv-loop μ-loop
 column-total-requires c κs =
-    let s = c .before .before .before .before .before .before in
-    let C = codeOn (s .args .alphabet) in
     let l = c .before .before in
+    let s = entry l in
+    let C = codeOn (s .args .alphabet) in
     let i : l .loop .i < C .positions = omega arith in
     (i, row-within (C .symbols) (l .loop .i) (C .positions) (length (s .args .entries .now)) i (omega arith))
 
+-- The total at i is not its column's, so not every total is right.
 returns : tie.Need-returns Inv-loop μ-loop
 returns c =
     let t = c .before in
     let l = t .before .before .before in
-    let a = l .before .before .before .before .args in
+    let a = entry l .args in
     let C = codeOn (a .alphabet) in
     sym
     (every-but (isTotal C (a .totals .now) (a .entries .now)) (C .positions) (l .loop .i) (omega arith)
@@ -48,17 +54,18 @@ loop-again : tie.Need-loop-again Inv-loop μ-loop
 loop-again c =
     let t = c .before in
     let l = t .before .before .before in
-    let a = l .before .before .before .before .args in
+    let a = entry l .args in
     let C = codeOn (a .alphabet) in (
       omega arith,
       every-more (isTotal C (a .totals .now) (a .entries .now)) (l .loop .i) (l .loop .inv .1)
           (total-is C (a .totals .now) (a .entries .now) (l .loop .i) (t .column-total .result) (t .column-total .ensures) (c .if1 .left)),
     )
 
+-- The loop has ended at i = positions, so every total is right.
 returns-2 : tie.Need-returns-2 Inv-loop μ-loop
 returns-2 c =
     let l = c .before in
-    let e : l .loop .i ≡ codeOn (l .before .before .before .before .args .alphabet) .positions = omega arith in
+    let e : l .loop .i ≡ codeOn (entry l .args .alphabet) .positions = omega arith in
     sym (rw e at (l .loop .inv .1))
 
 pub totals-right-spec : {M : Type 1} → statement M

@@ -13,18 +13,27 @@ use Rattle.matrix.proofs.Columns.{places-within}
 use Rattle.matrix.proofs.unused_zero.Statement.{statement}
 use Rattle.matrix.proofs.unused_zero.Tie as tie
 
+abbrev entry : tie.After-positions → tie.Start
+entry p = p .before .before
+
+-- All positions are used: nothing lies behind them.
 returns : tie.Need-returns
 returns c =
-    let s = c .before .before .before in
+    let s = entry (c .before) in
     let C = codeOn (s .args .alphabet) in
     let h : C .positions ≤ s .args .n = omega arith in
     let w : C .symbols * C .positions ≤ C .symbols * s .args .n = mul-le-mul-left (C .symbols) h in
     sym (ap isZero (drop-of-length-le (s .args .entries .now) {i = C .symbols * s .args .n} (omega arith)) ∙ isZero-nil)
 
+abbrev begun : tie.After-symbols → tie.Start
+begun c = entry (c .before .before)
+
 -- what is used lies within the entries
-used : (c : tie.After-symbols) → (let s = c .before .before .before .before in (c .symbols .result * s .args .n ≤ length (s .args .entries .now)) × (length (s .args .entries .now) ≤ 992))
+used : (c : tie.After-symbols)
+    → (let a = begun c .args in
+    (c .symbols .result * a .n ≤ length (a .entries .now)) × (length (a .entries .now) ≤ 992))
 used c =
-    let s = c .before .before .before .before in
+    let s = begun c in
     let C = codeOn (s .args .alphabet) in
     let h : s .args .n ≤ C .positions = omega arith in
     let w : C .symbols * s .args .n ≤ C .symbols * C .positions = mul-le-mul-left (C .symbols) h in
@@ -44,14 +53,15 @@ part-all-zero-start c = let h = used c in omega arith
 part-all-zero-end : tie.Need-part-all-zero-end
 part-all-zero-end c = let h = used c in omega arith
 
+-- The part that was looked through is all that lies behind the columns of n positions.
 returns-2 : tie.Need-returns-2
 returns-2 c =
     let q = c .before .before in
-    let s = q .before .before .before .before in
-    let x = q .symbols .result * s .args .n in
-    let m = s .args .entries .now in
+    let n = begun q .args .n in
+    let m = begun q .args .entries .now in
+    let x = q .symbols .result * n in
     let rest = length-drop x m in
-    c .all-zero .ensures ∙ ap isZero (take-all (length m - x) (drop x m) (omega arith)) ∙ ap (λ (y : ℕ). isZero (drop (y * s .args .n) m)) (q .symbols .ensures)
+    c .all-zero .ensures ∙ ap isZero (take-all (length m - x) (drop x m) (omega arith)) ∙ ap (λ (y : ℕ). isZero (drop (y * n) m)) (q .symbols .ensures)
 
 pub unused-zero-spec : {M : Type 1} → statement M
 unused-zero-spec =

@@ -1,4 +1,5 @@
--- The chain tries the lines of the table, the columns last, which need what the lines before them say; what passes is planned.
+-- The chain tries the lines of the table, the columns last, which need what the lines before them
+-- say; what passes is planned.
 use mathlib.Core.List.{List, [], _∷_, _++_}
 use mathlib.Core.Path.{_≡_, sym, _∙_, ap, ap₂}
 use Prim.Native.Nat.{ℕ, _*_, _≤_}
@@ -32,43 +33,66 @@ module _ (C : Code) (n s : ℕ) (r : List ℕ) (space : ℕ) where
   fits (next s (next l (next e (next h end)))) =
       record { sized = size-means C n s; full = entries-mean _ r e; spacious = room-means _ space h }
 
-abbrev entry : tie.After-entries-room → tie.Start
-entry c = c .before .before .before .before .before .before
+-- what the call is about, at its beginning
+module _ (s : tie.Start) where
+  abbrev code : Code
+  code = codeOn (s .args .alphabet)
 
-settled : (c : tie.After-entries-room)
-    → (let a = entry c .args in Came (settling (codeOn (a .alphabet)) (a .n) (a .steps) (a .reliabilities .now) (length (a .out .now))) [] (toldChecked (c .entries-room .result)))
+  abbrev lines : List Line
+  lines = let a = s .args in settling code (a .n) (a .steps) (a .reliabilities .now) (length (a .out .now))
+
+  abbrev column-line : List Line
+  column-line = columns code (s .args .n) (s .args .reliabilities .now) ∷ []
+
+  abbrev Fits : Type 0
+  Fits = let a = s .args in Fit code (a .n) (a .steps) (a .reliabilities .now) (length (a .out .now))
+
+  fits-call : Accepts lines → Fits
+  fits-call = let a = s .args in fits code (a .n) (a .steps) (a .reliabilities .now) (length (a .out .now))
+
+-- the size is checked first
+abbrev sizing : tie.After-entries-room → tie.After-size
+sizing c = c .before .before .before
+
+abbrev entry : tie.After-entries-room → tie.Start
+entry c = sizing c .before .before .before
+
+settled : (c : tie.After-entries-room) → Came (lines (entry c)) [] (toldChecked (c .entries-room .result))
 settled c =
     let given = c .before in
-    let few = given .before in
-    start ▸ few .before .size .ensures ▸ few .steps .ensures ▸ given .entries .ensures ▸ c .entries-room .ensures
+    start ▸ sizing c .size .ensures ▸ given .before .steps .ensures ▸ given .entries .ensures ▸ c .entries-room .ensures
+
+-- the entry, from the check of the columns
+abbrev checking : tie.After-columns-checked → tie.Start
+checking c = entry (c .before)
 
 came : (c : tie.After-columns-checked)
-    → (let a = entry (c .before) .args in
-    Came (planTable (codeOn (a .alphabet)) (a .n) (a .steps) (a .reliabilities .now) (length (a .out .now))) [] (toldChecked (c .columns-checked .result)))
-came c =
-    let a = entry (c .before) .args in
-    further (columns (codeOn (a .alphabet)) (a .n) (a .reliabilities .now) ∷ []) (settled (c .before)) ▸ c .columns-checked .ensures
+    → (let a = checking c .args in
+    Came (planTable (code (checking c)) (a .n) (a .steps) (a .reliabilities .now) (length (a .out .now))) [] (toldChecked (c .columns-checked .result)))
+came c = further (column-line (checking c)) (settled (c .before)) ▸ c .columns-checked .ensures
 
 columns-checked-requires : tie.Need-columns-checked-requires
 columns-checked-requires c κs e =
-    let a = entry c .args in
-    let f = fits (codeOn (a .alphabet)) (a .n) (a .steps) (a .reliabilities .now) (length (a .out .now)) (accepted (settled c) e) in
+    let f = fits-call (entry c) (accepted (settled c) e) in
     let full = f .full in
     (f .sized .1, omega arith)
 
+-- A line of the table refuses: the answer is its refusal, and the memory is as it was.
 returns : tie.Need-returns
 returns c =
     let w = c .before .before .before in
-    (answers (came w) [] _ (c .before .checked .given .1), stops (came w) [] (λ _ _. entry (w .before) .args .out .now) _ (c .before .checked .given .1))
+    let refusal = c .before .checked .given .1 in
+    (answers (came w) [] _ refusal, stops (came w) [] (λ _ _. checking w .args .out .now) _ refusal)
 
-fit : (c : tie.After-enum-told) → (let a = entry (c .before .before .before) .args in Fit (codeOn (a .alphabet)) (a .n) (a .steps) (a .reliabilities .now) (length (a .out .now)))
-fit c =
-    let a = entry (c .before .before .before) .args in
-    let C = codeOn (a .alphabet) in
-    fits C (a .n) (a .steps) (a .reliabilities .now) (length (a .out .now)) (accepts-front _ (columns C (a .n) (a .reliabilities .now) ∷ []) (accepted (came (c .before .before)) (c .enum-told .given .1)))
+-- where the chain has passed: the check of the columns, and the entry
+abbrev columned : tie.After-enum-told → tie.After-columns-checked
+columned t = t .before .before
 
 abbrev passed : tie.After-enum-told → tie.Start
-passed t = entry (t .before .before .before)
+passed t = checking (columned t)
+
+fit : (t : tie.After-enum-told) → Fits (passed t)
+fit t = fits-call (passed t) (accepts-front _ (column-line (passed t)) (accepted (came (columned t)) (t .enum-told .given .1)))
 
 clear-requires : tie.Need-clear-requires
 clear-requires c κs =
@@ -85,18 +109,24 @@ module _ (k : tie.After-clear) where
   abbrev many : ℕ
   many = length (passed (told k) .args .reliabilities .now)
 
-  within : many ≤ length (passed (told k) .args .out .now)
+  abbrev out₀ : List ℕ
+  out₀ = passed (told k) .args .out .now
+
+  within : many ≤ length out₀
   within =
       let f = fit (told k) in
       let full = f .full in
       let room = f .spacious in
       omega arith
 
-  kept : length (k .clear .last .0) ≡ length (passed (told k) .args .out .now)
-  kept = length-cleared (passed (told k) .args .out .now) (k .clear .last .0) many within (k .clear .ensures)
+  kept : length (k .clear .last .0) ≡ length out₀
+  kept = length-cleared out₀ (k .clear .last .0) many within (k .clear .ensures)
 
   zeros : take many (k .clear .last .0) ≡ replicate many 0
-  zeros = cleared-front (passed (told k) .args .out .now) (k .clear .last .0) many within (k .clear .ensures)
+  zeros = cleared-front out₀ (k .clear .last .0) many within (k .clear .ensures)
+
+  many-zeros : length (take many (k .clear .last .0)) ≡ many
+  many-zeros = ap length zeros ∙ length-replicate many 0
 
 slice-relend-prefix-plan-into : tie.Need-slice-relend-prefix-plan-into
 slice-relend-prefix-plan-into c =
@@ -106,7 +136,7 @@ slice-relend-prefix-plan-into c =
     omega arith
 
 slice-aggregate-plan-into : tie.Need-slice-aggregate-plan-into
-slice-aggregate-plan-into c = let k = c .before .before .before in sym (ap length (zeros k) ∙ length-replicate (many k) 0)
+slice-aggregate-plan-into c = sym (many-zeros (c .before .before .before))
 
 plan-into-requires : tie.Need-plan-into-requires
 plan-into-requires c κs =
@@ -124,21 +154,22 @@ same-length c =
     let k = cleared p in
     let a = passed (told k) .args in
     length-front (k .clear .last .0) (p .plan-into .last .1 .1 .1 .1 .0) (many k)
-    (ap length (p .plan-into .ensures .1) ∙ length-plan (a .reliabilities .now) (a .steps) ∙ sym (ap length (zeros k) ∙ length-replicate (many k) 0)) ∙ kept k
+    (ap length (p .plan-into .ensures .1) ∙ length-plan (a .reliabilities .now) (a .steps) ∙ sym (many-zeros k)) ∙ kept k
 
+-- The table accepts: the answer has the rule's steps, the plan stands in front, and behind it
+-- the memory is as it was.
 returns-2 : tie.Need-returns-2
 returns-2 c =
     let p = c .before .before in
     let k = cleared p in
     let t = told k in
-    let a = passed t .args in
-    let told = t .enum-told .given .1 in
-    let m = came (t .before .before) in
-    let full = fit t .full in (
-      ap₂ planned full (p .plan-into .ensures .0) ∙ goes-on m [] refused _ told,
-      ap₂ (λ (front behind : List ℕ). front ++ behind) (p .plan-into .ensures .1)
-          (kept-behind (a .out .now) (k .clear .last .0) (many k) (within k) (k .clear .ensures) ∙ ap (λ (j : ℕ). drop j (a .out .now)) full)
-          ∙ goes-on m [] (λ _ _. a .out .now) _ told,
+    let acceptance = t .enum-told .given .1 in
+    let m = came (columned t) in
+    let full = fit t .full in
+    let behind = kept-behind (out₀ k) (k .clear .last .0) (many k) (within k) (k .clear .ensures) in (
+      ap₂ planned full (p .plan-into .ensures .0) ∙ goes-on m [] refused _ acceptance,
+      ap₂ (λ (front behind : List ℕ). front ++ behind) (p .plan-into .ensures .1) (behind ∙ ap (λ (j : ℕ). drop j (out₀ k)) full)
+          ∙ goes-on m [] (λ _ _. out₀ k) _ acceptance,
     )
 
 pub plan-spec : {M : Type 1} → statement M

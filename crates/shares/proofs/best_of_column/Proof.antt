@@ -1,4 +1,4 @@
--- The place that leads the first b symbols of the column is kept.
+-- The place that leads is kept while the column's symbols are compared with it one by one.
 use mathlib.Core.Path.{_≡_, ap, subst}
 use Prim.Native.Nat.{ℕ, _+_, _-_, _*_, _≤_}
 use native.Mathlib.Omega.{arith}
@@ -10,6 +10,7 @@ use Rattle.plans.specs.Leads.{Leads}
 use Rattle.shares.proofs.best_of_column.Statement.{statement}
 use Rattle.shares.proofs.best_of_column.Tie as tie
 
+-- The place that is kept leads the first b symbols of the column.
 abbrev Inv-loop : tie.InvT-loop
 Inv-loop reliabilities multiplicities i symbols first leading₀ b₀ leading b = (b ≤ symbols) × Leads reliabilities multiplicities first (first + b) leading
 
@@ -57,16 +58,22 @@ loop-again c =
     let a = entry (l .before) .args in
     let h = column (l .before) in
     let first = l .before .symbols .result * a .i in
-    (omega arith, symbol-more (a .reliabilities .now) (a .multiplicities .now) first (l .loop .b) (l .loop .leading) (c .better .result) (l .loop .inv .1) (c .better .ensures))
+    let r = a .reliabilities .now in
+    let m = a .multiplicities .now in
+    (omega arith, symbol-more r m first (l .loop .b) (l .loop .leading) (c .better .result) (l .loop .inv .1) (c .better .ensures))
 
+-- The loop has ended at b = symbols, so the place that is kept leads the whole column.
 returns : tie.Need-returns Inv-loop μ-loop
 returns c =
     let l = c .before in
     let q = l .before in
     let a = entry q .args in
-    let e : l .loop .b ≡ q .symbols .result = omega arith in
-    subst (λ (x : ℕ). Leads (a .reliabilities .now) (a .multiplicities .now) (x * a .i) (x * a .i + x) (l .loop .leading)) (q .symbols .ensures)
-    (subst (λ (j : ℕ). Leads (a .reliabilities .now) (a .multiplicities .now) (q .symbols .result * a .i) (q .symbols .result * a .i + j) (l .loop .leading)) e (l .loop .inv .1))
+    let r = a .reliabilities .now in
+    let m = a .multiplicities .now in
+    let many = q .symbols .result in
+    let e : l .loop .b ≡ many = omega arith in
+    subst (λ (x : ℕ). Leads r m (x * a .i) (x * a .i + x) (l .loop .leading)) (q .symbols .ensures)
+    (subst (λ (j : ℕ). Leads r m (many * a .i) (many * a .i + j) (l .loop .leading)) e (l .loop .inv .1))
 
 pub best-of-column-spec : {M : Type 1} → statement M
 best-of-column-spec =

@@ -5,19 +5,26 @@ use borrow.Author.Needs.{needs}
 use Rattle.shares.proofs.better.Statement.{statement}
 use Rattle.shares.proofs.better.Tie as tie
 
+abbrev entry : tie.After-times → tie.Start
+entry kept = kept .before .before .before .before .before
+
+-- The later place's product is greater: it beats the earlier one.
 returns : tie.Need-returns
 returns c =
-    let t = c .before in
-    let a = t .before .before .before .before .before .before .before .before .args in
-    later-wins (a .reliabilities .now) (a .multiplicities .now) (a .earlier) (a .later) (t .before .before .before .times .result) (t .times2 .result)
-    (t .before .before .before .times .ensures) (t .times2 .ensures) (omega arith)
+    let new = c .before in
+    let kept = new .before .before .before in
+    let a = entry kept .args in
+    later-wins (a .reliabilities .now) (a .multiplicities .now) (a .earlier) (a .later) (kept .times .result) (new .times2 .result)
+    (kept .times .ensures) (new .times2 .ensures) (omega arith)
 
+-- It is not: the later place does not beat the earlier one, which is answered, also where they tie.
 returns-2 : tie.Need-returns-2
 returns-2 c =
-    let t = c .before in
-    let a = t .before .before .before .before .before .before .before .before .args in
-    earlier-wins (a .reliabilities .now) (a .multiplicities .now) (a .earlier) (a .later) (t .before .before .before .times .result) (t .times2 .result)
-    (t .before .before .before .times .ensures) (t .times2 .ensures) (omega arith)
+    let new = c .before in
+    let kept = new .before .before .before in
+    let a = entry kept .args in
+    earlier-wins (a .reliabilities .now) (a .multiplicities .now) (a .earlier) (a .later) (kept .times .result) (new .times2 .result)
+    (kept .times .ensures) (new .times2 .ensures) (omega arith)
 
 pub better-spec : {M : Type 1} → statement M
 better-spec =

@@ -10,6 +10,7 @@ use Rattle.shares.proofs.times.Tie as tie
 mul-result : tie.Need-mul-result
 mul-result c = product-fits _ _ (omega arith) (omega arith)
 
+-- Both numbers are only made wider, so their product is the promised one.
 returns : tie.Need-returns
 returns c = ap₂ (λ (a b : ℕ). a * (b + 1)) (c .before .long .ensures .0) (c .wide .ensures .0)
 

@@ -1,4 +1,4 @@
--- The leader of the first i columns is kept, of whichever code they are; at the end it leads them all.
+-- The best of the leaders so far is kept, whichever code they lead by; at the end it leads all.
 use mathlib.Core.Path.{_≡_, sym, _∙_, ap, subst}
 use Prim.Native.Nat.{ℕ, _-_, _*_, _≤_, _<_}
 use native.Mathlib.Omega.{arith}
@@ -12,6 +12,7 @@ use Rattle.steps.proofs.Stepping.{first-column}
 use Rattle.steps.proofs.best.Statement.{statement}
 use Rattle.steps.proofs.best.Tie as tie
 
+-- The place that is kept leads the first i columns, by every code by which the leaders lead theirs.
 abbrev Inv-loop : tie.InvT-loop
 Inv-loop n reliabilities multiplicities leaders leading₀ i₀ leading i =
     (i ≤ n) × ((C : Code) → Led C reliabilities multiplicities n leaders → Leads reliabilities multiplicities 0 (C .symbols * i) leading)
@@ -27,6 +28,9 @@ shared-slice-read-leading c =
     let full = s .pre .1 .full in
     omega arith
 
+abbrev entry : tie.At-loop Inv-loop μ-loop → tie.Start Inv-loop μ-loop
+entry l = l .before .before .before .before .before
+
 loop-holds : tie.Need-loop-holds Inv-loop μ-loop
 loop-holds c =
     let s = c .before .before .before .before in
@@ -36,8 +40,7 @@ loop-holds c =
 
 shared-slice-read-better : tie.Need-shared-slice-read-better Inv-loop μ-loop
 shared-slice-read-better c =
-    let l = c .before .before in
-    let s = l .before .before .before .before .before in
+    let s = entry (c .before .before) in
     let small = s .pre .0 .weights .small in
     let full = s .pre .1 .full in
     omega arith
@@ -45,7 +48,7 @@ shared-slice-read-better c =
 better-requires : tie.Need-better-requires Inv-loop μ-loop
 better-requires c κs =
     let l = c .before .before in
-    let s = l .before .before .before .before .before in
+    let s = entry l in
     let i = l .loop .i in
     let code = codeOn (s .args .alphabet) in
     let within : i < s .args .n = omega arith in
@@ -58,20 +61,20 @@ better-requires c κs =
 loop-again : tie.Need-loop-again Inv-loop μ-loop
 loop-again c =
     let l = c .before .before .before in
-    let s = l .before .before .before .before .before in
-    let a = s .args in
+    let a = entry l .args in
     let i = l .loop .i in
     let within : i < a .n = omega arith in (
       omega arith,
       λ C led.
-          column-more C (a .reliabilities .now) (a .multiplicities .now) i (l .loop .leading) (getD (a .leaders .now) i 0) (c .better .result) (l .loop .inv .1 C led) (led .leads i within)
-          (c .better .ensures),
+          column-more C (a .reliabilities .now) (a .multiplicities .now) i (l .loop .leading) (getD (a .leaders .now) i 0) (c .better .result)
+          (l .loop .inv .1 C led) (led .leads i within) (c .better .ensures),
     )
 
+-- The loop has ended at i = n, and n columns are all places: what leads them is the best place.
 returns : tie.Need-returns Inv-loop μ-loop
 returns c =
     let l = c .before in
-    let s = l .before .before .before .before .before in
+    let s = entry l in
     let r = s .args .reliabilities .now in
     let m = s .args .multiplicities .now in
     let code = codeOn (s .args .alphabet) in

@@ -1,5 +1,5 @@
--- After s steps the memory holds the plan of s steps, all of them done, and the columns have their leaders; a step that raises nothing has stopped
--- it for good.
+-- Zeros are the plan of no steps, and the memory follows the rule step by step; a step that raises
+-- nothing has stopped the plan for good.
 use mathlib.Core.Path.{_≡_, sym, _∙_, ap}
 use Prim.Native.Nat.{_-_, _≤_}
 use native.Mathlib.Omega.{arith}
@@ -11,6 +11,7 @@ use Rattle.steps.proofs.Stepping.{beside-plan, plan-more, plan-stopped,
 use Rattle.steps.proofs.plan_with.Statement.{statement}
 use Rattle.steps.proofs.plan_with.Tie as tie
 
+-- The memory holds the plan of s steps, all of them done, and the columns have their leaders.
 abbrev Inv-loop : tie.InvT-loop
 Inv-loop alphabet n reliabilities steps multiplicities₀ leaders₀ s₀ multiplicities leaders s =
     (s ≤ steps) × (multiplicities ≡ plan reliabilities s) × (stepsDone reliabilities s ≡ s) × Led (codeOn alphabet) reliabilities multiplicities n leaders
@@ -18,23 +19,29 @@ Inv-loop alphabet n reliabilities steps multiplicities₀ leaders₀ s₀ multip
 abbrev μ-loop : tie.MeasureT-loop
 μ-loop alphabet n reliabilities steps multiplicities₀ leaders₀ s₀ multiplicities leaders s = steps - s
 
+-- zeros are the plan of no steps
+from-zeros : (s : tie.Start Inv-loop μ-loop) → s .args .multiplicities .now ≡ plan (s .args .reliabilities .now) 0
+from-zeros s = s .pre .1 ∙ sym (plan-zero (s .args .reliabilities .now))
+
+abbrev lending : tie.After-lay-leaders-arg2 Inv-loop μ-loop → tie.Start Inv-loop μ-loop
+lending c = c .before .before .before .before .before
+
 lay-leaders-requires : tie.Need-lay-leaders-requires Inv-loop μ-loop
 lay-leaders-requires c κs =
-    let s = c .before .before .before .before .before in
+    let s = lending c in
     let a = s .args in
-    (beside-plan (codeOn (a .alphabet)) (a .n) 0 (a .reliabilities .now) (a .multiplicities .now) (s .pre .0) (s .pre .1 ∙ sym (plan-zero (a .reliabilities .now))), s .pre .2)
+    (beside-plan (codeOn (a .alphabet)) (a .n) 0 (a .reliabilities .now) (a .multiplicities .now) (s .pre .0) (from-zeros s), s .pre .2)
 
-abbrev begun : tie.After-slice-known3 Inv-loop μ-loop → tie.Start Inv-loop μ-loop
-begun c = c .before .before .before .before .before .before .before .before
+abbrev laid : tie.After-slice-known3 Inv-loop μ-loop → tie.After-lay-leaders Inv-loop μ-loop
+laid c = c .before .before
 
 loop-holds : tie.Need-loop-holds Inv-loop μ-loop
 loop-holds c =
-    let s = begun c in
-    let r = s .args .reliabilities .now in
-    (omega arith, s .pre .1 ∙ sym (plan-zero r), done-zero r, c .before .before .lay-leaders .ensures)
+    let s = lending (laid c .before) in
+    (omega arith, from-zeros s, done-zero (s .args .reliabilities .now), laid c .lay-leaders .ensures)
 
 abbrev entry : tie.At-loop Inv-loop μ-loop → tie.Start Inv-loop μ-loop
-entry l = begun (l .before)
+entry l = lending (laid (l .before) .before)
 
 step-requires : tie.Need-step-requires Inv-loop μ-loop
 step-requires c κs =
@@ -42,7 +49,8 @@ step-requires c κs =
     let s = entry l in
     let r = s .args .reliabilities .now in
     let is = l .loop .inv .1 in
-    (beside-plan (codeOn (s .args .alphabet)) (s .args .n) (l .loop .s) r (l .loop .multiplicities) (s .pre .0) is, λ j. rw is (plan-low r (l .loop .s) j), l .loop .inv .3)
+    let columns = beside-plan (codeOn (s .args .alphabet)) (s .args .n) (l .loop .s) r (l .loop .multiplicities) (s .pre .0) is in
+    (columns, λ j. rw is (plan-low r (l .loop .s) j), l .loop .inv .3)
 
 abbrev stepped : tie.After-slice-known5 Inv-loop μ-loop → tie.After-step Inv-loop μ-loop
 stepped c = c .before .before .before .before
@@ -50,13 +58,9 @@ stepped c = c .before .before .before .before
 abbrev turned : tie.After-step Inv-loop μ-loop → tie.At-loop Inv-loop μ-loop
 turned w = w .before .before .before .before
 
--- where the step stopped it
-ended : (c : tie.Then1 Inv-loop μ-loop)
-    → (let w = stepped (c .before) in
-    let l = turned w in
-    let a = entry l .args in
-    (l .loop .s ≡ stepsDone (a .reliabilities .now) (a .steps)) × (w .step .last .1 .1 .1 .0 ≡ plan (a .reliabilities .now) (a .steps)))
-ended c =
+-- The step has raised nothing: the plan stops at s, and no later step is done or changes it.
+returns : tie.Need-returns Inv-loop μ-loop
+returns c =
     let w = stepped (c .before) in
     let l = turned w in
     let a = entry l .args in
@@ -66,7 +70,7 @@ ended c =
 same-length : tie.Need-same-length Inv-loop μ-loop
 same-length c =
     let s = entry (turned (stepped (c .before))) in
-    as-long (s .args .reliabilities .now) (s .args .steps) (s .args .multiplicities .now) _ (s .pre .1) (ended c .1)
+    as-long (s .args .reliabilities .now) (s .args .steps) (s .args .multiplicities .now) _ (s .pre .1) (returns c .1)
 
 same-length-2 : tie.Need-same-length-2 Inv-loop μ-loop
 same-length-2 c =
@@ -91,6 +95,7 @@ same-length-3 c =
 same-length-4 : tie.Need-same-length-4 Inv-loop μ-loop
 same-length-4 c = let l = c .before in l .loop .inv .3 .full ∙ sym (entry l .pre .2)
 
+-- The loop has ended at s = steps: all of them are done, and the memory holds their plan.
 returns-2 : tie.Need-returns-2 Inv-loop μ-loop
 returns-2 c =
     let l = c .before in
@@ -109,7 +114,7 @@ plan-with-spec =
     step-requires
     same-length
     same-length-2
-    ended
+    returns
     (λ c. omega arith)
     (λ c. omega arith)
     loop-again

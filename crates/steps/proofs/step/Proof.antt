@@ -1,4 +1,5 @@
--- The best entry has no reliability, stands at 5, or is raised; then the leader of its column is looked for again, and the others still lead.
+-- The best entry has no reliability, stands at 5, or is raised; then the leader of its column is
+-- looked for again, and the others still lead.
 use mathlib.Core.Path.{_∙_}
 use Prim.Native.Nat.{_+_, _*_, _/_, _≤_, _<_}
 use native.Mathlib.Omega.{arith}
@@ -12,9 +13,13 @@ use borrow.Author.Needs.{needs}
 use Rattle.steps.proofs.step.Statement.{statement}
 use Rattle.steps.proofs.step.Tie as tie
 
-abbrev entry : tie.After-best → tie.Start
-entry b = b .before .before .before .before .before .before
+abbrev lending : tie.After-best-arg2 → tie.Start
+lending c = c .before .before .before .before .before
 
+abbrev entry : tie.After-best → tie.Start
+entry b = lending (b .before)
+
+-- The best entry has no reliability: the plan stops, and nothing has changed.
 returns : tie.Need-returns
 returns c =
     let b = c .before .before in
@@ -23,6 +28,7 @@ returns c =
     let left = no-reliability (a .reliabilities .now) (a .multiplicities .now) (b .best .result) (b .best .ensures .0) (c .if1 .taken) in
     (left .0, (left .1, s .pre .2))
 
+-- The best entry stands at 5: the plan stops, and nothing has changed.
 returns-2 : tie.Need-returns-2
 returns-2 c =
     let e = c .before .before in
@@ -39,15 +45,20 @@ add-multiplicities c =
     let low = s .pre .1 (b .best .result) in
     omega arith
 
+-- the entry has a reliability, and is below 5
+abbrev raising : tie.After-symbols → tie.Else2
+raising c = c .before .before
+
 abbrev found : tie.After-symbols → tie.After-best
-found c = c .before .before .before .before .before .before
+found c = raising c .before .before .before .before
 
 -- the column of the best entry
 column : (c : tie.After-symbols)
-    → (let code = codeOn (entry (found c) .args .alphabet) in
+    → (let s = entry (found c) in
+    let code = codeOn (s .args .alphabet) in
     let place = found c .best .result in
     let i = place / c .symbols .result in
-    (i < entry (found c) .args .n) × (code .symbols * i ≤ place) × (place < code .symbols * i + code .symbols))
+    (i < s .args .n) × (code .symbols * i ≤ place) × (place < code .symbols * i + code .symbols))
 column c =
     let s = entry (found c) in
     let full = s .pre .0 .weights .full in
@@ -68,7 +79,8 @@ best-of-column-requires c κs =
     let small = s .pre .0 .weights .small in
     let full = s .pre .0 .weights .full in
     let h = column q in
-    let whole = row-within (codeOn (s .args .alphabet) .symbols) _ (s .args .n) (length (s .args .reliabilities .now)) (h .0) (omega arith) in
+    let a = s .args in
+    let whole = row-within (codeOn (a .alphabet) .symbols) _ (a .n) (length (a .reliabilities .now)) (h .0) (omega arith) in
     (omega arith, whole, length-set (s .args .multiplicities .now) (found q .best .result) _ ∙ s .pre .0 .as-many)
 
 mul-leaders : tie.Need-mul-leaders
@@ -89,22 +101,25 @@ slice-write-leaders c =
     let h = column q .0 in
     omega arith
 
+-- The best entry is raised: the leader of its column is looked for again, the others still lead.
 returns-3 : tie.Need-returns-3
 returns-3 c =
     let q = c .before .before in
-    let other = q .before .before in
-    let e = other .before .before in
+    let low = raising q in
+    let some = low .before .before in
     let b = found q in
     let s = entry b in
     let a = s .args in
     let place = b .best .result in
     let small = s .pre .0 .weights .small in
     let h = column q in
-    let left = raised (a .reliabilities .now) (a .multiplicities .now) place (b .best .ensures .0) (e .if1 .left) (other .if2 .left) in (
+    let r = a .reliabilities .now in
+    let m = a .multiplicities .now in
+    let left = raised r m place (b .best .ensures .0) (some .if1 .left) (low .if2 .left) in (
       left .0,
       (
         left .1,
-        led-again (codeOn (a .alphabet)) (a .reliabilities .now) (a .multiplicities .now) (a .leaders .now) (a .n) (place / q .symbols .result) place _ (c .best-of-column .result) (s .pre .2)
+        led-again (codeOn (a .alphabet)) r m (a .leaders .now) (a .n) (place / q .symbols .result) place _ (c .best-of-column .result) (s .pre .2)
             (h .1) (h .2) (omega arith) (c .best-of-column .ensures),
       ),
     )

@@ -1,4 +1,5 @@
--- The chain tries the lines of the table; what passes is turned into a record, whose cost is that of the bytes.
+-- The chain tries the lines of the table; what passes is turned into a
+-- record, whose cost is that of the bytes.
 use mathlib.Core.List.{List, []}
 use mathlib.Core.Path.{_≡_}
 use Prim.Native.Nat.{ℕ, _*_, _≤_}
@@ -35,6 +36,7 @@ came : (c : tie.After-symbols)
     → (let a = entry c .args in Came (costTable (codeOn (a .alphabet)) (a .n) (a .k) (a .matrix .now)) [] (toldChecked (c .symbols .result)))
 came c = start ▸ c .before .before .sizes .ensures ▸ c .before .entries .ensures ▸ c .symbols .ensures
 
+-- A line of the table refuses: the answer is its refusal.
 returns : tie.Need-returns
 returns c = answers (came (c .before .before .before)) [] _ (c .before .checked .given .1)
 
@@ -71,6 +73,7 @@ bound-requires c κs =
     let small = cost-small (codeOn (a .alphabet)) (a .matrix .now) (room t) (f .low) in
     (omega arith, omega arith)
 
+-- The table accepts: the record's cost is that of the bytes, and the bound is that of this cost.
 returns-2 : tie.Need-returns-2
 returns-2 c =
     let l = c .before .before in

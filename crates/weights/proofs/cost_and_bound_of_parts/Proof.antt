@@ -1,4 +1,5 @@
--- The chain tries the lines of the table, the stored numbers among them; the stored cost of what passes is that of its bytes.
+-- The chain tries the lines of the table, the stored numbers among them; the stored
+-- cost of what passes is that of its bytes.
 use mathlib.Core.List.{[]}
 use Prim.Native.Nat.{ℕ, _≤_}
 use native.Mathlib.Omega.{arith}
@@ -30,27 +31,44 @@ fits : (C : Code) (h : Held) (k : ℕ) → Accepts (heldCostTable C h k) → Fit
 fits C h k (next s (next t (next a end))) =
     record { sized = sizes-mean C (h .n) k s; right = stored-means C h t; low = above-means greatestLevel (h .entries) a }
 
+-- what the call is about, at its beginning
+module _ (s : tie.Start) where
+  abbrev code : Code
+  code = codeOn (s .args .alphabet)
+
+  -- the record that the parts are of
+  abbrev given : Held
+  given = let a = s .args in held (a .n) (a .cost) (a .totals .now) (a .entries .now)
+
+-- the sizes are checked first
+abbrev sizing : tie.After-symbols → tie.After-sizes
+sizing c = c .before .before .before
+
 abbrev entry : tie.After-symbols → tie.Start
-entry c = c .before .before .before .before .before .before
+entry c = sizing c .before .before .before
 
-abbrev code : tie.After-symbols → Code
-code c = codeOn (entry c .args .alphabet)
-
--- the record that the parts are of
-abbrev given : tie.After-symbols → Held
-given c = let a = entry c .args in held (a .n) (a .cost) (a .totals .now) (a .entries .now)
-
-came : (c : tie.After-symbols) → Came (heldCostTable (code c) (given c) (entry c .args .k)) [] (toldChecked (c .symbols .result))
+came : (c : tie.After-symbols)
+    → (let s = entry c in Came (heldCostTable (code s) (given s) (s .args .k)) [] (toldChecked (c .symbols .result)))
 came c =
+    let s = entry c in
     let stored = c .before in
-    let first = stored .before .before in
-    start ▸ first .sizes .ensures ▸ stored-tried (code c) (given c) (toldChecked (first .sizes .result)) (stored .or .ensures) (stored .before .rightly .ensures) ▸ c .symbols .ensures
+    let sizes = sizing c .sizes in
+    start ▸ sizes .ensures ▸ stored-tried (code s) (given s) (toldChecked (sizes .result)) (stored .or .ensures) (stored .before .rightly .ensures)
+    ▸ c .symbols .ensures
 
+-- A line of the table refuses: the answer is its refusal.
 returns : tie.Need-returns
 returns c = answers (came (c .before .before .before)) [] _ (c .before .checked .given .1)
 
-fit : (c : tie.After-enum-told) → Fit (code (c .before .before)) (given (c .before .before)) (entry (c .before .before) .args .k)
-fit c = fits (code (c .before .before)) (given (c .before .before)) (entry (c .before .before) .args .k) (accepted (came (c .before .before)) (c .enum-told .given .1))
+-- where the chain has passed: its last check, and the entry
+abbrev checked : tie.After-enum-told → tie.After-symbols
+checked t = t .before .before
+
+abbrev passed : tie.After-enum-told → tie.Start
+passed t = entry (checked t)
+
+fit : (t : tie.After-enum-told) → (let s = passed t in Fit (code s) (given s) (s .args .k))
+fit t = let s = passed t in fits (code s) (given s) (s .args .k) (accepted (came (checked t)) (t .enum-told .given .1))
 
 sub-bound : tie.Need-sub-bound
 sub-bound c = let s = fit c .sized in omega arith
@@ -61,19 +79,21 @@ bound-requires c κs =
     let s = f .sized in
     let full = f .right .full in
     let e = f .right .cost-is in
-    let w = entry (c .before .before) .args .alphabet in
-    let z = sized w in
-    let most = places-within w in
-    let small = cost-small (code (c .before .before)) (given (c .before .before) .entries) (omega arith) (f .low) in
+    let at-start = passed c in
+    let z = sized (at-start .args .alphabet) in
+    let most = places-within (at-start .args .alphabet) in
+    let small = cost-small (code at-start) (given at-start .entries) (omega arith) (f .low) in
     (omega arith, omega arith)
 
+-- The table accepts: the stored cost is that of the record's
+-- bytes, and the bound is that of this cost.
 returns-2 : tie.Need-returns-2
 returns-2 c =
     let t = c .before in
-    let w = t .before .before in
+    let s = passed t in
     let f = fit t in
-    costed-is (came w) (t .enum-told .given .1) (entry w .args .k) _ (c .bound .result) (bytesOf (code w) (given w)) (cost-bytes (code w) (given w) (f .right) (f .sized .2))
-    (c .bound .ensures)
+    let paid = cost-bytes (code s) (given s) (f .right) (f .sized .2) in
+    costed-is (came (checked t)) (t .enum-told .given .1) (s .args .k) _ (c .bound .result) (bytesOf (code s) (given s)) paid (c .bound .ensures)
 
 pub cost-and-bound-of-parts-spec : {M : Type 1} → statement M
 cost-and-bound-of-parts-spec =

@@ -1,4 +1,5 @@
--- What stands in front of the entries is compared with the rule's result, which is written in front of zeros.
+-- What stands in front of the entries is compared with the rule's result, which is written in front
+-- of zeros.
 use mathlib.Core.List.{List, _++_}
 use mathlib.Core.Path.{_≡_, sym, _∙_, ap}
 use Prim.Native.Nat.{ℕ, _≤_}
@@ -61,6 +62,7 @@ same-up-to-requires c κs =
     let within = room (p .before .before) in
     (omega arith, omega arith)
 
+-- What stands in front of the entries is not the rule's result: refusal 9.
 returns : tie.Need-returns
 returns c =
     let w = c .before in
@@ -70,6 +72,8 @@ returns c =
     plan-refused (codeOn (a .alphabet)) (a .n) (a .steps) (a .reliabilities .now) (s .pre .0 .full) (a .entries .now) (front p ++ behind p) (behind p) (stands p)
     (w .same-up-to .result) (w .same-up-to .ensures) (c .if1 .taken)
 
+-- It is the rule's result, so the plan's line accepts, and the steps told are those that the rule
+-- took.
 returns-2 : tie.Need-returns-2
 returns-2 c =
     let w = c .before in

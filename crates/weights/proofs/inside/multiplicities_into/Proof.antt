@@ -1,4 +1,4 @@
--- The loop has written the first i multiplicities.
+-- The loop writes one multiplicity a round: by one law the front grows by it, and the rest is kept.
 use lib.Seq.{take-length}
 use Rattle.weights.proofs.Weighing.{multiplicity-more}
 use mathlib.Core.Path.{_≡_, refl, _∙_}
@@ -11,6 +11,7 @@ use borrow.Author.Needs.{needs}
 use Rattle.weights.proofs.inside.multiplicities_into.Statement.{statement}
 use Rattle.weights.proofs.inside.multiplicities_into.Tie as tie
 
+-- The first i multiplicities are written, and behind them the memory is as it was.
 abbrev Inv-loop : tie.InvT-loop
 Inv-loop level reliabilities out₀ i₀ out i = (i ≤ length reliabilities) × (length out ≡ length out₀) × (out ≡ matrix level (take i reliabilities) ++ drop i out₀)
 
@@ -20,22 +21,25 @@ abbrev μ-loop : tie.MeasureT-loop
 loop-holds : tie.Need-loop-holds Inv-loop μ-loop
 loop-holds c = (omega arith, refl, refl)
 
+abbrev entry : tie.At-loop Inv-loop μ-loop → tie.Start Inv-loop μ-loop
+entry l = l .before .before .before
+
 loop-again : tie.Need-loop-again Inv-loop μ-loop
 loop-again c =
     let l = c .before .before .before in
-    let s = l .before .before .before in
-    let more : l .loop .i < length (s .args .reliabilities .now) = omega arith in (
+    let a = entry l .args in
+    let more : l .loop .i < length (a .reliabilities .now) = omega arith in (
       omega arith,
       length-set (l .loop .out) (l .loop .i) (c .multiplicity-of .result) ∙ l .loop .inv .1,
-      multiplicity-more (s .args .level) (s .args .reliabilities .now) (s .args .out .now) (l .loop .out) (l .loop .i) (c .multiplicity-of .result) more
+      multiplicity-more (a .level) (a .reliabilities .now) (a .out .now) (l .loop .out) (l .loop .i) (c .multiplicity-of .result) more
           (omega arith) (l .loop .inv .2) (c .multiplicity-of .ensures),
     )
 
+-- The loop has ended at i = the number of reliabilities, so all multiplicities are written.
 returns : tie.Need-returns Inv-loop μ-loop
 returns c =
     let l = c .before in
-    let s = l .before .before .before in
-    let r = s .args .reliabilities .now in
+    let r = entry l .args .reliabilities .now in
     let e : l .loop .i ≡ length r = omega arith in
     rw (e, take-length r) at (l .loop .inv .2)
 

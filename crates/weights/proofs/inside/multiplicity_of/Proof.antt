@@ -13,6 +13,7 @@ mul-result c = let fits = level-fits (c .before .args .level) (c .long .result) 
 cast-result : tie.Need-cast-result
 cast-result c = let fits = level-fits (c .before .args .level) (c .long .result) (c .before .pre) (c .long .ensures .1) in omega arith
 
+-- The reliability is only made wider, so the quotient is the page's.
 returns : tie.Need-returns
 returns c = ap (multiplicity (c .before .args .level)) (c .long .ensures .0)
 
