@@ -22,39 +22,39 @@ use borrow.Author.Needs.{needs}
 use Rattle.list_within.proofs.list_of_columns.Statement.{statement}
 use Rattle.list_within.proofs.list_of_columns.Tie as tie
 
-abbrev start : tie.After-bound → tie.Start
-start at-bound = at-bound .before .before .before
+abbrev entry : tie.After-bound → tie.Start
+entry at-bound = at-bound .before .before .before
 
 abbrev codeOf : tie.After-bound → Code
-codeOf at-bound = codeOn (start at-bound .args .alphabet)
+codeOf at-bound = codeOn (entry at-bound .args .alphabet)
 
 -- the weight of y
 abbrev weight : tie.After-bound → ℕ
-weight at-bound = start at-bound .args .k - 1
+weight at-bound = entry at-bound .args .k - 1
 
 positive : (at-bound : tie.After-bound) → 0 < weight at-bound
-positive at-bound = let z = start at-bound .pre .0 in omega arith
+positive at-bound = let z = entry at-bound .pre .0 in omega arith
 
 bound-small : (at-bound : tie.After-bound) → at-bound .bound .result ≤ greatestLimit
 bound-small at-bound =
-    let s = start at-bound in
+    let s = entry at-bound in
     degree-small (weight at-bound) (s .args .cost) (at-bound .bound .result) (positive at-bound) (s .pre .0 .4) (at-bound .bound .ensures)
 
 count-requires : tie.Need-count-requires
-count-requires c κs = let low = bound-small c in let z = start c .pre .0 in (omega arith, omega arith)
+count-requires c κs = let low = bound-small c in let z = entry c .pre .0 in (omega arith, omega arith)
 
 -- the room holds the coefficients
 few : (c : tie.After-count) → c .count .result ≤ coefficientRoom
 few c =
     let at-bound = c .before in
-    let s = start at-bound in
+    let s = entry at-bound in
     count-small (weight at-bound) (at-bound .bound .result) (c .count .result) (s .args .cost) (positive at-bound) (s .pre .0 .4) (at-bound .bound .ensures) (c .count .ensures)
 
 polynomial-requires : tie.Need-polynomial-requires
 polynomial-requires c κs =
     let at-count = c .before in
     let at-bound = at-count .before in
-    let z = start at-bound .pre .0 in
+    let z = entry at-bound .pre .0 in
     record {
       weighted = positive at-bound;
       cheap = z .4;
@@ -85,17 +85,17 @@ module _ (c : tie.After-polynomial2) where
   -- the memory is as long as before
   long : length written ≡ coefficientRoom
   long =
-      let a = start at-bound .args in
+      let a = entry at-bound .args in
       let small = few at-count in
       let n = at-count .count .ensures in
       length-after (codeOf at-bound) (a .matrix .now) (weight at-bound) degree _ (replicate coefficientRoom 0) written (c .polynomial2 .ensures) (omega arith)
 
   -- and its front interpolates the bytes that the matrix was loaded from
   front : (m : List ℕ)
-      → (let a = start at-bound .args in let C = codeOf at-bound in
+      → (let a = entry at-bound .args in let C = codeOf at-bound in
       length m ≡ C .symbols * a .n → a .matrix .now ≡ matrixOf C m (a .n) → Interpolates C (a .n) (weight at-bound) degree m coefficients)
   front m size loaded =
-      let s = start at-bound in
+      let s = entry at-bound in
       let a = s .args in
       let C = codeOf at-bound in
       let v = weight at-bound in
@@ -104,9 +104,9 @@ module _ (c : tie.After-polynomial2) where
       (sym (prefix C (a .matrix .now) v degree _ (replicate coefficientRoom 0) written found (at-count .count .result) (at-count .count .ensures)))
       (found .interpolates m (a .n) (s .pre .0 .2) size loaded)
 
-  rooted : (let a = start at-bound .args in Rooted (codeOf at-bound) (a .n) (a .k) degree degree coefficients)
+  rooted : (let a = entry at-bound .args in Rooted (codeOf at-bound) (a .n) (a .k) degree degree coefficients)
   rooted =
-      let s = start at-bound in
+      let s = entry at-bound in
       let z = s .pre .0 in
       let v = weight at-bound in
       let w = s .pre .1 .1 in
@@ -141,7 +141,7 @@ slice-aggregate-roots-above c =
 roots-above-requires : tie.Need-roots-above-requires
 roots-above-requires c κs =
     let found = c .before .before .before .before in
-    let s = start (at-bound found) in
+    let s = entry (at-bound found) in
     (rooted found, (s .pre .1 .0, s .pre .1 .1))
 
 -- The roots above the bound are listed, and these are all messages above the bound of the bytes.
@@ -150,7 +150,7 @@ returns c m size loaded =
     let at-roots = c .before .before .before .before in
     let found = at-roots .before .before .before .before .before in
     let b = at-bound found in
-    let s = start b in
+    let s = entry b in
     let a = s .args in
     let z = s .pre .0 in
     let C = codeOf b in

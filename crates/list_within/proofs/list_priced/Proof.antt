@@ -33,13 +33,13 @@ returns c =
     let paid = s .pre .1 .paid in
     refused-by-cost (codeOf s) (a .n) (a .k) (a .limit) (bytes s) (a .rows .now) (a .scores .now) [] (omega arith)
 
-abbrev start : tie.After-in-columns → tie.Start
-start at-columns = at-columns .before .before .before .before .before
+abbrev entry : tie.After-in-columns → tie.Start
+entry at-columns = at-columns .before .before .before .before .before
 
 -- the columns are those of the bytes
-loaded : (c : tie.After-in-columns) → (let s = start c in c .in-columns .result ≡ matrixOf (codeOf s) (bytes s) (s .args .n))
+loaded : (c : tie.After-in-columns) → (let s = entry c in c .in-columns .result ≡ matrixOf (codeOf s) (bytes s) (s .args .n))
 loaded c =
-    let s = start c in
+    let s = entry c in
     let a = s .args in
     opened-front (codeOf s) (a .n) (a .cost) (a .entries .now) (s .pre .0 .sized .2) (s .pre .1) (c .in-columns .result) (c .in-columns .ensures)
 
@@ -47,7 +47,7 @@ list-of-columns-requires : tie.Need-list-of-columns-requires
 list-of-columns-requires c κs =
     let at-columns = c .before .before .before in
     let columns = at-columns .in-columns in
-    let s = start at-columns in
+    let s = entry at-columns in
     let a = s .args in
     let f = s .pre .0 in
     let z = f .sized in
@@ -60,7 +60,7 @@ returns-2 : tie.Need-returns-2
 returns-2 c =
     let at-list = c .before .before .before .before in
     let at-columns = at-list .before .before .before .before in
-    let s = start at-columns in
+    let s = entry at-columns in
     let a = s .args in
     let paid = s .pre .1 .paid in
     listed (codeOf s) (a .n) (a .k) (a .limit) (bytes s) (a .rows .now) (a .scores .now) (omega arith) (at-list .list-of-columns .result) _ _

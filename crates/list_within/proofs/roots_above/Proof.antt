@@ -23,8 +23,8 @@ use Rattle.list_within.proofs.roots_above.Tie as tie
 memory : List ℕ
 memory = replicate (greatestRows * mostPositions) 0
 
-abbrev start : tie.After-found → tie.Start
-start c = c .before .before .before .before
+abbrev entry : tie.After-found → tie.Start
+entry c = c .before .before .before .before
 
 abbrev codeOf : tie.Start → Code
 codeOf s = codeOn (s .args .alphabet)
@@ -34,7 +34,7 @@ fieldOf s = field-on (s .args .alphabet)
 
 roots-into-requires : tie.Need-roots-into-requires
 roots-into-requires c κs =
-    let s = start c in
+    let s = entry c in
     let a = s .args in
     let f = s .pre .0 in
     let z = f .sized in
@@ -45,10 +45,10 @@ roots-into-requires c κs =
 abbrev found : tie.After-roots-into → List ℕ
 found at-roots = at-roots .roots-into .last .1 .1 .1 .1 .0
 
-found-are-symbols : (r : tie.After-roots-into) → Symbols (codeOf (start (r .before))) (found r)
+found-are-symbols : (r : tie.After-roots-into) → Symbols (codeOf (entry (r .before))) (found r)
 unfolding memory
 found-are-symbols r =
-    let s = start (r .before) in
+    let s = entry (r .before) in
     let a = s .args in
     let w = sized (a .alphabet) in
     let zeros = replicate-symbols (codeOf s) (greatestRows * mostPositions) 0 (omega arith) in
@@ -58,7 +58,7 @@ ranked-requires : tie.Need-ranked-requires
 unfolding memory
 ranked-requires c κs =
     let r = c .before .before .before .before .before in
-    let s = start (r .before) in
+    let s = entry (r .before) in
     let a = s .args in
     let q = a .coefficients .now in
     let rooted = s .pre .0 in
@@ -78,7 +78,7 @@ returns c m size loaded =
     let at-ranked = c .before .before .before .before in
     let at-narrow = at-ranked .before .before .before .before in
     let r = at-narrow .before .before in
-    let s = start (r .before) in
+    let s = entry (r .before) in
     let a = s .args in
     let listed = at-ranked .ranked .ensures in
     let same : at-narrow .narrow .result ≡ a .threshold = at-narrow .narrow .ensures in
