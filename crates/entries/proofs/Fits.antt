@@ -18,13 +18,16 @@ use Rattle.definitions.proofs.Bound.{bound-le, count-above}
 use Rattle.definitions.proofs.Powers.{coefficients-fit}
 use Rattle.definitions.proofs.Table.{Whatever, last, or, whatever, sizes-mean, size-means, limit-means, degree-means, entries-mean, above-means, cost-means}
 use Rattle.definitions.proofs.Tools.{smallest-le}
-use Rattle.definitions.specs.Answers.{Answer, refused, valued, counted, costed, sumAnswer, productAnswer, inverseAnswer, encodeAnswer, multiplicitiesAnswer, costAnswer, interpolated, Interpolated, InterpolationAnswers, rootsAnswer, listAnswer, readAnswer}
+use Rattle.definitions.specs.Answers.{Answer, refused, valued, counted, costed, sumAnswer, productAnswer, inverseAnswer, encodeAnswer}
+use Rattle.definitions.specs.Answers.{multiplicitiesAnswer, costAnswer, interpolated, Interpolated, InterpolationAnswers, rootsAnswer, listAnswer}
+use Rattle.definitions.specs.Answers.{readAnswer}
 use Rattle.definitions.specs.Bound.{count, bound}
 use Rattle.definitions.specs.Field.{Code, inverseOf}
 use Rattle.definitions.specs.Held.{places}
 use Rattle.definitions.specs.Limits.{greatestLevel, greatestLimit, greatestRows}
 use Rattle.definitions.specs.Listing.{listOf}
-use Rattle.definitions.specs.Refusals.{Line, tried, noneAbove, firstAbove, badColumn, columns, fieldTable, inverseTable, encodeTable, multiplicitiesTable, costTable, interpolationTable, rootsTable, listTable, readTable}
+use Rattle.definitions.specs.Refusals.{Line, tried, noneAbove, firstAbove, badColumn, columns, fieldTable, inverseTable, encodeTable}
+use Rattle.definitions.specs.Refusals.{multiplicitiesTable, costTable, interpolationTable, rootsTable, listTable, readTable}
 use Rattle.definitions.specs.Roots.{rootsOf}
 use Rattle.definitions.specs.Tools.{smallest}
 use Rattle.definitions.specs.Weights.{matrix, cost}

@@ -1,4 +1,5 @@
 pub mod Fits
+pub mod Crossed
 pub mod RecordFits
 pub mod PlanFits
 pub mod Unique

@@ -14,7 +14,8 @@ use Rattle.definitions.specs.Field.{Code}
 use Rattle.definitions.specs.Held.{Held, bytesOf}
 use Rattle.definitions.specs.Limits.{greatestLevel}
 use Rattle.definitions.specs.Listing.{listOf}
-use Rattle.definitions.specs.Planning.{stepsDone, planned, planTable, planAnswer, checkTable, checkAnswer, planListTable, planListAnswer, heldCheckTable, heldCheckAnswer, heldPlanListTable, heldPlanListAnswer}
+use Rattle.definitions.specs.Planning.{stepsDone, planned, planTable, planAnswer, checkTable, checkAnswer, planListTable, planListAnswer}
+use Rattle.definitions.specs.Planning.{heldCheckTable, heldCheckAnswer, heldPlanListTable, heldPlanListAnswer}
 use Rattle.entries.proofs.Fits.{few-places, counted-narrow, narrow, at-none, at-first, at-bad-column, Few, few-narrow}
 use Rattle.matrix.proofs.Columns.{places-within}
 use Rattle.plans.proofs.Planning.{done-within}

@@ -17,7 +17,9 @@ use Rattle.definitions.proofs.Loops.{row-within}
 use Rattle.definitions.proofs.Table.{last, or, whatever, sizes-mean, size-means, limit-means, entries-mean, above-means, cost-means}
 use Rattle.definitions.specs.Answers.{Answer, refused, costed, Interpolated}
 use Rattle.definitions.specs.Bound.{bound}
-use Rattle.definitions.specs.Editing.{lowestAbove, inOrOut, lentTable, lentFreshAnswer, lentBytesTable, lentBytesAnswer, setTable, setAnswer, clearTable, clearAnswer, addTable, addAnswer, heldCostTable, heldCostAnswer, heldInterpolationTable, HeldInterpolationAnswers, heldListTable, heldListAnswer}
+use Rattle.definitions.specs.Editing.{lowestAbove, inOrOut, lentTable, lentFreshAnswer, lentBytesTable, lentBytesAnswer, setTable, setAnswer}
+use Rattle.definitions.specs.Editing.{clearTable, clearAnswer, addTable, addAnswer, heldCostTable, heldCostAnswer, heldInterpolationTable}
+use Rattle.definitions.specs.Editing.{HeldInterpolationAnswers, heldListTable, heldListAnswer}
 use Rattle.definitions.specs.Field.{Code}
 use Rattle.definitions.specs.Held.{Held, places, noEntries, filled, bytesOf, withEntry, withoutColumn, withAdded}
 use Rattle.definitions.specs.Limits.{greatestLevel}

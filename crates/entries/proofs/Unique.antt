@@ -10,7 +10,9 @@ use Rattle.refusals.specs.declared.Counted.{Counted}
 use Rattle.algebra.specs.FieldOf.{FieldOf}
 use Rattle.crossing.specs.Crossing.{answerOf}
 use Rattle.crossing.specs.declared.Answer as crossing
-use Rattle.definitions.specs.Answers.{Answer, sumAnswer, productAnswer, inverseAnswer, encodeAnswer, encodeOut, multiplicitiesAnswer, multiplicitiesOut, costAnswer, InterpolationAnswers, rootsAnswer, rootsOut, listAnswer, listRows, listScores, readAnswer, readRows, readScores}
+use Rattle.definitions.specs.Answers.{Answer, sumAnswer, productAnswer, inverseAnswer, encodeAnswer, encodeOut, multiplicitiesAnswer}
+use Rattle.definitions.specs.Answers.{multiplicitiesOut, costAnswer, InterpolationAnswers, rootsAnswer, rootsOut, listAnswer, listRows, listScores}
+use Rattle.definitions.specs.Answers.{readAnswer, readRows, readScores}
 use Rattle.definitions.specs.Editing.{heldCostAnswer, HeldInterpolationAnswers, heldListAnswer, heldListRows, heldListScores}
 use Rattle.definitions.specs.Field.{Code}
 use Rattle.definitions.specs.Held.{Held}

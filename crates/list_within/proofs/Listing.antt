@@ -65,7 +65,7 @@ module _ (C : Code) (F : FieldOf C) where
         omega arith
 
     module _ (m : List ℕ) (size : length m ≡ C .symbols * n) where
-      -- "There are at most 16 rows"
+      -- there are at most as many rows as are lent
       pub few-rows : length (rootsAbove C n k m D q t) ≤ greatestRows
       few-rows =
           let high = select (λ (f : List ℕ). ltb t (score C n m f)) (rootsOf C D k q) in

@@ -1,4 +1,5 @@
--- The record is taken apart and edited in its parts, and put together of them.
+-- The record is taken apart, its column cleared in the parts, and put together of them with the n
+-- and the cost that the outcome tells.
 use mathlib.Core.Path.{refl, _∙_, ap}
 use borrow.Author.Needs.{needs}
 use Rattle.definitions.specs.Editing.{clearTable}
@@ -10,16 +11,17 @@ use Rattle.edits.specs.Priced.{toldPriced}
 use Rattle.editing.proofs.clear_column.Statement.{statement}
 use Rattle.editing.proofs.clear_column.Tie as tie
 
+-- The answer is that of the parts; the record has the column cleared, or is as it was.
 returns : tie.Need-returns
 returns c =
-    let p = c .before .before .before in
-    let s = p .before .before .before .before .before in
+    let at-clear = c .before .before .before in
+    let s = at-clear .before .before .before .before .before in
     let m = heldBy (s .args .m) in
-    let d = p .clear-column .ensures in (
-      ap toldPriced (c .recorded .ensures .0) ∙ d .0,
-      c .recorded .ensures .1
-          ∙ record-is m (heldOf sixteen (m .n) (withoutColumn sixteen (m .entries) (s .args .position))) (p .clear-column .result) _ _ (clearTable sixteen m (s .args .position)) refl (d .0) (d .1 .0) (d .1 .1),
-    )
+    let i = s .args .position in
+    let without = heldOf sixteen (m .n) (withoutColumn sixteen (m .entries) i) in
+    let put = c .recorded .ensures in
+    let d = at-clear .clear-column .ensures in
+    (ap toldPriced (put .0) ∙ d .0, put .1 ∙ record-is m without (at-clear .clear-column .result) _ _ (clearTable sixteen m i) refl (d .0) (d .1 .0) (d .1 .1))
 
 pub clear-column-spec : {M : Type 1} → statement M
 clear-column-spec = tie.close (tie.spec (λ c. search needs) (λ c. search needs) (λ c κs. search needs) (λ c κs. search needs) returns)

@@ -1,4 +1,5 @@
--- The parts are made of zeros, and a refusal leaves them so.
+-- The parts are zeros before the bytes are laid: a refusal leaves them so, and answers the record
+-- of n 2 made of them.
 use mathlib.Core.Path.{refl, _∙_, ap}
 use borrow.Author.Needs.{needs}
 use Rattle.definitions.specs.Editing.{bytesTable}
@@ -9,15 +10,17 @@ use Rattle.edits.specs.Priced.{toldPriced}
 use Rattle.editing.proofs.of_bytes.Statement.{statement}
 use Rattle.editing.proofs.of_bytes.Tie as tie
 
+-- The answer is that of the parts; the record is that of the bytes, or has n 2 and no entries.
 returns : tie.Need-returns
 returns c =
-    let p = c .before .before .before in
-    let s = p .before .before .before .before in
-    let d = p .of-bytes .ensures in (
-      ap toldPriced (c .recorded .ensures .0) ∙ d .0,
-      c .recorded .ensures .1
-          ∙ made-is sixteen (s .args .n) (heldOf sixteen (s .args .n) (filled sixteen (s .args .bytes .now))) refl (p .of-bytes .result) _ _ (bytesTable sixteen (s .args .n) (s .args .bytes .now)) refl _ refl (d .0) (d .1 .0) (d .1 .1),
-    )
+    let at-bytes = c .before .before .before in
+    let a = at-bytes .before .before .before .before .args in
+    let n = a .n in
+    let m = a .bytes .now in
+    let laid = heldOf sixteen n (filled sixteen m) in
+    let put = c .recorded .ensures in
+    let d = at-bytes .of-bytes .ensures in
+    (ap toldPriced (put .0) ∙ d .0, put .1 ∙ made-is sixteen n laid refl (at-bytes .of-bytes .result) _ _ (bytesTable sixteen n m) refl _ refl (d .0) (d .1 .0) (d .1 .1))
 
 pub of-bytes-spec : {M : Type 1} → statement M
 of-bytes-spec = tie.close (tie.spec (λ c. search needs) (λ c. search needs) (λ c κs. search needs) (λ c κs. search needs) returns)

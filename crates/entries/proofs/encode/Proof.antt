@@ -1,17 +1,25 @@
--- The entry's answer crosses as it is: each of its numbers fits.
-use mathlib.Core.Path.{_∙_}
+-- A codeword has at most as many symbols as there are positions, and a symbol that is refused stands
+-- in a message no longer than it: the count and the place fit sixteen bits.
 use Rattle.entries.proofs.Fits.{encode-narrow}
 use borrow.Author.Needs.{needs}
 use Rattle.entries.proofs.encode.Statement.{statement}
 use Rattle.entries.proofs.encode.Tie as tie
 
+abbrev at-call : tie.After-slice-known2 → tie.After-encode
+at-call c = c .before .before
+
+abbrev at-start : tie.After-encode → tie.Start
+at-start c = c .before .before .before .before
+
 counted-requires : tie.Need-counted-requires
 counted-requires c κs =
-    let s = c .before .before .before .before .before .before in
-    rw (c .before .before .encode .ensures .0) (encode-narrow (s .args .alphabet) (s .args .n) (s .args .k) (s .args .message .now) (s .args .out .now))
+    let called = at-call c in
+    let a = at-start called .args in
+    rw (called .encode .ensures .0) (encode-narrow (a .alphabet) (a .n) (a .k) (a .message .now) (a .out .now))
 
+-- The only end: what crosses to C is what `code::encode` answered, and the memory is as that left it.
 returns : tie.Need-returns
-returns c = (c .counted .ensures ∙ c .before .before .before .encode .ensures .0, c .before .before .before .encode .ensures .1)
+returns c = rw (c .counted .ensures) (at-call (c .before) .encode .ensures)
 
 pub encode-spec : {M : Type 1} → statement M
 encode-spec = tie.close (tie.spec (λ c κs. search needs) counted-requires (λ c. search needs) returns)

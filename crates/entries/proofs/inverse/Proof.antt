@@ -1,4 +1,5 @@
--- The entry's answer crosses as it is: each of its numbers fits.
+-- An inverse is sought among the symbols, and no refusal has a place but 0: the value fits sixteen
+-- bits.
 use mathlib.Core.Path.{_∙_}
 use Rattle.entries.proofs.Fits.{inverse-narrow}
 use borrow.Author.Needs.{needs}
@@ -6,8 +7,12 @@ use Rattle.entries.proofs.inverse.Statement.{statement}
 use Rattle.entries.proofs.inverse.Tie as tie
 
 element-requires : tie.Need-element-requires
-element-requires c κs = let s = c .before in rw (c .inverse .ensures) (inverse-narrow (s .args .alphabet) (s .args .a))
+element-requires c κs =
+    let at-start = c .before in
+    let a = at-start .args in
+    rw (c .inverse .ensures) (inverse-narrow (a .alphabet) (a .a))
 
+-- The only end: what crosses to C is what `field::inverse` answered.
 returns : tie.Need-returns
 returns c = c .element .ensures ∙ c .before .inverse .ensures
 

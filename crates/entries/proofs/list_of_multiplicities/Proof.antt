@@ -1,25 +1,28 @@
--- The entry's answer crosses as it is: each of its numbers fits.
-use mathlib.Core.Path.{_∙_, sym, subst}
-use Prim.Native.Nat.{_≤_}
-use Rattle.definitions.specs.Answers.{Answer}
-use Rattle.definitions.specs.Limits.{greatestRows}
+-- The list of a matrix is promised to have at most 20 rows, and an entry that is refused is one of the
+-- few of the matrix: the count and the place fit sixteen bits.
+use Rattle.entries.proofs.Crossed.{few-fit, list-crosses}
 use Rattle.entries.proofs.Fits.{list-narrow}
 use borrow.Author.Needs.{needs}
 use Rattle.entries.proofs.list_of_multiplicities.Statement.{statement}
 use Rattle.entries.proofs.list_of_multiplicities.Tie as tie
 
+abbrev at-call : tie.After-slice-known4 → tie.After-list-of-multiplicities
+at-call c = c .before .before .before .before
+
+abbrev at-start : tie.After-list-of-multiplicities → tie.Start
+at-start c = let at-lending = c .before .before .before in at-lending .before .before .before
+
 counted-requires : tie.Need-counted-requires
 counted-requires c κs =
-    let s = c .before .before .before .before .before .before .before .before .before .before in
-    let l = c .before .before .before .before .list-of-multiplicities in
-    rw (l .ensures .0) (list-narrow (s .args .alphabet) (s .args .n) (s .args .k) (s .args .limit) (s .args .matrix .now) (s .args .rows .now) (s .args .scores .now) (rw (l .ensures .0) at (l .ensures .1 .1 .1)))
+    let called = at-call c in
+    let a = at-start called .args in
+    let promised = called .list-of-multiplicities .ensures in
+    few-fit (promised .0) (promised .1 .1 .1) (list-narrow (a .alphabet) (a .n) (a .k) (a .limit) (a .matrix .now) (a .rows .now) (a .scores .now))
 
+-- The only end: what crosses to C is what `list::list_of_multiplicities` answered, and its promises
+-- of both memories and of few rows are handed on.
 returns : tie.Need-returns
-returns c =
-    let l = c .before .before .before .before .before .list-of-multiplicities in
-    (c .counted .ensures ∙ l .ensures .0, (l .ensures .1 .0, (l .ensures .1 .1 .0, subst (λ (a : Answer). a .count ≤ greatestRows) (sym (c .counted .ensures)) (l .ensures .1 .1 .1))))
+returns c = list-crosses (c .counted .ensures) (at-call (c .before) .list-of-multiplicities .ensures)
 
 pub list-of-multiplicities-spec : {M : Type 1} → statement M
-list-of-multiplicities-spec =
-    tie.close
-    (tie.spec (λ c κs. search needs) counted-requires (λ c. search needs) (λ c. search needs) returns)
+list-of-multiplicities-spec = tie.close (tie.spec (λ c κs. search needs) counted-requires (λ c. search needs) (λ c. search needs) returns)

@@ -1,17 +1,25 @@
--- The entry's answer crosses as it is: each of its numbers fits.
-use mathlib.Core.Path.{_∙_}
+-- At most 256 coefficients are accepted, so the degree is below 256, and there are no more roots than
+-- the degree; a coefficient that is refused is one of them: the count and the place fit sixteen bits.
 use Rattle.entries.proofs.Fits.{roots-narrow}
 use borrow.Author.Needs.{needs}
 use Rattle.entries.proofs.roots.Statement.{statement}
 use Rattle.entries.proofs.roots.Tie as tie
 
+abbrev at-call : tie.After-slice-known2 → tie.After-roots
+at-call c = c .before .before
+
+abbrev at-start : tie.After-roots → tie.Start
+at-start c = c .before .before .before .before
+
 counted-requires : tie.Need-counted-requires
 counted-requires c κs =
-    let s = c .before .before .before .before .before .before in
-    rw (c .before .before .roots .ensures .0) (roots-narrow (s .args .alphabet) (s .args .degree) (s .args .k) (s .args .coefficients .now) (s .args .out .now))
+    let called = at-call c in
+    let a = at-start called .args in
+    rw (called .roots .ensures .0) (roots-narrow (a .alphabet) (a .degree) (a .k) (a .coefficients .now) (a .out .now))
 
+-- The only end: what crosses to C is what `roots::roots` answered, and the memory is as that left it.
 returns : tie.Need-returns
-returns c = (c .counted .ensures ∙ c .before .before .before .roots .ensures .0, c .before .before .before .roots .ensures .1)
+returns c = rw (c .counted .ensures) (at-call (c .before) .roots .ensures)
 
 pub roots-spec : {M : Type 1} → statement M
 roots-spec = tie.close (tie.spec (λ c κs. search needs) counted-requires (λ c. search needs) returns)

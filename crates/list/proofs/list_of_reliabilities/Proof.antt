@@ -1,14 +1,15 @@
--- The chain tries the lines before the cost, the columns last, which need what the lines before them say; what passes is weighed into a
--- record, and the rest of the table is that of its multiplicities.
+-- The chain tries the lines before the cost, the columns last, which need what the lines before
+-- them say; what passes is weighed into a record, and the rest of the table is that of its bytes.
 use mathlib.Core.List.{List, [], _∷_, _++_}
 use mathlib.Core.Path.{_≡_, _∙_}
 use Prim.Native.Nat.{ℕ, _*_, _≤_}
 use native.Mathlib.Omega.{arith}
 use lib.ListN.{length}
 use Rattle.alphabet.specs.Codes.{codeOn}
+use Rattle.definitions.proofs.Table.{Accepts}
 use Rattle.definitions.proofs.Weights.{length-matrix}
 use Rattle.definitions.specs.Limits.{greatestLevel}
-use Rattle.definitions.specs.Refusals.{columns}
+use Rattle.definitions.specs.Refusals.{Line, columns}
 use Rattle.definitions.specs.Weights.{matrix}
 use Rattle.edits.proofs.Turned.{bytes-within, turned-bytes, turned-costs}
 use Rattle.list.proofs.Answers.{costLeft, readStart, read-fits}
@@ -20,54 +21,69 @@ use borrow.Author.Needs.{needs}
 use Rattle.list.proofs.list_of_reliabilities.Statement.{statement}
 use Rattle.list.proofs.list_of_reliabilities.Tie as tie
 
-abbrev entry : tie.After-or2 → tie.Start
-entry c = c .before .before .before .before .before .before .before .before .before
+-- the first check, and the entry, from the last check before the columns
+abbrev at-sizes : tie.After-or2 → tie.After-sizes
+at-sizes c = c .before .before .before .before .before
 
-settled : (c : tie.After-or2)
-    → (let a = entry c .args in
-    Came (readStart (codeOn (a .alphabet)) (a .n) (a .k) (a .level) (a .limit) (a .reliabilities .now) (length (a .rows .now)) (length (a .scores .now))) [] (toldChecked (c .or2 .result)))
+abbrev entry : tie.After-or2 → tie.Start
+entry c = at-sizes c .before .before .before .before
+
+abbrev settings : tie.Start → List Line
+settings s =
+    let a = s .args in
+    readStart (codeOn (a .alphabet)) (a .n) (a .k) (a .level) (a .limit) (a .reliabilities .now) (length (a .rows .now)) (length (a .scores .now))
+
+abbrev sums : tie.Start → List Line
+sums s = columns (codeOn (s .args .alphabet)) (s .args .n) (s .args .reliabilities .now) ∷ []
+
+-- what the lines before the columns say
+abbrev Settled : tie.Start → Type 0
+Settled s =
+    let a = s .args in
+    let C = codeOn (a .alphabet) in
+    (a .level ≤ greatestLevel) × Fit C (a .n) (a .k) (a .limit) (length (a .rows .now)) (length (a .scores .now)) × (length (a .reliabilities .now) ≡ C .symbols * a .n)
+
+settle : (s : tie.Start) → Accepts (settings s) → Settled s
+settle s =
+    let a = s .args in
+    read-fits (codeOn (a .alphabet)) (a .n) (a .k) (a .level) (a .limit) (a .reliabilities .now) (length (a .rows .now)) (length (a .scores .now))
+
+settled : (c : tie.After-or2) → Came (settings (entry c)) [] (toldChecked (c .or2 .result))
 settled c =
     let rows = c .before in
     let given = rows .before in
     let limit = given .before in
     let level = limit .before in
-    start ▸ level .before .sizes .ensures ▸ level .level .ensures ▸ limit .or .ensures ▸ given .entries .ensures ▸ rows .room .ensures ▸ c .or2 .ensures
+    start ▸ at-sizes c .sizes .ensures ▸ level .level .ensures ▸ limit .or .ensures ▸ given .entries .ensures ▸ rows .room .ensures ▸ c .or2 .ensures
 
 columns-checked-requires : tie.Need-columns-checked-requires
 columns-checked-requires c κs e =
-    let a = entry c .args in
-    let f = read-fits (codeOn (a .alphabet)) (a .n) (a .k) (a .level) (a .limit) (a .reliabilities .now) (length (a .rows .now)) (length (a .scores .now)) (accepted (settled c) e) in
+    let f = settle (entry c) (accepted (settled c) e) in
     let size = f .2 in
     (f .1 .sized .2, omega arith)
 
 came : (c : tie.After-columns-checked)
-    → (let a = entry (c .before) .args in
-    Came (readStart (codeOn (a .alphabet)) (a .n) (a .k) (a .level) (a .limit) (a .reliabilities .now) (length (a .rows .now)) (length (a .scores .now)) ++ (columns (codeOn (a .alphabet)) (a .n) (a .reliabilities .now) ∷ [])) [] (toldChecked (c .columns-checked .result)))
-came c =
-    let a = entry (c .before) .args in
-    further (columns (codeOn (a .alphabet)) (a .n) (a .reliabilities .now) ∷ []) (settled (c .before)) ▸ c .columns-checked .ensures
+    → (let s = entry (c .before) in Came (settings s ++ sums s) [] (toldChecked (c .columns-checked .result)))
+came c = further (sums (entry (c .before))) (settled (c .before)) ▸ c .columns-checked .ensures
 
 -- the multiplicities
 abbrev made : tie.Start → List ℕ
 made s = matrix (s .args .level) (s .args .reliabilities .now)
 
+-- A check has refused: its refusal is answered, and no memory has changed.
 returns : tie.Need-returns
 returns c =
-    let w = c .before .before .before in
-    let s = entry (w .before) in
+    let at-columns = c .before .before .before in
+    let s = entry (at-columns .before) in
     let a = s .args in
-    refused-by-check (codeOn (a .alphabet)) (a .n) (a .k) (costLeft (a .limit)) (made s) (a .rows .now) (a .scores .now) (came w) (c .before .checked .given .1)
+    refused-by-check (codeOn (a .alphabet)) (a .n) (a .k) (costLeft (a .limit)) (made s) (a .rows .now) (a .scores .now) (came at-columns) (c .before .checked .given .1)
 
+-- from where all checks have passed
 abbrev passed : tie.After-enum-told → tie.Start
 passed t = entry (t .before .before .before)
 
-fit : (t : tie.After-enum-told)
-    → (let a = passed t .args in
-    (a .level ≤ greatestLevel) × Fit (codeOn (a .alphabet)) (a .n) (a .k) (a .limit) (length (a .rows .now)) (length (a .scores .now)) × (length (a .reliabilities .now) ≡ codeOn (a .alphabet) .symbols * a .n))
-fit t =
-    let a = passed t .args in
-    let C = codeOn (a .alphabet) in
-    read-fits C (a .n) (a .k) (a .level) (a .limit) (a .reliabilities .now) (length (a .rows .now)) (length (a .scores .now)) (accepts-front _ (columns C (a .n) (a .reliabilities .now) ∷ []) (accepted (came (t .before .before)) (t .enum-told .given .1)))
+fit : (t : tie.After-enum-told) → Settled (passed t)
+fit t = settle (passed t) (accepts-front _ (sums (passed t)) (accepted (came (t .before .before)) (t .enum-told .given .1)))
 
 weigh-requires : tie.Need-weigh-requires
 weigh-requires c κs =
@@ -77,28 +93,30 @@ weigh-requires c κs =
     (f .0, bytes-within (codeOn (a .alphabet)) (a .n) (a .reliabilities .now) (f .1 .sized .2) (f .2), omega arith)
 
 abbrev told : tie.After-weigh → tie.After-enum-told
-told c = c .before .before
+told at-weigh = at-weigh .before .before
 
 size : (t : tie.After-enum-told) → (let s = passed t in length (made s) ≡ codeOn (s .args .alphabet) .symbols * s .args .n)
 size t = let a = passed t .args in length-matrix (a .level) (a .reliabilities .now) ∙ fit t .2
 
 list-priced-requires : tie.Need-list-priced-requires
 list-priced-requires c κs =
-    let l = c .before .before .before .before in
-    let t = told l in
+    let at-weigh = c .before .before .before .before in
+    let t = told at-weigh in
     let a = passed t .args in
-    (fit t .1, turned-costs (codeOn (a .alphabet)) (a .n) (size t) (l .weigh .ensures))
+    (fit t .1, turned-costs (codeOn (a .alphabet)) (a .n) (size t) (at-weigh .weigh .ensures))
 
+-- All checks have passed: list_priced tries the cost, and lists, of the record's bytes, which are
+-- the multiplicities.
 returns-2 : tie.Need-returns-2
 returns-2 c =
-    let q = c .before .before .before .before in
-    let l = q .before .before .before .before .before in
-    let t = told l in
+    let at-list = c .before .before .before .before in
+    let at-weigh = at-list .before .before .before .before .before in
+    let t = told at-weigh in
     let s = passed t in
     let a = s .args in
     let C = codeOn (a .alphabet) in
     passed-on C (a .n) (a .k) (costLeft (a .limit)) (made s) (a .rows .now) (a .scores .now) (came (t .before .before)) (t .enum-told .given .1)
-    (turned-bytes C (a .n) (size t) (l .weigh .ensures)) _ _ _ (q .list-priced .ensures)
+    (turned-bytes C (a .n) (size t) (at-weigh .weigh .ensures)) _ _ _ (at-list .list-priced .ensures)
 
 pub list-of-reliabilities-spec : {M : Type 1} → statement M
 list-of-reliabilities-spec =

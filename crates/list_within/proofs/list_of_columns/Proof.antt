@@ -1,14 +1,16 @@
--- The polynomial interpolates, so its roots above the bound are every message above the bound: that is the list.
+-- The polynomial interpolates and its degree limit is the bound, so its roots above the bound are
+-- all messages above the bound: that is the list.
 use mathlib.Core.Path.{_≡_, sym, _∙_, ap, subst}
 use mathlib.Core.List.{List}
-use Prim.Native.Nat.{ℕ, _*_, _-_, _/_, _≤_}
+use Prim.Native.Nat.{ℕ, _*_, _-_, _/_, _≤_, _<_}
 use native.Mathlib.Omega.{arith}
 use lib.ListN.{length, take, replicate}
 use lib.Seq.{length-take-le}
 use Rattle.alphabet.specs.Codes.{codeOn}
 use Rattle.definitions.proofs.Powers.{powers-of-y}
 use Rattle.definitions.specs.Bound.{bound}
-use Rattle.definitions.specs.Limits.{coefficientRoom, greatestRows}
+use Rattle.definitions.specs.Field.{Code}
+use Rattle.definitions.specs.Limits.{coefficientRoom, greatestLimit, greatestRows}
 use Rattle.definitions.specs.Polynomial.{Interpolates}
 use Rattle.instances.proofs.Codes.{field-on}
 use Rattle.list_within.proofs.Found.{degree-small, bound-of-cost, prefix, length-after}
@@ -21,114 +23,141 @@ use Rattle.list_within.proofs.list_of_columns.Statement.{statement}
 use Rattle.list_within.proofs.list_of_columns.Tie as tie
 
 abbrev entry : tie.After-bound → tie.Start
-entry c = c .before .before .before
+entry at-bound = at-bound .before .before .before
+
+abbrev codeOf : tie.After-bound → Code
+codeOf at-bound = codeOn (entry at-bound .args .alphabet)
+
+-- the weight of y
+abbrev weight : tie.After-bound → ℕ
+weight at-bound = entry at-bound .args .k - 1
+
+positive : (at-bound : tie.After-bound) → 0 < weight at-bound
+positive at-bound = let z = entry at-bound .pre .0 in omega arith
+
+bound-small : (at-bound : tie.After-bound) → at-bound .bound .result ≤ greatestLimit
+bound-small at-bound =
+    let s = entry at-bound in
+    degree-small (weight at-bound) (s .args .cost) (at-bound .bound .result) (positive at-bound) (s .pre .0 .4) (at-bound .bound .ensures)
 
 count-requires : tie.Need-count-requires
-count-requires c κs =
-    let s = entry c in
-    let a = s .args in
-    let z = s .pre .0 in
-    let low = degree-small (a .k - 1) (a .cost) (c .bound .result) (omega arith) (z .4) (c .bound .ensures) in
-    (omega arith, omega arith)
+count-requires c κs = let low = bound-small c in let z = entry c .pre .0 in (omega arith, omega arith)
 
 -- the room holds the coefficients
 few : (c : tie.After-count) → c .count .result ≤ coefficientRoom
 few c =
-    let s = entry (c .before) in
-    let a = s .args in
-    let z = s .pre .0 in
-    count-small (a .k - 1) (c .before .bound .result) (c .count .result) (a .cost) (omega arith) (z .4) (c .before .bound .ensures) (c .count .ensures)
+    let at-bound = c .before in
+    let s = entry at-bound in
+    count-small (weight at-bound) (at-bound .bound .result) (c .count .result) (s .args .cost) (positive at-bound) (s .pre .0 .4) (at-bound .bound .ensures) (c .count .ensures)
 
 polynomial-requires : tie.Need-polynomial-requires
 polynomial-requires c κs =
-    let n = c .before in
-    let s = entry (n .before) in
-    let z = s .pre .0 in
+    let at-count = c .before in
+    let at-bound = at-count .before in
+    let z = entry at-bound .pre .0 in
     record {
-      weighted = omega arith;
+      weighted = positive at-bound;
       cheap = z .4;
       priced = z .3;
-      bounded = n .before .bound .ensures ∙ ap (bound (s .args .k - 1)) (z .3);
-      counted = n .count .ensures;
-      room = few n;
+      bounded = at-bound .bound .ensures ∙ ap (bound (weight at-bound)) (z .3);
+      counted = at-count .count .ensures;
+      room = few at-count;
     }
 
-abbrev degree : tie.After-polynomial2 → tie.After-bound
-degree c = c .before .before .before
+-- what is known where the polynomial is found
+module _ (c : tie.After-polynomial2) where
+  abbrev at-count : tie.After-count
+  at-count = c .before .before
 
--- the memory after the polynomial is found
-abbrev written : tie.After-polynomial2 → List ℕ
-written c = c .polynomial2 .last .1 .1 .1 .1 .1 .1 .0
+  abbrev at-bound : tie.After-bound
+  at-bound = at-count .before
 
--- is as long as before
-long : (c : tie.After-polynomial2) → length (written c) ≡ coefficientRoom
-long c =
-    let s = entry (degree c) in
-    let small = few (c .before .before) in
-    let n = c .before .before .count .ensures in
-    length-after (codeOn (s .args .alphabet)) (s .args .matrix .now) (s .args .k - 1) (degree c .bound .result) (c .polynomial2 .result) (replicate coefficientRoom 0) (written c) (c .polynomial2 .ensures) (omega arith)
+  abbrev degree : ℕ
+  degree = at-bound .bound .result
 
--- and its front interpolates the bytes that the matrix was loaded from
-front : (c : tie.After-polynomial2) (m : List ℕ) → (let a = entry (degree c) .args in length m ≡ codeOn (a .alphabet) .symbols * a .n → a .matrix .now ≡ matrixOf (codeOn (a .alphabet)) m (a .n)
-    → Interpolates (codeOn (a .alphabet)) (a .n) (a .k - 1) (degree c .bound .result) m (take (c .before .before .count .result) (written c)))
-front c m size loaded =
-    let s = entry (degree c) in
-    let a = s .args in
-    let C = codeOn (a .alphabet) in
-    let n = c .before .before in
-    subst (Interpolates C (a .n) (a .k - 1) (degree c .bound .result) m)
-    (sym (prefix C (a .matrix .now) (a .k - 1) (degree c .bound .result) (c .polynomial2 .result) (replicate coefficientRoom 0) (written c) (c .polynomial2 .ensures) (n .count .result) (n .count .ensures)))
-    (c .polynomial2 .ensures .interpolates m (a .n) (s .pre .0 .2) size loaded)
+  -- the memory, and the coefficients at its front
+  abbrev written : List ℕ
+  written = c .polynomial2 .last .1 .1 .1 .1 .1 .1 .0
 
-rooted : (c : tie.After-polynomial2)
-    → (let a = entry (degree c) .args in Rooted (codeOn (a .alphabet)) (a .n) (a .k) (degree c .bound .result) (degree c .bound .result) (take (c .before .before .count .result) (written c)))
-rooted c =
-    let s = entry (degree c) in
-    let a = s .args in
-    let z = s .pre .0 in
-    let w = s .pre .1 .1 in
-    let d = degree c .bound .result in
-    let i = front c (w .0) (w .1) (w .2) in
-    let small = few (c .before .before) in
-    let n = c .before .before .count .ensures in
-    let low = degree-small (a .k - 1) (a .cost) d (omega arith) (z .4) (degree c .bound .ensures) in
-    record {
-      sized = (z .0, z .1, z .2);
-      few = omega arith;
-      low = subst (λ (x : ℕ). x / (a .k - 1) ≤ greatestRows) (sym (degree c .bound .ensures)) (powers-of-y (a .k - 1) (omega arith) (a .cost) (z .4));
-      threshold = omega arith;
-      full = i .size;
-      symbols = i .symbols;
-      nonzero = i .nonzero;
-    }
+  abbrev coefficients : List ℕ
+  coefficients = take (at-count .count .result) written
+
+  -- the memory is as long as before
+  long : length written ≡ coefficientRoom
+  long =
+      let a = entry at-bound .args in
+      let small = few at-count in
+      let n = at-count .count .ensures in
+      length-after (codeOf at-bound) (a .matrix .now) (weight at-bound) degree _ (replicate coefficientRoom 0) written (c .polynomial2 .ensures) (omega arith)
+
+  -- and its front interpolates the bytes that the matrix was loaded from
+  front : (m : List ℕ)
+      → (let a = entry at-bound .args in let C = codeOf at-bound in
+      length m ≡ C .symbols * a .n → a .matrix .now ≡ matrixOf C m (a .n) → Interpolates C (a .n) (weight at-bound) degree m coefficients)
+  front m size loaded =
+      let s = entry at-bound in
+      let a = s .args in
+      let C = codeOf at-bound in
+      let v = weight at-bound in
+      let found = c .polynomial2 .ensures in
+      subst (Interpolates C (a .n) v degree m)
+      (sym (prefix C (a .matrix .now) v degree _ (replicate coefficientRoom 0) written found (at-count .count .result) (at-count .count .ensures)))
+      (found .interpolates m (a .n) (s .pre .0 .2) size loaded)
+
+  rooted : (let a = entry at-bound .args in Rooted (codeOf at-bound) (a .n) (a .k) degree degree coefficients)
+  rooted =
+      let s = entry at-bound in
+      let z = s .pre .0 in
+      let v = weight at-bound in
+      let w = s .pre .1 .1 in
+      let i = front (w .0) (w .1) (w .2) in
+      let small = few at-count in
+      let n = at-count .count .ensures in
+      let low = bound-small at-bound in
+      record {
+        sized = (z .0, z .1, z .2);
+        few = omega arith;
+        low = subst (λ (x : ℕ). x / v ≤ greatestRows) (sym (at-bound .bound .ensures)) (powers-of-y v (positive at-bound) (s .args .cost) (z .4));
+        threshold = omega arith;
+        full = i .size;
+        symbols = i .symbols;
+        nonzero = i .nonzero;
+      }
 
 array-share-prefix-polynomial : tie.Need-array-share-prefix-polynomial
-array-share-prefix-polynomial c = let l = long (c .before) in let f = few (c .before .before .before) in omega arith
+array-share-prefix-polynomial c =
+    let found = c .before in
+    let l = long found in
+    let f = few (at-count found) in
+    omega arith
 
 slice-aggregate-roots-above : tie.Need-slice-aggregate-roots-above
 slice-aggregate-roots-above c =
-    let p = c .before .before in
-    let l = long p in
-    let f = few (p .before .before) in
-    sym (length-take-le (p .before .before .count .result) (written p) (omega arith))
+    let found = c .before .before in
+    let l = long found in
+    let f = few (at-count found) in
+    sym (length-take-le (at-count found .count .result) (written found) (omega arith))
 
 roots-above-requires : tie.Need-roots-above-requires
 roots-above-requires c κs =
-    let p = c .before .before .before .before in
-    let s = entry (degree p) in
-    (rooted p, (s .pre .1 .0, s .pre .1 .1))
+    let found = c .before .before .before .before in
+    let s = entry (at-bound found) in
+    (rooted found, (s .pre .1 .0, s .pre .1 .1))
 
+-- The roots above the bound are listed, and these are all messages above the bound of the bytes.
 returns : tie.Need-returns
 returns c m size loaded =
-    let l = c .before .before .before .before in
-    let p = l .before .before .before .before .before in
-    let s = entry (degree p) in
+    let at-roots = c .before .before .before .before in
+    let found = at-roots .before .before .before .before .before in
+    let b = at-bound found in
+    let s = entry b in
     let a = s .args in
-    let C = codeOn (a .alphabet) in
     let z = s .pre .0 in
-    let d = degree p .bound .result in
-    lists C (field-on (a .alphabet)) (a .n) (a .k) d d (take (p .before .before .count .result) (written p)) (rooted p) m size (front p m size loaded .through) (omega arith) _
-    (bound-of-cost C (a .n) (a .k - 1) (a .cost) d (a .matrix .now) m (z .2) (degree p .bound .ensures) (z .3) size loaded) (l .roots-above .ensures m size loaded)
+    let C = codeOf b in
+    let d = degree found in
+    let of-bytes = bound-of-cost C (a .n) (weight b) (a .cost) d (a .matrix .now) m (z .2) (b .bound .ensures) (z .3) size loaded in
+    lists C (field-on (a .alphabet)) (a .n) (a .k) d d (coefficients found) (rooted found) m size (front found m size loaded .through) (omega arith) _
+    of-bytes (at-roots .roots-above .ensures m size loaded)
 
 pub list-of-columns-spec : {M : Type 1} → statement M
 list-of-columns-spec =

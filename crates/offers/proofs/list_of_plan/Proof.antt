@@ -1,12 +1,13 @@
--- The chain tries the lines before the cost, the columns last, which need what the lines before them say; what passes is turned into a record,
--- and the rest of the table is that of its bytes.
-use mathlib.Core.List.{[], _∷_, _++_}
+-- The chain tries all lines but the cost and the rule, the columns last, which need what the lines
+-- before them say; what passes is turned into a record, whose bytes are the plan's.
+use mathlib.Core.List.{List, [], _∷_, _++_}
 use mathlib.Core.Path.{_≡_}
-use Prim.Native.Nat.{_*_}
+use Prim.Native.Nat.{ℕ, _*_}
 use native.Mathlib.Omega.{arith}
 use lib.ListN.{length}
 use Rattle.alphabet.specs.Codes.{codeOn}
-use Rattle.definitions.specs.Refusals.{columns}
+use Rattle.definitions.proofs.Table.{Accepts}
+use Rattle.definitions.specs.Refusals.{Line, columns}
 use Rattle.edits.proofs.Turned.{bytes-within, turned-bytes, turned-costs}
 use Rattle.list_within.proofs.Answers.{refused-by-check, passed-on}
 use Rattle.list_within.specs.Within.{Fit}
@@ -18,52 +19,74 @@ use borrow.Author.Needs.{needs}
 use Rattle.offers.proofs.list_of_plan.Statement.{statement}
 use Rattle.offers.proofs.list_of_plan.Tie as tie
 
-abbrev entry : tie.After-symbols → tie.Start
-entry c = c .before .before .before .before .before .before .before .before .before .before .before .before
+-- the first two checks, and the entry, from the last check before the columns
+abbrev at-limit : tie.After-symbols → tie.After-or
+at-limit c = let at-given = c .before .before .before .before in at-given .before .before
 
-settled : (c : tie.After-symbols)
-    → (let a = entry c .args in
-    Came (planStart (codeOn (a .alphabet)) (a .n) (a .k) (a .limit) (a .steps) (a .reliabilities .now) (a .plan .now) (length (a .rows .now)) (length (a .scores .now))) [] (toldChecked (c .symbols .result)))
+abbrev at-sizes : tie.After-symbols → tie.After-sizes
+at-sizes c = at-limit c .before
+
+abbrev entry : tie.After-symbols → tie.Start
+entry c = at-sizes c .before .before .before .before .before
+
+abbrev settings : tie.Start → List Line
+settings s =
+    let a = s .args in
+    planStart (codeOn (a .alphabet)) (a .n) (a .k) (a .limit) (a .steps) (a .reliabilities .now) (a .plan .now) (length (a .rows .now)) (length (a .scores .now))
+
+abbrev sums : tie.Start → List Line
+sums s = columns (codeOn (s .args .alphabet)) (s .args .n) (s .args .reliabilities .now) ∷ []
+
+-- what the lines before the columns say
+abbrev Settled : tie.Start → Type 0
+Settled s =
+    let a = s .args in
+    let C = codeOn (a .alphabet) in
+    Fit C (a .n) (a .k) (a .limit) (length (a .rows .now)) (length (a .scores .now))
+    × (length (a .reliabilities .now) ≡ C .symbols * a .n) × (length (a .plan .now) ≡ C .symbols * a .n)
+
+settle : (s : tie.Start) → Accepts (settings s) → Settled s
+settle s =
+    let a = s .args in
+    plan-fits (codeOn (a .alphabet)) (a .n) (a .k) (a .limit) (a .steps) (a .reliabilities .now) (a .plan .now) (length (a .rows .now)) (length (a .scores .now))
+
+settled : (c : tie.After-symbols) → Came (settings (entry c)) [] (toldChecked (c .symbols .result))
 settled c =
     let scores = c .before in
     let rows = scores .before in
     let whole = rows .before in
     let given = whole .before in
-    let few = given .before in
-    let limit = few .before in
-    start ▸ limit .before .sizes .ensures ▸ limit .or .ensures ▸ few .steps .ensures ▸ given .entries .ensures ▸ whole .entries2 .ensures ▸ rows .room .ensures ▸ scores .or2 .ensures ▸ c .symbols .ensures
+    start ▸ at-sizes c .sizes .ensures ▸ at-limit c .or .ensures ▸ given .before .steps .ensures
+    ▸ given .entries .ensures ▸ whole .entries2 .ensures ▸ rows .room .ensures ▸ scores .or2 .ensures ▸ c .symbols .ensures
 
 columns-checked-requires : tie.Need-columns-checked-requires
 columns-checked-requires c κs e =
-    let a = entry c .args in
-    let f = plan-fits (codeOn (a .alphabet)) (a .n) (a .k) (a .limit) (a .steps) (a .reliabilities .now) (a .plan .now) (length (a .rows .now)) (length (a .scores .now)) (accepted (settled c) e) in
+    let f = settle (entry c) (accepted (settled c) e) in
     let full = f .1 in
     (f .0 .sized .2, omega arith)
 
 came : (c : tie.After-columns-checked)
-    → (let a = entry (c .before) .args in
-    Came (planStart (codeOn (a .alphabet)) (a .n) (a .k) (a .limit) (a .steps) (a .reliabilities .now) (a .plan .now) (length (a .rows .now)) (length (a .scores .now)) ++ (columns (codeOn (a .alphabet)) (a .n) (a .reliabilities .now) ∷ [])) [] (toldChecked (c .columns-checked .result)))
-came c =
-    let a = entry (c .before) .args in
-    further (columns (codeOn (a .alphabet)) (a .n) (a .reliabilities .now) ∷ []) (settled (c .before)) ▸ c .columns-checked .ensures
+    → (let s = entry (c .before) in Came (settings s ++ sums s) [] (toldChecked (c .columns-checked .result)))
+came c = further (sums (entry (c .before))) (settled (c .before)) ▸ c .columns-checked .ensures
 
+-- the lines that are left: the cost and the rule
+abbrev left : tie.Start → List ℕ → List Line
+left s = let a = s .args in costAndPlanLeft (a .limit) (a .reliabilities .now) (a .steps)
+
+-- A check has refused: its refusal is answered, and no memory has changed.
 returns : tie.Need-returns
 returns c =
-    let w = c .before .before .before in
-    let a = entry (w .before) .args in
-    refused-by-check (codeOn (a .alphabet)) (a .n) (a .k) (costAndPlanLeft (a .limit) (a .reliabilities .now) (a .steps)) (a .plan .now) (a .rows .now) (a .scores .now) (came w) (c .before .checked .given .1)
+    let at-columns = c .before .before .before in
+    let s = entry (at-columns .before) in
+    let a = s .args in
+    refused-by-check (codeOn (a .alphabet)) (a .n) (a .k) (left s) (a .plan .now) (a .rows .now) (a .scores .now) (came at-columns) (c .before .checked .given .1)
 
-fit : (c : tie.After-enum-told)
-    → (let a = entry (c .before .before .before) .args in
-    Fit (codeOn (a .alphabet)) (a .n) (a .k) (a .limit) (length (a .rows .now)) (length (a .scores .now)) × (length (a .reliabilities .now) ≡ codeOn (a .alphabet) .symbols * a .n)
-    × (length (a .plan .now) ≡ codeOn (a .alphabet) .symbols * a .n))
-fit c =
-    let a = entry (c .before .before .before) .args in
-    let C = codeOn (a .alphabet) in
-    plan-fits C (a .n) (a .k) (a .limit) (a .steps) (a .reliabilities .now) (a .plan .now) (length (a .rows .now)) (length (a .scores .now)) (accepts-front _ (columns C (a .n) (a .reliabilities .now) ∷ []) (accepted (came (c .before .before)) (c .enum-told .given .1)))
-
+-- from where all checks have passed
 abbrev passed : tie.After-enum-told → tie.Start
 passed t = entry (t .before .before .before)
+
+fit : (t : tie.After-enum-told) → Settled (passed t)
+fit t = settle (passed t) (accepts-front _ (sums (passed t)) (accepted (came (t .before .before)) (t .enum-told .given .1)))
 
 turn-requires : tie.Need-turn-requires
 turn-requires c κs =
@@ -73,25 +96,27 @@ turn-requires c κs =
     (bytes-within (codeOn (a .alphabet)) (a .n) (a .plan .now) (f .0 .sized .2) (f .2), omega arith)
 
 abbrev told : tie.After-turn → tie.After-enum-told
-told c = c .before .before
+told at-turn = at-turn .before .before
 
 list-planned-requires : tie.Need-list-planned-requires
 list-planned-requires c κs =
-    let l = c .before .before .before .before in
-    let f = fit (told l) in
-    let a = passed (told l) .args in
-    (f .0, (turned-costs (codeOn (a .alphabet)) (a .n) (f .2) (l .turn .ensures), f .1))
+    let at-turn = c .before .before .before .before in
+    let f = fit (told at-turn) in
+    let a = passed (told at-turn) .args in
+    (f .0, (turned-costs (codeOn (a .alphabet)) (a .n) (f .2) (at-turn .turn .ensures), f .1))
 
+-- All checks have passed: list_planned tries the cost and the rule, and lists, of the record's
+-- bytes, which are those of the plan.
 returns-2 : tie.Need-returns-2
 returns-2 c =
-    let q = c .before .before .before .before in
-    let l = q .before .before .before .before .before in
-    let t = told l in
-    let w = t .before .before in
-    let a = passed t .args in
+    let at-list = c .before .before .before .before in
+    let at-turn = at-list .before .before .before .before .before in
+    let t = told at-turn in
+    let s = passed t in
+    let a = s .args in
     let C = codeOn (a .alphabet) in
-    passed-on C (a .n) (a .k) (costAndPlanLeft (a .limit) (a .reliabilities .now) (a .steps)) (a .plan .now) (a .rows .now) (a .scores .now) (came w) (t .enum-told .given .1)
-    (turned-bytes C (a .n) (fit t .2) (l .turn .ensures)) _ _ _ (q .list-planned .ensures)
+    passed-on C (a .n) (a .k) (left s) (a .plan .now) (a .rows .now) (a .scores .now) (came (t .before .before)) (t .enum-told .given .1)
+    (turned-bytes C (a .n) (fit t .2) (at-turn .turn .ensures)) _ _ _ (at-list .list-planned .ensures)
 
 pub list-of-plan-spec : {M : Type 1} → statement M
 list-of-plan-spec =

@@ -1,4 +1,5 @@
--- The chain tries the lines before the entries' own; the rest is the inner edit's.
+-- The chain tries the position and the stored numbers; the line for entries above 5 is
+-- clear_right's.
 use mathlib.Core.Bool.{true}
 use mathlib.Core.List.{List, [], _∷_}
 use mathlib.Core.Path.{_≡_, refl}
@@ -22,29 +23,42 @@ use Rattle.editing.proofs.parts.clear_column.Tie as tie
 abbrev code : tie.Start → Code
 code s = codeOn (s .args .alphabet)
 
+-- the first check, and the entry, from the last check
+abbrev at-placed : tie.After-or → tie.After-placed
+at-placed c = c .before .before .before .before
+
 abbrev entry : tie.After-or → tie.Start
-entry c = c .before .before .before .before .before .before .before
+entry c = at-placed c .before .before .before
 
 abbrev handed : tie.Start → Held
 handed s = held (s .args .n) (s .args .cost) (s .args .totals .now) (s .args .entries .now)
 
+-- the lines that are tried here, and the one that is left
 abbrev front : tie.Start → List Line
 front s = size (code s) (s .args .n) ∷ position (s .args .n) (s .args .position) ∷ stored (code s) (handed s) ∷ []
 
-abbrev after : tie.Start → List ℕ
-after s = withoutColumn (code s) (s .args .entries .now) (s .args .position)
+abbrev cleared : tie.Start → List ℕ
+cleared s = withoutColumn (code s) (s .args .entries .now) (s .args .position)
+
+abbrev left : tie.Start → List Line
+left s = inOrOut (code s) (s .args .entries .now ∷ cleared s ∷ []) ∷ []
+
+-- the record that comes of it
+abbrev after : tie.Start → Held
+after s = heldOf (code s) (s .args .n) (cleared s)
 
 came : (c : tie.After-or) → Came (front (entry c)) [] (toldChecked (c .or .result))
 came c =
-    let r = c .before in
-    let p = r .before .before .before in
-    start ▸ refl ▸ p .placed .ensures ▸ stored-tried (code (entry c)) (handed (entry c)) (toldChecked (p .placed .result)) (c .or .ensures) (r .rightly .ensures)
+    let s = entry c in
+    let placed = at-placed c .placed in
+    start ▸ refl ▸ placed .ensures ▸ stored-tried (code s) (handed s) (toldChecked (placed .result)) (c .or .ensures) (c .before .rightly .ensures)
 
+-- A check has refused: its refusal is answered, and the record's memory is as it was.
 returns : tie.Need-returns
 returns c =
-    let w = c .before .before .before in
-    let s = entry w in
-    let d = edit-refused (came w) (inOrOut (code s) (s .args .entries .now ∷ after s ∷ []) ∷ []) (handed s) (heldOf (code s) (s .args .n) (after s)) (c .before .checked .given .1) in
+    let tried = c .before .before .before in
+    let s = entry tried in
+    let d = edit-refused (came tried) (left s) (handed s) (after s) (c .before .checked .given .1) in
     (d .answered, (d .totals-are, d .entries-are))
 
 record Fit (s : tie.Start) : Type 0 where
@@ -59,19 +73,21 @@ fits s (next n (next p (next h end))) = record {
   right = not-false _ h;
 }
 
-fit : (c : tie.After-enum-told) → Fit (entry (c .before .before))
-fit c = fits (entry (c .before .before)) (accepted (came (c .before .before)) (c .enum-told .given .1))
-
 clear-right-requires : tie.Need-clear-right-requires
-clear-right-requires c κs = let f = fit (c .before .before) in ((f .sized .1, f .at), f .right)
+clear-right-requires c κs =
+    let t = c .before .before in
+    let tried = t .before .before in
+    let f = fits (entry tried) (accepted (came tried) (t .enum-told .given .1)) in
+    ((f .sized .1, f .at), f .right)
 
+-- All checks have passed: what clear_right makes of the line that is left is the table's.
 returns-2 : tie.Need-returns-2
 returns-2 c =
-    let q = c .before .before .before .before in
-    let t = q .before .before .before in
-    let w = t .before .before in
-    let s = entry w in
-    let d = edit-goes-on (came w) (inOrOut (code s) (s .args .entries .now ∷ after s ∷ []) ∷ []) (handed s) (heldOf (code s) (s .args .n) (after s)) (t .enum-told .given .1) (q .clear-right .ensures) in
+    let at-clear = c .before .before .before .before in
+    let t = at-clear .before .before .before in
+    let tried = t .before .before in
+    let s = entry tried in
+    let d = edit-goes-on (came tried) (left s) (handed s) (after s) (t .enum-told .given .1) (at-clear .clear-right .ensures) in
     (d .answered, (d .totals-are, d .entries-are))
 
 pub clear-column-spec : {M : Type 1} → statement M

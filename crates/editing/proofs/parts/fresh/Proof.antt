@@ -1,5 +1,5 @@
--- The chain tries the lines of the table; what passes is cleared, and counted.
-use mathlib.Core.List.{[]}
+-- The chain tries the lines of the table; what passes is cleared, and counted as zeros.
+use mathlib.Core.List.{List, []}
 use mathlib.Core.Path.{_≡_, refl, _∙_, ap}
 use Prim.Native.Nat.{ℕ}
 use borrow.Author.Needs.{needs}
@@ -10,6 +10,7 @@ use Rattle.definitions.specs.Editing.{lentTable}
 use Rattle.definitions.specs.Field.{Code}
 use Rattle.definitions.specs.Held.{Held, held, places, noEntries, heldOf, totalsOf}
 use Rattle.definitions.specs.Weights.{cost}
+use Rattle.definitions.specs.Refusals.{Line}
 use Rattle.edits.proofs.Edits.{edit-refused, edit-goes-on, edit-counted}
 use Rattle.edits.proofs.Entries.{laid-fresh}
 use Rattle.refusals.proofs.Chain.{Came, start, _▸_, accepted}
@@ -26,49 +27,62 @@ entry c = c .before .before .before .before .before
 abbrev handed : tie.Start → Held
 handed s = held (s .args .n) 0 (s .args .totals .now) (s .args .entries .now)
 
-came : (c : tie.After-lent) → (let a = entry c .args in Came (lentTable (code (entry c)) (a .n) (a .totals .now) (a .entries .now)) [] (toldChecked (c .lent .result)))
+abbrev table : tie.Start → List Line
+table s = lentTable (code s) (s .args .n) (s .args .totals .now) (s .args .entries .now)
+
+-- the record that comes of it
+abbrev after : tie.Start → Held
+after s = heldOf (code s) (s .args .n) (noEntries (code s))
+
+came : (c : tie.After-lent) → Came (table (entry c)) [] (toldChecked (c .lent .result))
 came c = start ▸ refl ▸ refl ▸ c .lent .ensures
 
+-- A check has refused: its refusal is answered, and the memory is as it was.
 returns : tie.Need-returns
 returns c =
-    let w = c .before .before .before in
-    let s = entry w in
-    let d = edit-refused (came w) [] (handed s) (heldOf (code s) (s .args .n) (noEntries (code s))) (c .before .checked .given .1) in
+    let tried = c .before .before .before in
+    let s = entry tried in
+    let d = edit-refused (came tried) [] (handed s) (after s) (c .before .checked .given .1) in
     (d .answered, (d .totals-are, d .entries-are))
 
-fits : (s : tie.Start) → Accepts (lentTable (code s) (s .args .n) (s .args .totals .now) (s .args .entries .now))
-    → (length (s .args .totals .now) ≡ code s .positions) × (length (s .args .entries .now) ≡ places (code s))
+-- the parts have the lengths of a record
+abbrev Sized : tie.Start → Type 0
+Sized s = (length (s .args .totals .now) ≡ code s .positions) × (length (s .args .entries .now) ≡ places (code s))
+
+fits : (s : tie.Start) → Accepts (table s) → Sized s
 fits s (next n (next t (next e end))) = (entries-mean _ (s .args .totals .now) t, entries-mean _ (s .args .entries .now) e)
 
--- the parts have the lengths of a record
-sized : (t : tie.After-enum-told) → (let s = entry (t .before .before) in (length (s .args .totals .now) ≡ code s .positions) × (length (s .args .entries .now) ≡ places (code s)))
-sized t = let w = t .before .before in fits (entry w) (accepted (came w) (t .enum-told .given .1))
+sized : (t : tie.After-enum-told) → Sized (entry (t .before .before))
+sized t = let tried = t .before .before in fits (entry tried) (accepted (came tried) (t .enum-told .given .1))
 
 -- zeros lie in all places
-cleared : (k : tie.After-clear) → k .clear .last .0 ≡ noEntries (code (entry (k .before .before .before .before)))
-cleared k =
-    let t = k .before .before in
-    let s = entry (t .before .before) in
-    laid-fresh (code s) (s .args .entries .now) (k .clear .last .0) (sized t .1) (k .clear .ensures)
+abbrev told : tie.After-clear → tie.After-enum-told
+told at-clear = at-clear .before .before
+
+cleared : (c : tie.After-clear) → c .clear .last .0 ≡ noEntries (code (entry (told c .before .before)))
+cleared c =
+    let s = entry (told c .before .before) in
+    laid-fresh (code s) (s .args .entries .now) (c .clear .last .0) (sized (told c) .1) (c .clear .ensures)
 
 count-requires : tie.Need-count-requires
 count-requires c κs =
-    let k = c .before .before .before .before in
-    let t = k .before .before in
-    (sized t .0, ap length (cleared k) ∙ length-replicate {A = ℕ} (places (code (entry (t .before .before)))) 0)
+    let at-clear = c .before .before .before .before in
+    let t = told at-clear in
+    (sized t .0, ap length (cleared at-clear) ∙ length-replicate {A = ℕ} (places (code (entry (t .before .before)))) 0)
 
+-- All checks have passed: the entries are zeros, and the cost and the totals are counted of them.
 returns-2 : tie.Need-returns-2
 returns-2 c =
-    let q = c .before .before in
-    let k = q .before .before .before .before .before in
-    let t = k .before .before in
-    let w = t .before .before in
-    let s = entry w in
-    let e = cleared k in
-    let l = q .count .ensures in
-    let d =
-    edit-goes-on (came w) [] (handed s) (heldOf (code s) (s .args .n) (noEntries (code s))) (t .enum-told .given .1)
-    (edit-counted (code s) (handed s) (s .args .n) (noEntries (code s)) (l .0 ∙ ap cost e) (l .1 ∙ ap (totalsOf (code s)) e) e) in
+    let at-count = c .before .before in
+    let at-clear = at-count .before .before .before .before .before in
+    let t = told at-clear in
+    let tried = t .before .before in
+    let s = entry tried in
+    let none = noEntries (code s) in
+    let zeros = cleared at-clear in
+    let counted = at-count .count .ensures in
+    let made = edit-counted (code s) (handed s) (s .args .n) none (counted .0 ∙ ap cost zeros) (counted .1 ∙ ap (totalsOf (code s)) zeros) zeros in
+    let d = edit-goes-on (came tried) [] (handed s) (after s) (t .enum-told .given .1) made in
     (d .answered, (d .totals-are, d .entries-are))
 
 pub fresh-spec : {M : Type 1} → statement M

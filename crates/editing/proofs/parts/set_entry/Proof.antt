@@ -1,4 +1,5 @@
--- The chain tries the lines before the entries' own; the rest is the inner edit's.
+-- The chain tries the position, the symbol and the stored numbers; the line for entries above 5 is
+-- set_right's.
 use mathlib.Core.Bool.{true}
 use mathlib.Core.List.{List, [], _∷_}
 use mathlib.Core.Path.{_≡_, refl, _∙_, ap}
@@ -23,33 +24,49 @@ use Rattle.editing.proofs.parts.set_entry.Tie as tie
 abbrev code : tie.Start → Code
 code s = codeOn (s .args .alphabet)
 
+-- the checks of the symbol and of the position, and the entry, from the last check
+abbrev at-symbol : tie.After-or2 → tie.After-or
+at-symbol c = c .before .before .before .before
+
+abbrev at-placed : tie.After-or2 → tie.After-placed
+at-placed c = at-symbol c .before .before
+
 abbrev entry : tie.After-or2 → tie.Start
-entry c = c .before .before .before .before .before .before .before .before .before
+entry c = at-placed c .before .before .before
 
 abbrev handed : tie.Start → Held
 handed s = held (s .args .n) (s .args .cost) (s .args .totals .now) (s .args .entries .now)
 
+-- the lines that are tried here, and the one that is left
 abbrev front : tie.Start → List Line
 front s = size (code s) (s .args .n) ∷ position (s .args .n) (s .args .position) ∷ symbol (code s) (s .args .symbol) ∷ stored (code s) (handed s) ∷ []
 
-abbrev after : tie.Start → List ℕ
-after s = withEntry (code s) (s .args .entries .now) (s .args .position) (s .args .symbol) (s .args .entry)
+abbrev set : tie.Start → List ℕ
+set s = withEntry (code s) (s .args .entries .now) (s .args .position) (s .args .symbol) (s .args .entry)
+
+abbrev left : tie.Start → List Line
+left s = inOrOut (code s) (s .args .entries .now ∷ set s ∷ []) ∷ []
+
+-- the record that comes of it
+abbrev after : tie.Start → Held
+after s = heldOf (code s) (s .args .n) (set s)
 
 came : (c : tie.After-or2) → Came (front (entry c)) [] (toldChecked (c .or2 .result))
 came c =
-    let r = c .before in
-    let b = r .before .before .before in
-    let y = b .before in
-    let p = y .before .placed in
-    start ▸ refl ▸ p .ensures
-    ▸ (b .or .ensures ∙ ap (λ (q : ℕ). orLine (toldChecked (p .result)) (line 1 (leb q (entry c .args .symbol)))) (y .symbols .ensures))
-    ▸ stored-tried (code (entry c)) (handed (entry c)) (toldChecked (b .or .result)) (c .or2 .ensures) (r .rightly .ensures)
+    let s = entry c in
+    let placed = at-placed c .placed in
+    let within = at-symbol c in
+    let symbols = within .before .symbols .ensures in
+    start ▸ refl ▸ placed .ensures
+    ▸ (within .or .ensures ∙ ap (λ (q : ℕ). orLine (toldChecked (placed .result)) (line 1 (leb q (s .args .symbol)))) symbols)
+    ▸ stored-tried (code s) (handed s) (toldChecked (within .or .result)) (c .or2 .ensures) (c .before .rightly .ensures)
 
+-- A check has refused: its refusal is answered, and the record's memory is as it was.
 returns : tie.Need-returns
 returns c =
-    let w = c .before .before .before in
-    let s = entry w in
-    let d = edit-refused (came w) (inOrOut (code s) (s .args .entries .now ∷ after s ∷ []) ∷ []) (handed s) (heldOf (code s) (s .args .n) (after s)) (c .before .checked .given .1) in
+    let tried = c .before .before .before in
+    let s = entry tried in
+    let d = edit-refused (came tried) (left s) (handed s) (after s) (c .before .checked .given .1) in
     (d .answered, (d .totals-are, d .entries-are))
 
 record Fit (s : tie.Start) : Type 0 where
@@ -66,19 +83,21 @@ fits s (next n (next p (next b (next h end)))) = record {
   right = not-false _ h;
 }
 
-fit : (c : tie.After-enum-told) → Fit (entry (c .before .before))
-fit c = fits (entry (c .before .before)) (accepted (came (c .before .before)) (c .enum-told .given .1))
-
 set-right-requires : tie.Need-set-right-requires
-set-right-requires c κs = let f = fit (c .before .before) in ((f .sized .1, f .at, f .of), f .right)
+set-right-requires c κs =
+    let t = c .before .before in
+    let tried = t .before .before in
+    let f = fits (entry tried) (accepted (came tried) (t .enum-told .given .1)) in
+    ((f .sized .1, f .at, f .of), f .right)
 
+-- All checks have passed: what set_right makes of the line that is left is the table's.
 returns-2 : tie.Need-returns-2
 returns-2 c =
-    let q = c .before .before .before .before in
-    let t = q .before .before .before in
-    let w = t .before .before in
-    let s = entry w in
-    let d = edit-goes-on (came w) (inOrOut (code s) (s .args .entries .now ∷ after s ∷ []) ∷ []) (handed s) (heldOf (code s) (s .args .n) (after s)) (t .enum-told .given .1) (q .set-right .ensures) in
+    let at-set = c .before .before .before .before in
+    let t = at-set .before .before .before in
+    let tried = t .before .before in
+    let s = entry tried in
+    let d = edit-goes-on (came tried) (left s) (handed s) (after s) (t .enum-told .given .1) (at-set .set-right .ensures) in
     (d .answered, (d .totals-are, d .entries-are))
 
 pub set-entry-spec : {M : Type 1} → statement M

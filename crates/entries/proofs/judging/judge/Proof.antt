@@ -1,9 +1,10 @@
--- The verdict crosses as it is.
+-- The verdict on one list crosses whatever its place is: a judgement has sixty-four bits for it.
 use mathlib.Core.Path.{_∙_}
 use borrow.Author.Needs.{needs}
 use Rattle.entries.proofs.judging.judge.Statement.{statement}
 use Rattle.entries.proofs.judging.judge.Tie as tie
 
+-- The only end: what crosses to C is the verdict of `counter::judge`.
 returns : tie.Need-returns
 returns c = c .judged .ensures ∙ c .before .judge .ensures
 

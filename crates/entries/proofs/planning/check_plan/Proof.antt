@@ -1,4 +1,5 @@
--- The entry's answer crosses as it is: each of its numbers fits.
+-- An accepted plan is answered by its steps, at most the 75 that may be asked; a refusal names an
+-- entry of the plan or a position: the value and the place fit sixteen bits.
 use mathlib.Core.Path.{_∙_}
 use Rattle.entries.proofs.PlanFits.{check-narrow}
 use borrow.Author.Needs.{needs}
@@ -7,9 +8,11 @@ use Rattle.entries.proofs.planning.check_plan.Tie as tie
 
 planned-requires : tie.Need-planned-requires
 planned-requires c κs =
-    let s = c .before .before .before in
-    rw (c .check-plan .ensures) (check-narrow (s .args .alphabet) (s .args .n) (s .args .steps) (s .args .reliabilities .now) (s .args .plan .now))
+    let at-start = c .before .before .before in
+    let a = at-start .args in
+    rw (c .check-plan .ensures) (check-narrow (a .alphabet) (a .n) (a .steps) (a .reliabilities .now) (a .plan .now))
 
+-- The only end: what crosses to C is what `planner::check_plan` answered.
 returns : tie.Need-returns
 returns c = c .planned .ensures ∙ c .before .check-plan .ensures
 

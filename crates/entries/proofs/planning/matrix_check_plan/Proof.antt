@@ -1,4 +1,5 @@
--- The entry's answer crosses as it is: each of its numbers fits.
+-- As for a plan in bytes, the value is at most 75; a refusal names an entry of the record, which has as
+-- many as there are places, or a position: the value and the place fit sixteen bits.
 use mathlib.Core.Path.{_∙_}
 use Rattle.definitions.specs.Held.{held}
 use Rattle.entries.proofs.PlanFits.{held-check-narrow}
@@ -8,9 +9,12 @@ use Rattle.entries.proofs.planning.matrix_check_plan.Tie as tie
 
 planned-requires : tie.Need-planned-requires
 planned-requires c κs =
-    let s = c .before .before .before .before in
-    rw (c .check-plan-of-parts .ensures) (held-check-narrow (s .args .alphabet) (held (s .args .n) (s .args .cost) (s .args .totals .now) (s .args .entries .now)) (s .args .steps) (s .args .reliabilities .now))
+    let at-start = c .before .before .before .before in
+    let a = at-start .args in
+    let h = held (a .n) (a .cost) (a .totals .now) (a .entries .now) in
+    rw (c .check-plan-of-parts .ensures) (held-check-narrow (a .alphabet) h (a .steps) (a .reliabilities .now))
 
+-- The only end: what crosses to C is what `planner::check_plan_of_parts` answered.
 returns : tie.Need-returns
 returns c = c .planned .ensures ∙ c .before .check-plan-of-parts .ensures
 

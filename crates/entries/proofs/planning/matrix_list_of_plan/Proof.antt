@@ -1,24 +1,30 @@
--- The entry's answer crosses as it is: each of its numbers fits.
-use mathlib.Core.Path.{_∙_, sym, subst}
-use Prim.Native.Nat.{_≤_}
-use Rattle.definitions.specs.Answers.{Answer}
+-- The list of a plan that is held in a record is promised to have at most 20 rows; a refusal names an
+-- entry of the record or a position: the count and the place fit sixteen bits.
 use Rattle.definitions.specs.Held.{held}
-use Rattle.definitions.specs.Limits.{greatestRows}
+use Rattle.entries.proofs.Crossed.{few-fit, list-crosses}
 use Rattle.entries.proofs.PlanFits.{held-plan-list-narrow}
 use borrow.Author.Needs.{needs}
 use Rattle.entries.proofs.planning.matrix_list_of_plan.Statement.{statement}
 use Rattle.entries.proofs.planning.matrix_list_of_plan.Tie as tie
 
+abbrev at-call : tie.After-slice-known4 → tie.After-list-of-plan-of-parts
+at-call c = c .before .before .before .before
+
+abbrev at-start : tie.After-list-of-plan-of-parts → tie.Start
+at-start c = let at-lending = c .before .before .before in at-lending .before .before .before .before .before
+
 counted-requires : tie.Need-counted-requires
 counted-requires c κs =
-    let s = c .before .before .before .before .before .before .before .before .before .before .before .before in
-    let l = c .before .before .before .before .list-of-plan-of-parts in
-    rw (l .ensures .0) (held-plan-list-narrow (s .args .alphabet) (held (s .args .n) (s .args .cost) (s .args .totals .now) (s .args .entries .now)) (s .args .k) (s .args .limit) (s .args .steps) (s .args .reliabilities .now) (s .args .rows .now) (s .args .scores .now) (rw (l .ensures .0) at (l .ensures .1 .1 .1)))
+    let called = at-call c in
+    let a = at-start called .args in
+    let h = held (a .n) (a .cost) (a .totals .now) (a .entries .now) in
+    let promised = called .list-of-plan-of-parts .ensures in
+    few-fit (promised .0) (promised .1 .1 .1) (held-plan-list-narrow (a .alphabet) h (a .k) (a .limit) (a .steps) (a .reliabilities .now) (a .rows .now) (a .scores .now))
 
+-- The only end: what crosses to C is what `offers::list_of_plan_of_parts` answered, and its promises
+-- of both memories and of few rows are handed on.
 returns : tie.Need-returns
-returns c =
-    let l = c .before .before .before .before .before .list-of-plan-of-parts in
-    (c .counted .ensures ∙ l .ensures .0, (l .ensures .1 .0, (l .ensures .1 .1 .0, subst (λ (a : Answer). a .count ≤ greatestRows) (sym (c .counted .ensures)) (l .ensures .1 .1 .1))))
+returns c = list-crosses (c .counted .ensures) (at-call (c .before) .list-of-plan-of-parts .ensures)
 
 pub matrix-list-of-plan-spec : {M : Type 1} → statement M
 matrix-list-of-plan-spec = tie.close (tie.spec (λ c κs. search needs) counted-requires (λ c. search needs) (λ c. search needs) returns)

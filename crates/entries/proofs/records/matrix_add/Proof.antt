@@ -1,20 +1,29 @@
--- The edit's answer crosses as it is: each of its numbers fits.
-use mathlib.Core.Path.{_∙_}
+-- The sum of two records has the places of the first, and none above 5 where it is accepted: its cost
+-- is small. A refusal names a place of a record. Both numbers fit sixteen bits.
 use Rattle.definitions.specs.Held.{held}
 use Rattle.entries.proofs.RecordFits.{add-narrow}
 use borrow.Author.Needs.{needs}
 use Rattle.entries.proofs.records.matrix_add.Statement.{statement}
 use Rattle.entries.proofs.records.matrix_add.Tie as tie
 
+abbrev at-call : tie.After-slice-known4 → tie.After-add
+at-call c = c .before .before .before .before
+
+abbrev at-start : tie.After-add → tie.Start
+at-start c = let at-lending = c .before .before .before in at-lending .before .before .before .before
+
 priced-requires : tie.Need-priced-requires
 priced-requires c κs =
-    let s = c .before .before .before .before .before .before .before .before .before .before .before in
-    rw (c .before .before .before .before .add .ensures .0) (add-narrow (s .args .alphabet) (held (s .args .n) (s .args .cost) (s .args .totals .now) (s .args .entries .now)) (held (s .args .other-n) (s .args .other-cost) (s .args .other-totals .now) (s .args .other-entries .now)))
+    let called = at-call c in
+    let a = at-start called .args in
+    let h = held (a .n) (a .cost) (a .totals .now) (a .entries .now) in
+    let o = held (a .other-n) (a .other-cost) (a .other-totals .now) (a .other-entries .now) in
+    rw (called .add .ensures .0) (add-narrow (a .alphabet) h o)
 
+-- The only end: what crosses to C is what `editing::parts::add` answered, and both memories are as
+-- that left them.
 returns : tie.Need-returns
-returns c =
-    let e = c .before .before .before .before .before .add .ensures in
-    (c .priced .ensures ∙ e .0, (e .1 .0, e .1 .1))
+returns c = rw (c .priced .ensures) (at-call (c .before) .add .ensures)
 
 pub matrix-add-spec : {M : Type 1} → statement M
 matrix-add-spec = tie.close (tie.spec (λ c κs. search needs) priced-requires (λ c. search needs) (λ c. search needs) returns)

@@ -1,4 +1,5 @@
--- The entry's answer crosses as it is: each of its numbers fits.
+-- A record that is accepted has no entry above 5, so its cost is small, and so is that of its bytes;
+-- the bound is not above it, and a refusal names a place of the record: all fit sixteen bits.
 use mathlib.Core.Path.{_∙_}
 use Rattle.definitions.specs.Held.{held}
 use Rattle.entries.proofs.RecordFits.{held-cost-narrow}
@@ -8,9 +9,12 @@ use Rattle.entries.proofs.records.matrix_cost_and_bound.Tie as tie
 
 costed-requires : tie.Need-costed-requires
 costed-requires c κs =
-    let s = c .before .before .before in
-    rw (c .cost-and-bound-of-parts .ensures) (held-cost-narrow (s .args .alphabet) (held (s .args .n) (s .args .cost) (s .args .totals .now) (s .args .entries .now)) (s .args .k))
+    let at-start = c .before .before .before in
+    let a = at-start .args in
+    let h = held (a .n) (a .cost) (a .totals .now) (a .entries .now) in
+    rw (c .cost-and-bound-of-parts .ensures) (held-cost-narrow (a .alphabet) h (a .k))
 
+-- The only end: what crosses to C is what `weights::cost_and_bound_of_parts` answered.
 returns : tie.Need-returns
 returns c = c .costed .ensures ∙ c .before .cost-and-bound-of-parts .ensures
 

@@ -1,19 +1,25 @@
--- The edit's answer crosses as it is: each of its numbers fits.
-use mathlib.Core.Path.{_∙_}
+-- A matrix with no entry costs 0, and no refusal has a place but 0: all fit sixteen bits.
 use Rattle.entries.proofs.RecordFits.{fresh-narrow}
 use borrow.Author.Needs.{needs}
 use Rattle.entries.proofs.records.matrix_fresh.Statement.{statement}
 use Rattle.entries.proofs.records.matrix_fresh.Tie as tie
 
+abbrev at-call : tie.After-slice-known4 → tie.After-fresh
+at-call c = c .before .before .before .before
+
+abbrev at-start : tie.After-fresh → tie.Start
+at-start c = c .before .before .before .before .before
+
 priced-requires : tie.Need-priced-requires
 priced-requires c κs =
-    let s = c .before .before .before .before .before .before .before .before .before in
-    rw (c .before .before .before .before .fresh .ensures .0) (fresh-narrow (s .args .alphabet) (s .args .n) (s .args .totals .now) (s .args .entries .now))
+    let called = at-call c in
+    let a = at-start called .args in
+    rw (called .fresh .ensures .0) (fresh-narrow (a .alphabet) (a .n) (a .totals .now) (a .entries .now))
 
+-- The only end: what crosses to C is what `editing::parts::fresh` answered, and both memories are as
+-- that left them.
 returns : tie.Need-returns
-returns c =
-    let e = c .before .before .before .before .before .fresh .ensures in
-    (c .priced .ensures ∙ e .0, (e .1 .0, e .1 .1))
+returns c = rw (c .priced .ensures) (at-call (c .before) .fresh .ensures)
 
 pub matrix-fresh-spec : {M : Type 1} → statement M
 matrix-fresh-spec = tie.close (tie.spec (λ c κs. search needs) priced-requires (λ c. search needs) (λ c. search needs) returns)
