@@ -49,4 +49,6 @@ module _ (given each many : ℕ) (h : 0 < each) where
       let swapped = mul-comm each many in
       let fewer = div-lt-iff-lt-mul {k = each} {x = given} {y = many} h in
       let more = le-div-iff-mul-le {k = each} {x = many} {y = given} h in
-      split (ltb (given / each) many) (λ t. t ∙ sym (lt-ltb given (each * many) (let l = fewer .0 (ltb-true (given / each) many t) in omega arith))) (λ f. f ∙ sym (le-ltb given (each * many) (let l = more .0 (ltb-false (given / each) many f) in omega arith)))
+      split (ltb (given / each) many)
+      (λ t. let l = fewer .0 (ltb-true (given / each) many t) in t ∙ sym (lt-ltb given (each * many) (omega arith)))
+      (λ f. let l = more .0 (ltb-false (given / each) many f) in f ∙ sym (le-ltb given (each * many) (omega arith)))

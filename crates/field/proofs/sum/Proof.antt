@@ -1,6 +1,5 @@
 -- Where `first_bad` tells a place, that operand is refused; otherwise the sum is taken bit by bit,
--- as
--- the page's `sumOf` takes it.
+-- as the page's `sumOf` takes it.
 use mathlib.Core.Path.{_∙_, ap}
 use native.Mathlib.Omega.{arith}
 use Rattle.alphabet.specs.Codes.{codeOn}

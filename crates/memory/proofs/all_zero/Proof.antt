@@ -1,4 +1,4 @@
--- The loop has passed zeros only.
+-- The loop has passed zeros only, so what is left decides for the whole list.
 use mathlib.Core.Path.{_≡_, refl}
 use Prim.Native.Nat.{_-_, _≤_}
 use lib.ListN.{length, drop}
@@ -8,6 +8,7 @@ use native.Mathlib.Omega.{arith}
 use Rattle.memory.proofs.all_zero.Statement.{statement}
 use Rattle.memory.proofs.all_zero.Tie as tie
 
+-- Before i there are zeros only: the list is zero where the rest from i on is.
 abbrev Inv-loop : tie.InvT-loop
 Inv-loop list i₀ i = (i ≤ length list) × (isZero list ≡ isZero (drop i list))
 
@@ -17,18 +18,18 @@ abbrev μ-loop : tie.MeasureT-loop
 loop-holds : tie.Need-loop-holds Inv-loop μ-loop
 loop-holds c = (omega arith, refl)
 
+-- The entry at i is not zero, so the list is not.
 returns : tie.Need-returns Inv-loop μ-loop
 returns c =
     let l = c .before .before .before in
-    let s = l .before in
-    zero-stops (s .args .list .now) (l .loop .i) (omega arith) (l .loop .inv .1) (c .if1 .taken)
+    zero-stops (l .before .args .list .now) (l .loop .i) (omega arith) (l .loop .inv .1) (c .if1 .taken)
 
 loop-again : tie.Need-loop-again Inv-loop μ-loop
 loop-again c =
     let l = c .before .before .before in
-    let s = l .before in
-    (omega arith, zero-goes-on (s .args .list .now) (l .loop .i) (omega arith) (l .loop .inv .1) (c .if1 .left))
+    (omega arith, zero-goes-on (l .before .args .list .now) (l .loop .i) (omega arith) (l .loop .inv .1) (c .if1 .left))
 
+-- The loop has ended at the length: nothing is left, so the list is zero.
 returns-2 : tie.Need-returns-2 Inv-loop μ-loop
 returns-2 c =
     let l = c .before in

@@ -1,4 +1,4 @@
--- The low byte, and 256 times the high one.
+-- Both bytes are below 256, so neither the product nor the sum is too large for sixteen bits.
 use borrow.Author.Needs.{needs}
 use Rattle.numbers.proofs.number.Statement.{statement}
 use Rattle.numbers.proofs.number.Tie as tie

@@ -8,6 +8,7 @@ use Rattle.tables.proofs.Rules.{products-right}
 use Rattle.tables.proofs.products_of_sixteen.Statement.{statement}
 use Rattle.tables.proofs.products_of_sixteen.Tie as tie
 
+-- The constant is handed back: it has 16 times 16 entries, and the computed test over them is true.
 returns : tie.Need-returns
 unfolding every sumOf double shifted
 returns c = record { rule = products-right (codeOn Sixteen) _ tt; whole = omega arith }

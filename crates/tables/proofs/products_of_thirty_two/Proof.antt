@@ -8,6 +8,7 @@ use Rattle.tables.proofs.Rules.{products-right}
 use Rattle.tables.proofs.products_of_thirty_two.Statement.{statement}
 use Rattle.tables.proofs.products_of_thirty_two.Tie as tie
 
+-- The constant is handed back: it has 32 times 32 entries, and the computed test over them is true.
 returns : tie.Need-returns
 unfolding every sumOf double shifted
 returns c = record { rule = products-right (codeOn ThirtyTwo) _ tt; whole = omega arith }

@@ -1,4 +1,4 @@
--- The alphabet's symbols are the code's.
+-- `room` has the line already, for the alphabet's number of symbols, which is the code's and not 0.
 use mathlib.Core.Path.{_∙_, ap}
 use Prim.Native.Nat.{ℕ, _*_}
 use native.Mathlib.Omega.{arith}
@@ -12,6 +12,7 @@ use Rattle.refusals.proofs.Checked.entries_room.Tie as tie
 room-requires : tie.Need-room-requires
 room-requires c κs = let z = sized (c .before .args .alphabet) .least in let e = c .symbols .ensures in omega arith
 
+-- The room that was asked for is the code's number of symbols times n.
 returns : tie.Need-returns
 returns c =
     let a = c .before .before .args in

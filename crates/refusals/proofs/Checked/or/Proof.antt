@@ -1,11 +1,13 @@
--- By cases of what the lines so far give, and of the test.
+-- By cases: first of what the lines so far give, then of the test.
 use borrow.Author.Needs.{needs}
 use Rattle.refusals.proofs.Checked.or.Statement.{statement}
 use Rattle.refusals.proofs.Checked.or.Tie as tie
 
+-- An earlier line was refused already: its refusal stays.
 returns : tie.Need-returns
 returns c = rw (c .before .self .given .1)
 
+-- No line was refused so far, and the test is bad: this line is refused.
 returns-2 : tie.Need-returns-2
 returns-2 c = rw (c .before .enum-told .given .1, c .if1 .taken)
 

@@ -1,4 +1,5 @@
--- The room is compared with the product by division.
+-- The room is compared with the product by division: a quotient below `many` is a room below the
+-- product.
 use mathlib.Core.Bool.{Bool}
 use mathlib.Core.Path.{_∙_, ap}
 use Rattle.definitions.specs.Refusals.{line}
@@ -8,10 +9,12 @@ use borrow.Author.Needs.{needs}
 use Rattle.refusals.proofs.Checked.room.Statement.{statement}
 use Rattle.refusals.proofs.Checked.room.Tie as tie
 
+-- The test by division is the line's test.
 returns : tie.Need-returns
 returns c =
-    let a = c .before .args in
-    c .or .ensures ∙ ap (λ (b : Bool). orLine (toldChecked (a .self)) (line 4 b)) (short-product (a .given) (a .each) (a .many) (c .before .pre))
+    let s = c .before in
+    let a = s .args in
+    c .or .ensures ∙ ap (λ (b : Bool). orLine (toldChecked (a .self)) (line 4 b)) (short-product (a .given) (a .each) (a .many) (s .pre))
 
 pub room-spec : {M : Type 1} → statement M
 room-spec = tie.close (tie.spec (λ c. search needs) (λ c κs. search needs) returns)

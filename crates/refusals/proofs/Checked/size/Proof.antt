@@ -1,4 +1,4 @@
--- The alphabet's positions are the code's.
+-- `within` has the line already, from 2 to the alphabet's number of positions, which is the code's.
 use mathlib.Core.Bool.{not, _&&_}
 use mathlib.Core.Path.{_∙_, ap}
 use Prim.Native.Nat.{ℕ}
@@ -9,6 +9,7 @@ use borrow.Author.Needs.{needs}
 use Rattle.refusals.proofs.Checked.size.Statement.{statement}
 use Rattle.refusals.proofs.Checked.size.Tie as tie
 
+-- The upper bound that was tried is the code's number of positions.
 returns : tie.Need-returns
 returns c =
     let n = c .before .before .args .n in

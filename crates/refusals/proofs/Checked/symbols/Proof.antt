@@ -1,4 +1,4 @@
--- After no earlier list an index is its own place.
+-- `symbols_after` has the line already; after no earlier list an index is its own place.
 use mathlib.Core.Path.{_∙_, ap}
 use Prim.Native.Nat.{ℕ}
 use native.Mathlib.Nat.{zero-add}
@@ -10,6 +10,7 @@ use Rattle.refusals.specs.Checked.{orLine, toldChecked}
 use Rattle.refusals.proofs.Checked.symbols.Statement.{statement}
 use Rattle.refusals.proofs.Checked.symbols.Tie as tie
 
+-- The place 0 + i that `symbols_after` gives is i.
 returns : tie.Need-returns
 returns c =
     let a = c .before .before .args in

@@ -1,4 +1,4 @@
--- The alphabet's greatest symbol is the code's.
+-- `symbols` has the line already, for the alphabet's greatest symbol, which is the code's.
 use mathlib.Core.Path.{_∙_, ap}
 use Prim.Native.Nat.{ℕ}
 use Rattle.definitions.specs.Refusals.{noneAbove}
@@ -7,6 +7,7 @@ use borrow.Author.Needs.{needs}
 use Rattle.refusals.proofs.Checked.symbols_of.Statement.{statement}
 use Rattle.refusals.proofs.Checked.symbols_of.Tie as tie
 
+-- The bound that was tried is the code's greatest symbol.
 returns : tie.Need-returns
 returns c =
     let a = c .before .before .before .args in

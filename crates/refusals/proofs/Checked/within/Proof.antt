@@ -1,4 +1,5 @@
--- Two tests with one refusal are one line.
+-- The lower and the upper bound are tried one after the other with one refusal, so they are one
+-- line.
 use mathlib.Core.Path.{_∙_, ap}
 use Rattle.refusals.proofs.Tests.{two-bounds}
 use Rattle.refusals.specs.Checked.{Outcome, orLine, lineOf, toldChecked}
@@ -7,6 +8,7 @@ use borrow.Author.Needs.{needs}
 use Rattle.refusals.proofs.Checked.within.Statement.{statement}
 use Rattle.refusals.proofs.Checked.within.Tie as tie
 
+-- The two checks gave the refusal where x is below the least or above the greatest.
 returns : tie.Need-returns
 returns c =
     let a = c .before .before .args in
