@@ -8,13 +8,13 @@ use Rattle.entries.proofs.roots.Tie as tie
 abbrev at-call : tie.After-slice-known2 → tie.After-roots
 at-call c = c .before .before
 
-abbrev at-start : tie.After-roots → tie.Start
-at-start c = c .before .before .before .before
+abbrev entry : tie.After-roots → tie.Start
+entry c = c .before .before .before .before
 
 counted-requires : tie.Need-counted-requires
 counted-requires c κs =
     let called = at-call c in
-    let a = at-start called .args in
+    let a = entry called .args in
     rw (called .roots .ensures .0) (roots-narrow (a .alphabet) (a .degree) (a .k) (a .coefficients .now) (a .out .now))
 
 -- The only end: what crosses to C is what `roots::roots` answered, and the memory is as that left it.

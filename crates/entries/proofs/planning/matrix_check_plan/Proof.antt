@@ -9,8 +9,8 @@ use Rattle.entries.proofs.planning.matrix_check_plan.Tie as tie
 
 planned-requires : tie.Need-planned-requires
 planned-requires c κs =
-    let at-start = c .before .before .before .before in
-    let a = at-start .args in
+    let entry = c .before .before .before .before in
+    let a = entry .args in
     let h = held (a .n) (a .cost) (a .totals .now) (a .entries .now) in
     rw (c .check-plan-of-parts .ensures) (held-check-narrow (a .alphabet) h (a .steps) (a .reliabilities .now))
 

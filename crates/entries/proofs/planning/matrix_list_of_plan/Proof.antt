@@ -10,13 +10,13 @@ use Rattle.entries.proofs.planning.matrix_list_of_plan.Tie as tie
 abbrev at-call : tie.After-slice-known4 → tie.After-list-of-plan-of-parts
 at-call c = c .before .before .before .before
 
-abbrev at-start : tie.After-list-of-plan-of-parts → tie.Start
-at-start c = let at-lending = c .before .before .before in at-lending .before .before .before .before .before
+abbrev entry : tie.After-list-of-plan-of-parts → tie.Start
+entry c = let at-lending = c .before .before .before in at-lending .before .before .before .before .before
 
 counted-requires : tie.Need-counted-requires
 counted-requires c κs =
     let called = at-call c in
-    let a = at-start called .args in
+    let a = entry called .args in
     let h = held (a .n) (a .cost) (a .totals .now) (a .entries .now) in
     let promised = called .list-of-plan-of-parts .ensures in
     few-fit (promised .0) (promised .1 .1 .1) (held-plan-list-narrow (a .alphabet) h (a .k) (a .limit) (a .steps) (a .reliabilities .now) (a .rows .now) (a .scores .now))

@@ -9,8 +9,8 @@ use Rattle.entries.proofs.records.matrix_cost_and_bound.Tie as tie
 
 costed-requires : tie.Need-costed-requires
 costed-requires c κs =
-    let at-start = c .before .before .before in
-    let a = at-start .args in
+    let entry = c .before .before .before in
+    let a = entry .args in
     let h = held (a .n) (a .cost) (a .totals .now) (a .entries .now) in
     rw (c .cost-and-bound-of-parts .ensures) (held-cost-narrow (a .alphabet) h (a .k))
 

@@ -9,13 +9,13 @@ use Rattle.entries.proofs.records.matrix_interpolate.Tie as tie
 abbrev at-call : tie.After-slice-known2 → tie.After-interpolate-parts
 at-call c = c .before .before
 
-abbrev at-start : tie.After-interpolate-parts → tie.Start
-at-start c = c .before .before .before .before .before
+abbrev entry : tie.After-interpolate-parts → tie.Start
+entry c = c .before .before .before .before .before
 
 interpolated-requires : tie.Need-interpolated-requires
 interpolated-requires c κs =
     let called = at-call c in
-    let a = at-start called .args in
+    let a = entry called .args in
     let h = held (a .n) (a .cost) (a .totals .now) (a .entries .now) in
     held-interpolation-narrow (a .alphabet) h (a .k) (a .limit) (a .out .now) _ _ (called .interpolate-parts .ensures)
 
