@@ -1,23 +1,25 @@
--- The parts are made of zeros, and a refusal leaves them so.
-use mathlib.Core.Path.{refl, _∙_, ap}
+-- The parts are zeros before they are lent, and a refused `parts::fresh` leaves them so: then the
+-- record is all-zero with n 2, as promised.
+use mathlib.Core.Path.{refl}
 use borrow.Author.Needs.{needs}
 use Rattle.definitions.specs.Editing.{freshTable}
 use Rattle.definitions.specs.Field.{sixteen}
 use Rattle.definitions.specs.Held.{heldOf, noEntries}
-use Rattle.editing.proofs.After.{made-is}
-use Rattle.edits.specs.Priced.{toldPriced}
+use Rattle.editing.proofs.After.{made-promised}
 use Rattle.editing.proofs.fresh.Statement.{statement}
 use Rattle.editing.proofs.fresh.Tie as tie
 
+abbrev entry : tie.After-fresh → tie.Start
+entry c = c .before .before .before
+
+-- The only end: what `recorded` puts together is the fresh record, or the all-zero one.
 returns : tie.Need-returns
 returns c =
-    let p = c .before .before .before in
-    let s = p .before .before .before in
-    let d = p .fresh .ensures in (
-      ap toldPriced (c .recorded .ensures .0) ∙ d .0,
-      c .recorded .ensures .1
-          ∙ made-is sixteen (s .args .n) (heldOf sixteen (s .args .n) (noEntries sixteen)) refl (p .fresh .result) _ _ (freshTable sixteen (s .args .n)) refl _ refl (d .0) (d .1 .0) (d .1 .1),
-    )
+    let edit = c .before .before .before in
+    let a = entry edit .args in
+    let n = a .n in
+    let none = heldOf sixteen n (noEntries sixteen) in
+    made-promised sixteen n none refl (edit .fresh .result) _ _ (freshTable sixteen n) refl _ refl (c .recorded .ensures) (edit .fresh .ensures)
 
 pub fresh-spec : {M : Type 1} → statement M
 fresh-spec = tie.close (tie.spec (λ c. search needs) (λ c. search needs) (λ c κs. search needs) (λ c κs. search needs) returns)
