@@ -1,5 +1,5 @@
--- By the two cases of the answer of cost and bound; what is asked says that the cost and the bound of
--- the first are narrow, and the place of the second.
+-- By the two cases of the answer of cost and bound; what is asked says that the cost and the bound
+-- of the first are narrow, and the place of the second.
 use mathlib.Core.Path.{sym, _∙_, ap, ap₂}
 use Rattle.definitions.specs.Answers.{costed}
 use Rattle.weights.specs.Costed.{toldCosted}

@@ -1,5 +1,5 @@
--- By the two cases of a count; what is asked says that the count of the first is narrow, and the place
--- of the second.
+-- By the two cases of a count; what is asked says that the count of the first is narrow, and the
+-- place of the second.
 use mathlib.Core.Path.{sym, _∙_, ap}
 use Rattle.refusals.specs.Counted.{toldCounted}
 use Rattle.definitions.specs.Answers.{counted}

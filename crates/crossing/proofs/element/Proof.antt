@@ -1,5 +1,5 @@
--- By the two cases of an element; its byte fits sixteen bits anyway, and what is asked says that the
--- place of a refusal is narrow.
+-- By the two cases of an element; its byte fits sixteen bits anyway, and what is asked says that
+-- the place of a refusal is narrow.
 use mathlib.Core.Path.{sym, _∙_, ap}
 use Rattle.field.specs.Element.{toldElement}
 use borrow.Author.Needs.{needs}

@@ -1,5 +1,5 @@
--- By the two cases of the answer of interpolation; what is asked says that the count and the bound of
--- the first are narrow, and the place of the second.
+-- By the two cases of the answer of interpolation; what is asked says that the count and the bound
+-- of the first are narrow, and the place of the second.
 use mathlib.Core.Path.{sym, _∙_, ap, ap₂}
 use Rattle.definitions.specs.Answers.{interpolated}
 use Rattle.interpolation.specs.Interpolated.{toldInterpolated}

@@ -23,7 +23,8 @@ refused-requires c κs =
     let at-case = c .before in
     rw (at-case .p2 .given .1) at (at-case .before .before .pre)
 
--- A plan was made or accepted: the count of its bytes and its steps, as the value, cross as they are.
+-- A plan was made or accepted: the count of its bytes and its steps, as the value, cross as they
+-- are.
 returns : tie.Need-returns
 returns c =
     let value = c .before in

@@ -1,5 +1,5 @@
--- By the two cases of an edit's answer; what is asked says that the cost of the first is narrow, and
--- the place of the second.
+-- By the two cases of an edit's answer; what is asked says that the cost of the first is narrow,
+-- and the place of the second.
 use mathlib.Core.Path.{sym, _∙_, ap}
 use Prim.Native.Nat.{ℕ}
 use Rattle.definitions.specs.Answers.{costed}

@@ -7,8 +7,8 @@ use borrow.Author.Needs.{needs}
 use Rattle.crossing.proofs.refused.Statement.{statement}
 use Rattle.crossing.proofs.refused.Tie as tie
 
--- The only end: number and place went through `narrow`, which keeps what fits, and so they are those
--- that the refusal tells.
+-- The only end: number and place went through `narrow`, which keeps what fits, and so they are
+-- those that the refusal tells.
 returns : tie.Need-returns
 returns c =
     let place = c .before in

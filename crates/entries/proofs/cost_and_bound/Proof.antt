@@ -1,5 +1,5 @@
--- A matrix that is accepted has few entries and none above 5, so its cost is small; the bound is not
--- above the cost, and an entry that is refused is one of the few: all fit sixteen bits.
+-- A matrix that is accepted has few entries and none above 5, so its cost is small; the bound is
+-- not above the cost, and an entry that is refused is one of the few: all fit sixteen bits.
 use mathlib.Core.Path.{_∙_}
 use Rattle.entries.proofs.Fits.{cost-narrow}
 use borrow.Author.Needs.{needs}

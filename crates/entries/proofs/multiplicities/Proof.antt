@@ -1,5 +1,5 @@
--- A matrix of n positions has no more bytes than a record has places, and a refusal of reliabilities
--- names a position: the count and the place fit sixteen bits.
+-- A matrix of n positions has no more bytes than a record has places, and a refusal of
+-- reliabilities names a position: the count and the place fit sixteen bits.
 use Rattle.entries.proofs.Fits.{multiplicities-narrow}
 use borrow.Author.Needs.{needs}
 use Rattle.entries.proofs.multiplicities.Statement.{statement}

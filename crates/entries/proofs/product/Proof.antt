@@ -1,5 +1,5 @@
--- The product of two symbols is a symbol, and the symbol that is refused is the first or the second:
--- the value and the place fit sixteen bits.
+-- The product of two symbols is a symbol, and the symbol that is refused is the first or the
+-- second: the value and the place fit sixteen bits.
 use mathlib.Core.Path.{_∙_}
 use Rattle.entries.proofs.Fits.{product-narrow}
 use borrow.Author.Needs.{needs}

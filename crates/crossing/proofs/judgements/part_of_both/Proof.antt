@@ -33,8 +33,8 @@ told-part-requires c κs opens =
     let size = sized (a .alphabet) in
     omega arith
 
--- The only end: `told_part` tells the part of what was judged, the page's verdict, and of the list that
--- `holder` names.
+-- The only end: `told_part` tells the part of what was judged, the page's verdict, and of the list
+-- that `holder` names.
 returns : tie.Need-returns
 returns c =
     let at-holder = c .before in

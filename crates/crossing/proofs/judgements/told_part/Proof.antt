@@ -1,5 +1,5 @@
--- By the test of the value, which is that of Open: there the list and its k cross, and otherwise two
--- zeros.
+-- By the test of the value, which is that of Open: there the list and its k cross, and otherwise
+-- two zeros.
 use borrow.Author.Tests.{eq-eqb, ne-eqb}
 use Rattle.crossing.proofs.judgements.told_part.Statement.{statement}
 use Rattle.crossing.proofs.judgements.told_part.Tie as tie

@@ -1,5 +1,5 @@
--- As for a plan in bytes, the value is at most 75; a refusal names an entry of the record, which has as
--- many as there are places, or a position: the value and the place fit sixteen bits.
+-- As for a plan in bytes, the value is at most 75; a refusal names an entry of the record, which
+-- has as many as there are places, or a position: the value and the place fit sixteen bits.
 use mathlib.Core.Path.{_∙_}
 use Rattle.definitions.specs.Held.{held}
 use Rattle.entries.proofs.PlanFits.{held-check-narrow}

@@ -1,5 +1,5 @@
--- The list of a plan that is held in a record is promised to have at most 20 rows; a refusal names an
--- entry of the record or a position: the count and the place fit sixteen bits.
+-- The list of a plan that is held in a record is promised to have at most 20 rows; a refusal names
+-- an entry of the record or a position: the count and the place fit sixteen bits.
 use Rattle.definitions.specs.Held.{held}
 use Rattle.entries.proofs.Crossed.{few-fit, list-crosses}
 use Rattle.entries.proofs.PlanFits.{held-plan-list-narrow}
@@ -21,8 +21,8 @@ counted-requires c κs =
     let promised = called .list-of-plan-of-parts .ensures in
     few-fit (promised .0) (promised .1 .1 .1) (held-plan-list-narrow (a .alphabet) h (a .k) (a .limit) (a .steps) (a .reliabilities .now) (a .rows .now) (a .scores .now))
 
--- The only end: what crosses to C is what `offers::list_of_plan_of_parts` answered, and its promises
--- of both memories and of few rows are handed on.
+-- The only end: what crosses to C is what `offers::list_of_plan_of_parts` answered, and its
+-- promises of both memories and of few rows are handed on.
 returns : tie.Need-returns
 returns c = list-crosses (c .counted .ensures) (at-call (c .before) .list-of-plan-of-parts .ensures)
 

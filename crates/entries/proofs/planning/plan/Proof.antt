@@ -17,7 +17,8 @@ planned-requires c κs =
     let a = entry called .args in
     rw (called .plan .ensures .0) (plan-narrow (a .alphabet) (a .n) (a .steps) (a .reliabilities .now) (a .out .now))
 
--- The only end: what crosses to C is what `planner::plan` answered, and the memory is as that left it.
+-- The only end: what crosses to C is what `planner::plan` answered, and the memory is as that left
+-- it.
 returns : tie.Need-returns
 returns c = rw (c .planned .ensures) (at-call (c .before) .plan .ensures)
 

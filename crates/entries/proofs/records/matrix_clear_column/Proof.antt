@@ -1,5 +1,6 @@
--- With a column cleared the record has as many entries as before, and none above 5 where the call is
--- accepted: its cost is small. A refusal names a place of the record. Both numbers fit sixteen bits.
+-- With a column cleared the record has as many entries as before, and none above 5 where the call
+-- is accepted: its cost is small. A refusal names a place of the record. Both numbers fit sixteen
+-- bits.
 use Rattle.definitions.specs.Held.{held}
 use Rattle.entries.proofs.RecordFits.{clear-narrow}
 use borrow.Author.Needs.{needs}
@@ -19,8 +20,8 @@ priced-requires c κs =
     let h = held (a .n) (a .cost) (a .totals .now) (a .entries .now) in
     rw (called .clear-column .ensures .0) (clear-narrow (a .alphabet) h (a .position))
 
--- The only end: what crosses to C is what `editing::parts::clear_column` answered, and both memories
--- are as that left them.
+-- The only end: what crosses to C is what `editing::parts::clear_column` answered, and both
+-- memories are as that left them.
 returns : tie.Need-returns
 returns c = rw (c .priced .ensures) (at-call (c .before) .clear-column .ensures)
 

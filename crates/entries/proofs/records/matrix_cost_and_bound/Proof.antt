@@ -1,5 +1,6 @@
--- A record that is accepted has no entry above 5, so its cost is small, and so is that of its bytes;
--- the bound is not above it, and a refusal names a place of the record: all fit sixteen bits.
+-- A record that is accepted has no entry above 5, so its cost is small, and so is that of its
+-- bytes; the bound is not above it, and a refusal names a place of the record: all fit sixteen
+-- bits.
 use mathlib.Core.Path.{_∙_}
 use Rattle.definitions.specs.Held.{held}
 use Rattle.entries.proofs.RecordFits.{held-cost-narrow}

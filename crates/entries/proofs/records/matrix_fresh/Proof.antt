@@ -16,8 +16,8 @@ priced-requires c κs =
     let a = entry called .args in
     rw (called .fresh .ensures .0) (fresh-narrow (a .alphabet) (a .n) (a .totals .now) (a .entries .now))
 
--- The only end: what crosses to C is what `editing::parts::fresh` answered, and both memories are as
--- that left them.
+-- The only end: what crosses to C is what `editing::parts::fresh` answered, and both memories are
+-- as that left them.
 returns : tie.Need-returns
 returns c = rw (c .priced .ensures) (at-call (c .before) .fresh .ensures)
 

@@ -1,5 +1,6 @@
--- The cost of the record's bytes is within the limit, hence within 225; the bound is not above it, and
--- there are at most 246 coefficients; a refusal names a place of the record: all fit sixteen bits.
+-- The cost of the record's bytes is within the limit, hence within 225; the bound is not above it,
+-- and there are at most 246 coefficients; a refusal names a place of the record: all fit sixteen
+-- bits.
 use Rattle.definitions.specs.Held.{held}
 use Rattle.entries.proofs.RecordFits.{held-interpolation-narrow}
 use borrow.Author.Needs.{needs}
@@ -19,7 +20,8 @@ interpolated-requires c κs =
     let h = held (a .n) (a .cost) (a .totals .now) (a .entries .now) in
     held-interpolation-narrow (a .alphabet) h (a .k) (a .limit) (a .out .now) _ _ (called .interpolate-parts .ensures)
 
--- The only end: what `interpolation::interpolate_parts` promises of its answer is true of what crosses.
+-- The only end: what `interpolation::interpolate_parts` promises of its answer is true of what
+-- crosses.
 returns : tie.Need-returns
 returns c = rw (c .interpolated .ensures) (at-call (c .before) .interpolate-parts .ensures)
 

@@ -1,5 +1,5 @@
--- The list of a record is promised to have at most 20 rows, and a refusal names a place of the record:
--- the count and the place fit sixteen bits.
+-- The list of a record is promised to have at most 20 rows, and a refusal names a place of the
+-- record: the count and the place fit sixteen bits.
 use Rattle.definitions.specs.Held.{held}
 use Rattle.entries.proofs.Crossed.{few-fit, list-crosses}
 use Rattle.entries.proofs.RecordFits.{held-list-narrow}

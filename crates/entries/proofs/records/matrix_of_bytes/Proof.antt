@@ -17,8 +17,8 @@ priced-requires c κs =
     let a = entry called .args in
     rw (called .of-bytes .ensures .0) (bytes-narrow (a .alphabet) (a .n) (a .bytes .now) (a .totals .now) (a .entries .now))
 
--- The only end: what crosses to C is what `editing::parts::of_bytes` answered, and both memories are
--- as that left them.
+-- The only end: what crosses to C is what `editing::parts::of_bytes` answered, and both memories
+-- are as that left them.
 returns : tie.Need-returns
 returns c = rw (c .priced .ensures) (at-call (c .before) .of-bytes .ensures)
 

@@ -1,5 +1,6 @@
 -- With one entry set the record has as many entries as before, and none above 5 where the call is
--- accepted: its cost is small. A refusal names a place of the record. Both numbers fit sixteen bits.
+-- accepted: its cost is small. A refusal names a place of the record. Both numbers fit sixteen
+-- bits.
 use Rattle.definitions.specs.Held.{held}
 use Rattle.entries.proofs.RecordFits.{set-narrow}
 use borrow.Author.Needs.{needs}
@@ -19,8 +20,8 @@ priced-requires c κs =
     let h = held (a .n) (a .cost) (a .totals .now) (a .entries .now) in
     rw (called .set-entry .ensures .0) (set-narrow (a .alphabet) h (a .position) (a .symbol) (a .entry))
 
--- The only end: what crosses to C is what `editing::parts::set_entry` answered, and both memories are
--- as that left them.
+-- The only end: what crosses to C is what `editing::parts::set_entry` answered, and both memories
+-- are as that left them.
 returns : tie.Need-returns
 returns c = rw (c .priced .ensures) (at-call (c .before) .set-entry .ensures)
 
