@@ -1,4 +1,5 @@
--- How a list crosses to C: that its rows are few makes its answer fit, and is promised of what C is given too.
+-- How a list crosses to C: that its rows are few makes its answer fit, and is promised of what C is
+-- given too.
 -- Assumes nothing.
 use mathlib.Core.Path.{_≡_, sym, subst}
 use Prim.Native.Nat.{_≤_}

@@ -31,6 +31,24 @@ puts-more out middle after u w at end last h p q =
       q .2 ∙ ap (λ (m : List ℕ). laid m end w) (p .2) ∙ laid-behind out at u w end h e,
     )
 
+infixl 60 _▸_
+-- texts were put in turn, each where the one before it ended: the texts, the last one first, where they
+-- end, and the memory after them
+pub data InTurn (out : List ℕ) (at : ℕ) : List (List ℕ) → ℕ → List ℕ → Type 0 where
+  begun : InTurn out at [] at out
+  _▸_ : {texts : List (List ℕ)} {w middle after : List ℕ} {end last : ℕ} → InTurn out at texts end middle → Puts middle end w last after
+      → InTurn out at (w ∷ texts) last after
+
+-- so the one text that they are together was put
+abbrev pub together : List (List ℕ) → List ℕ
+together [] = []
+together (w ∷ texts) = together texts ++ w
+
+pub puts-in-turn : {out after : List ℕ} {texts : List (List ℕ)} {at end : ℕ} → at ≤ length out → InTurn out at texts end after → Puts out at (together texts) end after
+puts-in-turn {out} {at = at} h begun = (omega arith, refl, laid-none out at)
+puts-in-turn {out} {after} {at = at} h (_▸_ {texts = texts} {w = w} {middle = middle} {end = end} {last = last} earlier p) =
+    puts-more out middle after (together texts) w at end last h (puts-in-turn h earlier) p
+
 -- the text of a message, symbol after symbol: no symbol, and one more
 pub text-begun : (C : Code) (message out : List ℕ) (at : ℕ) → Puts out at (messageText C (take 0 message)) at out
 text-begun C message out at = rw (join-nil (symbolText C)) (omega arith, refl, laid-none out at)
@@ -49,6 +67,13 @@ text-more C message out middle after at end last j h l p q =
 pub text-whole : (C : Code) (message out after : List ℕ) (at end j : ℕ) → j ≡ length message → Puts out at (messageText C (take j message)) end after
     → Puts out at (messageText C message) end after
 text-whole C message out after at end j e p = subst (λ (l : List ℕ). Puts out at (messageText C l) end after) (take-all j message (omega arith)) p
+
+-- row j, as the part of the memory that is lent, has k symbols
+pub row-length : (rows : List ℕ) (k j : ℕ) → k * j + k ≤ length rows → length (take (k * j + k - k * j) (drop (k * j) rows)) ≡ k
+row-length rows k j h =
+    let size : k * j + k - k * j ≡ k = omega arith in
+    let rest = length-drop (k * j) rows in
+    ap (λ (n : ℕ). length (take n (drop (k * j) rows))) size ∙ length-take-le k (drop (k * j) rows) (omega arith)
 
 -- the lines of rows: no row, and one row more
 module _ (C : Code) (k : ℕ) (rows scores : List ℕ) where
@@ -75,11 +100,9 @@ module _ (C : Code) (k : ℕ) (rows scores : List ℕ) where
       → end ≤ at + rowRoom (length (take (k * j + k - k * j) (drop (k * j) rows))) → Puts out at (lineOf C k rows scores j) end after × (end ≤ at + longestRowRoom)
   row-put out after at j score end hk es h p l =
       let size : k * j + k - k * j ≡ k = omega arith in
-      let rest = length-drop (k * j) rows in
-      let long : length (take k (drop (k * j) rows)) ≡ k = length-take-le k (drop (k * j) rows) (omega arith) in
+      let long = row-length rows k j h in
       let same : rowLine C score (take (k * j + k - k * j) (drop (k * j) rows)) ≡ lineOf C k rows scores j =
       ap (λ (n : ℕ). rowLine C score (take n (drop (k * j) rows))) size ∙ ap (λ (s : ℕ). rowLine C s (take k (drop (k * j) rows))) es in
-      let end-size : length (take (k * j + k - k * j) (drop (k * j) rows)) ≡ k = ap (λ (n : ℕ). length (take n (drop (k * j) rows))) size ∙ long in
       (subst (λ (w : List ℕ). Puts out at w end after) same p, omega arith)
 
 -- what is put ends within the memory

@@ -1,4 +1,5 @@
--- Each case of the answer crosses field by field.
+-- By the two cases of an edit's answer; what is asked says that the cost of the first is narrow,
+-- and the place of the second.
 use mathlib.Core.Path.{sym, _∙_, ap}
 use Prim.Native.Nat.{ℕ}
 use Rattle.definitions.specs.Answers.{costed}
@@ -8,17 +9,25 @@ use Rattle.crossing.proofs.priced.Statement.{statement}
 use Rattle.crossing.proofs.priced.Tie as tie
 
 narrow-requires : tie.Need-narrow-requires
-narrow-requires c κs = (rw (c .before .p .given .1) at (c .before .before .before .pre)) .cost
+narrow-requires c κs =
+    let at-case = c .before in
+    (rw (at-case .p .given .1) at (at-case .before .before .pre)) .cost
 
 refused-requires : tie.Need-refused-requires
-refused-requires c κs = rw (c .before .p2 .given .1) at (c .before .before .before .pre)
+refused-requires c κs =
+    let at-case = c .before in
+    rw (at-case .p2 .given .1) at (at-case .before .before .pre)
 
+-- The cost that the record then holds: it crosses as it is, with the bound 0.
 returns : tie.Need-returns
 returns c =
-    c .accepted .ensures ∙ ap (λ (x : ℕ). costed x 0) (c .before .narrow .ensures) ∙ sym (ap toldPriced (c .before .before .before .p .given .1))
+    let cost = c .before in
+    let at-case = cost .before .before in
+    c .accepted .ensures ∙ ap (λ (x : ℕ). costed x 0) (cost .narrow .ensures) ∙ sym (ap toldPriced (at-case .p .given .1))
 
+-- A refusal: its number and place cross as they are.
 returns-2 : tie.Need-returns-2
-returns-2 c = c .refused .ensures ∙ sym (ap toldPriced (c .before .before .p2 .given .1))
+returns-2 c = let at-case = c .before .before in c .refused .ensures ∙ sym (ap toldPriced (at-case .p2 .given .1))
 
 pub priced-spec : {M : Type 1} → statement M
 priced-spec =

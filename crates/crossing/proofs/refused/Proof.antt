@@ -1,4 +1,5 @@
--- A refusal is its number and place, both narrow.
+-- A refusal tells its number and its place and four zeros; the number is below 256, and what is
+-- asked says that the place is narrow.
 use mathlib.Core.Path.{sym, _∙_, ap₂}
 use Rattle.definitions.specs.Answers.{refused}
 use Rattle.refusals.proofs.Chain.{told-is}
@@ -6,11 +7,15 @@ use borrow.Author.Needs.{needs}
 use Rattle.crossing.proofs.refused.Statement.{statement}
 use Rattle.crossing.proofs.refused.Tie as tie
 
+-- The only end: number and place went through `narrow`, which keeps what fits, and so they are
+-- those that the refusal tells.
 returns : tie.Need-returns
 returns c =
     let place = c .before in
-    let number = place .before in
-    ap₂ refused (number .narrow .ensures ∙ number .before .number .ensures .0) (c .narrow2 .ensures ∙ place .place .ensures) ∙ sym (told-is (number .before .before .args .r))
+    let narrowed = place .before in
+    let number = narrowed .before in
+    ap₂ refused (narrowed .narrow .ensures ∙ number .number .ensures .0) (c .narrow2 .ensures ∙ place .place .ensures)
+    ∙ sym (told-is (number .before .args .r))
 
 pub refused-spec : {M : Type 1} → statement M
 refused-spec =

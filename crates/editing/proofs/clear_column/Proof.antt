@@ -1,27 +1,27 @@
--- The record is taken apart, its column cleared in the parts, and put together of them with the n
--- and the cost that the outcome tells.
-use mathlib.Core.Path.{refl, _∙_, ap}
+-- The record is taken apart, a column is cleared in its parts, and `recorded` puts them together;
+-- so the record is the one that the table for clearing a column makes.
+use mathlib.Core.Path.{refl}
 use borrow.Author.Needs.{needs}
 use Rattle.definitions.specs.Editing.{clearTable}
 use Rattle.definitions.specs.Field.{sixteen}
 use Rattle.definitions.specs.Held.{heldOf, withoutColumn}
-use Rattle.editing.proofs.After.{record-is}
+use Rattle.editing.proofs.After.{record-promised}
 use Rattle.matrix.specs.Record.{heldBy}
-use Rattle.edits.specs.Priced.{toldPriced}
 use Rattle.editing.proofs.clear_column.Statement.{statement}
 use Rattle.editing.proofs.clear_column.Tie as tie
 
--- The answer is that of the parts; the record has the column cleared, or is as it was.
+abbrev entry : tie.After-clear-column → tie.Start
+entry c = c .before .before .before .before .before
+
+-- The only end: what `recorded` puts together of the outcome and the parts is the promised record.
 returns : tie.Need-returns
 returns c =
-    let at-clear = c .before .before .before in
-    let s = at-clear .before .before .before .before .before in
-    let m = heldBy (s .args .m) in
-    let i = s .args .position in
-    let without = heldOf sixteen (m .n) (withoutColumn sixteen (m .entries) i) in
-    let put = c .recorded .ensures in
-    let d = at-clear .clear-column .ensures in
-    (ap toldPriced (put .0) ∙ d .0, put .1 ∙ record-is m without (at-clear .clear-column .result) _ _ (clearTable sixteen m i) refl (d .0) (d .1 .0) (d .1 .1))
+    let edit = c .before .before .before in
+    let a = entry edit .args in
+    let m = heldBy (a .m) in
+    let cleared = heldOf sixteen (m .n) (withoutColumn sixteen (m .entries) (a .position)) in
+    let table = clearTable sixteen m (a .position) in
+    record-promised m cleared (edit .clear-column .result) _ _ table refl (c .recorded .ensures) (edit .clear-column .ensures)
 
 pub clear-column-spec : {M : Type 1} → statement M
 clear-column-spec = tie.close (tie.spec (λ c. search needs) (λ c. search needs) (λ c κs. search needs) (λ c κs. search needs) returns)

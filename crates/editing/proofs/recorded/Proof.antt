@@ -1,4 +1,4 @@
--- By cases of the outcome: each arm is the record that the definition makes of that case.
+-- By the two cases of the outcome, as `recordAfter` has them.
 use mathlib.Core.Path.{sym, ap}
 use borrow.Author.Needs.{needs}
 use Rattle.definitions.specs.Held.{Held}
@@ -7,20 +7,23 @@ use Rattle.edits.specs.declared.Priced.{Priced}
 use Rattle.editing.proofs.recorded.Statement.{statement}
 use Rattle.editing.proofs.recorded.Tie as tie
 
+-- the record after an outcome
 abbrev after : tie.Start → Priced → Held
-after s outcome = let a = s .args in recordAfter outcome (a .old-n) (a .old-cost) (a .n) (a .totals) (a .entries)
+after s o = let a = s .args in recordAfter o (a .old-n) (a .old-cost) (a .n) (a .totals) (a .entries)
 
--- A cost was answered: the record has the new n and that cost.
+-- A cost: the record has the new n, and the cost that is answered.
 returns : tie.Need-returns
 returns c =
-    let is = c .before .outcome .given .1 in
-    (sym is, sym (ap (after (c .before .before .before)) is))
+    let at-case = c .before in
+    let is-cost = at-case .outcome .given .1 in
+    (sym is-cost, sym (ap (after (at-case .before .before)) is-cost))
 
--- A refusal was answered: the record has the old n and cost.
+-- A refusal: the record has the n and the cost that it had.
 returns-2 : tie.Need-returns-2
 returns-2 c =
-    let is = c .before .outcome2 .given .1 in
-    (sym is, sym (ap (after (c .before .before .before)) is))
+    let at-case = c .before in
+    let is-refused = at-case .outcome2 .given .1 in
+    (sym is-refused, sym (ap (after (at-case .before .before)) is-refused))
 
 pub recorded-spec : {M : Type 1} → statement M
 recorded-spec = tie.close (tie.spec (λ c. search needs) (λ c. search needs) returns returns-2)

@@ -1,5 +1,5 @@
--- A matrix that is accepted has few entries and none above 5, so its cost is small; the bound is not
--- above the cost, and an entry that is refused is one of the few: all fit sixteen bits.
+-- A matrix that is accepted has few entries and none above 5, so its cost is small; the bound is
+-- not above the cost, and an entry that is refused is one of the few: all fit sixteen bits.
 use mathlib.Core.Path.{_∙_}
 use Rattle.entries.proofs.Fits.{cost-narrow}
 use borrow.Author.Needs.{needs}
@@ -8,8 +8,8 @@ use Rattle.entries.proofs.cost_and_bound.Tie as tie
 
 costed-requires : tie.Need-costed-requires
 costed-requires c κs =
-    let at-start = c .before .before in
-    let a = at-start .args in
+    let entry = c .before .before in
+    let a = entry .args in
     rw (c .cost-and-bound .ensures) (cost-narrow (a .alphabet) (a .n) (a .k) (a .matrix .now))
 
 -- The only end: what crosses to C is what `weights::cost_and_bound` answered.

@@ -8,13 +8,13 @@ use Rattle.entries.proofs.interpolate.Tie as tie
 abbrev at-call : tie.After-slice-known2 → tie.After-interpolate
 at-call c = c .before .before
 
-abbrev at-start : tie.After-interpolate → tie.Start
-at-start c = c .before .before .before .before
+abbrev entry : tie.After-interpolate → tie.Start
+entry c = c .before .before .before .before
 
 interpolated-requires : tie.Need-interpolated-requires
 interpolated-requires c κs =
     let called = at-call c in
-    let a = at-start called .args in
+    let a = entry called .args in
     interpolation-narrow (a .alphabet) (a .n) (a .k) (a .limit) (a .matrix .now) (a .out .now) _ _ (called .interpolate .ensures)
 
 -- The only end: what `interpolation::interpolate` promises of its answer is true of what crosses.

@@ -8,8 +8,8 @@ use Rattle.entries.proofs.inverse.Tie as tie
 
 element-requires : tie.Need-element-requires
 element-requires c κs =
-    let at-start = c .before in
-    let a = at-start .args in
+    let entry = c .before in
+    let a = entry .args in
     rw (c .inverse .ensures) (inverse-narrow (a .alphabet) (a .a))
 
 -- The only end: what crosses to C is what `field::inverse` answered.

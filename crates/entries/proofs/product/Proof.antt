@@ -1,5 +1,5 @@
--- The product of two symbols is a symbol, and the symbol that is refused is the first or the second:
--- the value and the place fit sixteen bits.
+-- The product of two symbols is a symbol, and the symbol that is refused is the first or the
+-- second: the value and the place fit sixteen bits.
 use mathlib.Core.Path.{_∙_}
 use Rattle.entries.proofs.Fits.{product-narrow}
 use borrow.Author.Needs.{needs}
@@ -8,8 +8,8 @@ use Rattle.entries.proofs.product.Tie as tie
 
 element-requires : tie.Need-element-requires
 element-requires c κs =
-    let at-start = c .before in
-    let a = at-start .args in
+    let entry = c .before in
+    let a = entry .args in
     rw (c .product .ensures) (product-narrow (a .alphabet) (a .a) (a .b))
 
 -- The only end: what crosses to C is what `field::product` answered.

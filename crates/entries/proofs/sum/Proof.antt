@@ -8,8 +8,8 @@ use Rattle.entries.proofs.sum.Tie as tie
 
 element-requires : tie.Need-element-requires
 element-requires c κs =
-    let at-start = c .before in
-    let a = at-start .args in
+    let entry = c .before in
+    let a = entry .args in
     rw (c .sum .ensures) (sum-narrow (a .alphabet) (a .a) (a .b))
 
 -- The only end: what crosses to C is what `field::sum` answered.

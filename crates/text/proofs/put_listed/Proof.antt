@@ -1,34 +1,24 @@
--- Three parts, each put where the one before it ends: word, count and line feed.
+-- A word, a number and a line feed are put in turn, and their lengths add up to the room of the line.
 use Prim.Native.Nat.{_≤_}
 use lib.ListN.{length}
 use native.Mathlib.Omega.{arith}
-use Rattle.text.proofs.Putting.{puts-more}
+use Rattle.text.proofs.Putting.{begun, _▸_, puts-in-turn}
 use borrow.Author.Needs.{needs}
 use Rattle.text.proofs.put_listed.Statement.{statement}
 use Rattle.text.proofs.put_listed.Tie as tie
 
-abbrev entry : tie.After-put → tie.Start
-entry c = c .before .before .before .before
-
-abbrev named : tie.After-put-decimal → tie.After-put
-named c = c .before .before .before .before
-
-abbrev counted : tie.After-put2 → tie.After-put-decimal
-counted c = c .before .before .before .before .before
-
-within : (s : tie.Start) → s .args .at ≤ length (s .args .out .now)
-within s = omega arith
-
--- The word, the count and the line feed are put, one behind the other; together they have room.
+-- The three texts are the line of the count, and the number has at most twenty digits.
 returns : tie.Need-returns
 returns c =
-    let last = c .before .before in
-    let count = counted last in
-    let word = named count in
-    let h = within (entry word) in
-    let p1 = puts-more _ _ _ _ _ _ _ _ h (word .put .ensures) (count .put-decimal .ensures .0) in
-    let p2 = puts-more _ _ _ _ _ _ _ _ h p1 (last .put2 .ensures) in
-    (p2, omega arith)
+    let at-feed = c .before .before in
+    let at-count = at-feed .before .before .before .before .before in
+    let at-word = at-count .before .before .before .before in
+    let a = at-word .before .before .before .before .args in
+    let word = at-word .put .ensures in
+    let count = at-count .put-decimal .ensures in
+    let feed = at-feed .put2 .ensures in
+    let within : a .at ≤ length (a .out .now) = omega arith in
+    (puts-in-turn within (begun ▸ word ▸ count .0 ▸ feed), omega arith)
 
 pub put-listed-spec : {M : Type 1} → statement M
 put-listed-spec =

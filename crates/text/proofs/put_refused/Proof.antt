@@ -1,43 +1,28 @@
--- Five parts, each put where the one before it ends: the refusal's word and number, its place behind `at`.
+-- Two words, two numbers and a line feed are put in turn; how long the line is, is not promised.
 use Prim.Native.Nat.{_≤_}
 use lib.ListN.{length}
 use native.Mathlib.Omega.{arith}
-use Rattle.text.proofs.Putting.{puts-more}
+use Rattle.text.proofs.Putting.{begun, _▸_, puts-in-turn}
 use borrow.Author.Needs.{needs}
 use Rattle.text.proofs.put_refused.Statement.{statement}
 use Rattle.text.proofs.put_refused.Tie as tie
 
-abbrev entry : tie.After-put → tie.Start
-entry c = c .before .before .before .before
-
-abbrev named : tie.After-put-decimal → tie.After-put
-named c = c .before .before .before .before
-
-abbrev numbered : tie.After-put2 → tie.After-put-decimal
-numbered c = c .before .before .before .before .before
-
-abbrev joined : tie.After-put-decimal2 → tie.After-put2
-joined c = c .before .before .before .before
-
-abbrev placed : tie.After-put3 → tie.After-put-decimal2
-placed c = c .before .before .before .before .before
-
-within : (s : tie.Start) → s .args .at ≤ length (s .args .out .now)
-within s = omega arith
-
--- The two words, the number, the place and the line feed are put, one behind the other.
+-- The five texts are the line of the refusal.
 returns : tie.Need-returns
 returns c =
-    let last = c .before .before in
-    let place = placed last in
-    let at-word = joined place in
-    let number = numbered at-word in
-    let word = named number in
-    let h = within (entry word) in
-    let p1 = puts-more _ _ _ _ _ _ _ _ h (word .put .ensures) (number .put-decimal .ensures .0) in
-    let p2 = puts-more _ _ _ _ _ _ _ _ h p1 (at-word .put2 .ensures) in
-    let p3 = puts-more _ _ _ _ _ _ _ _ h p2 (place .put-decimal2 .ensures .0) in
-    puts-more _ _ _ _ _ _ _ _ h p3 (last .put3 .ensures)
+    let at-feed = c .before .before in
+    let at-place = at-feed .before .before .before .before .before in
+    let at-word = at-place .before .before .before .before in
+    let at-number = at-word .before .before .before .before .before in
+    let at-name = at-number .before .before .before .before in
+    let a = at-name .before .before .before .before .args in
+    let name = at-name .put .ensures in
+    let number = at-number .put-decimal .ensures in
+    let word = at-word .put2 .ensures in
+    let place = at-place .put-decimal2 .ensures in
+    let feed = at-feed .put3 .ensures in
+    let within : a .at ≤ length (a .out .now) = omega arith in
+    puts-in-turn within (begun ▸ name ▸ number .0 ▸ word ▸ place .0 ▸ feed)
 
 pub put-refused-spec : {M : Type 1} → statement M
 put-refused-spec =

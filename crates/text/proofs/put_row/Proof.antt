@@ -1,48 +1,43 @@
--- Five parts, each put where the one before it ends: the score and the message, each behind its word.
+-- The score and the message stand in one line: five texts are put in turn, none longer than its room.
 use Prim.Native.Nat.{_≤_}
 use lib.ListN.{length}
 use native.Mathlib.Omega.{arith}
-use Rattle.text.proofs.Putting.{puts-more}
+use Rattle.text.proofs.Putting.{begun, _▸_, puts-in-turn}
 use borrow.Author.Needs.{needs}
 use Rattle.text.proofs.put_row.Statement.{statement}
 use Rattle.text.proofs.put_row.Tie as tie
 
+-- each part is put where the one before it ended, from the message back
+abbrev at-word : tie.After-put-symbols → tie.After-put2
+at-word message = message .before .before .before .before
+
+abbrev at-score : tie.After-put2 → tie.After-put-decimal
+at-score word = word .before .before .before .before .before
+
+abbrev at-name : tie.After-put-decimal → tie.After-put
+at-name score = score .before .before .before .before
+
 abbrev entry : tie.After-put → tie.Start
-entry c = c .before .before .before .before .before
+entry name = name .before .before .before .before .before
 
-abbrev named : tie.After-put-decimal → tie.After-put
-named c = c .before .before .before .before
-
-abbrev scored : tie.After-put2 → tie.After-put-decimal
-scored c = c .before .before .before .before .before
-
-abbrev joined : tie.After-put-symbols → tie.After-put2
-joined c = c .before .before .before .before
-
-abbrev written : tie.After-put-arg6 → tie.After-put-symbols
-written c = c .before .before .before .before
-
+-- the room that the entry asks for lies too far back for omega to find it
 put-requires-3 : tie.Need-put-requires-3
-put-requires-3 c κs = let s = entry (named (scored (joined (written c)))) in omega arith
+put-requires-3 c κs =
+    let at-start = entry (at-name (at-score (at-word (c .before .before .before .before)))) in
+    omega arith
 
-within : (s : tie.Start) → s .args .at ≤ length (s .args .out .now)
-within s = omega arith
-
--- Score and message, each behind its word, and the line feed are put; together they have room.
+-- The five texts are the line of the row, and each of them ends within its room.
 returns : tie.Need-returns
 returns c =
-    let last = c .before .before in
-    let message = written (last .before) in
-    let message-word = joined message in
-    let score = scored message-word in
-    let word = named score in
-    let s = entry word in
-    let h = within s in
-    let p1 = puts-more _ _ _ _ _ _ _ _ h (word .put .ensures) (score .put-decimal .ensures .0) in
-    let p2 = puts-more _ _ _ _ _ _ _ _ h p1 (message-word .put2 .ensures) in
-    let p3 = puts-more _ _ _ _ _ _ _ _ h p2 (message .put-symbols .ensures .0) in
-    let p4 = puts-more _ _ _ _ _ _ _ _ h p3 (last .put3 .ensures) in
-    (p4, omega arith)
+    let feed = c .before .before in
+    let message = feed .before .before .before .before .before in
+    let word = at-word message in
+    let score = at-score word in
+    let name = at-name score in
+    let at-start = entry name in
+    let within : at-start .args .at ≤ length (at-start .args .out .now) = omega arith in
+    let line = begun ▸ name .put .ensures ▸ score .put-decimal .ensures .0 ▸ word .put2 .ensures ▸ message .put-symbols .ensures .0 ▸ feed .put3 .ensures in
+    (puts-in-turn within line, omega arith)
 
 pub put-row-spec : {M : Type 1} → statement M
 put-row-spec =

@@ -1,8 +1,9 @@
--- The digits of each branch are the text in the alphabet that it knows, and go back to the call's.
+-- The digits that are put are the page's text of the symbol on the alphabet that the branch knows.
 use mathlib.Core.List.{List, [], _∷_}
-use mathlib.Core.Path.{_≡_, sym, ap, ap₂, subst}
-use Prim.Native.Nat.{ℕ, _+_}
+use mathlib.Core.Path.{_≡_, sym, _∙_, ap, ap₂, subst}
+use Prim.Native.Nat.{ℕ, _+_, _≤_}
 use native.Mathlib.Omega.{arith}
+use lib.ListN.{length}
 use Rattle.alphabet.specs.Codes.{codeOn}
 use Rattle.alphabet.specs.declared.Alphabet.{Alphabet}
 use Rattle.text.specs.Text.{symbolText, Puts}
@@ -10,34 +11,40 @@ use borrow.Author.Needs.{needs}
 use Rattle.text.proofs.put_symbol.Statement.{statement}
 use Rattle.text.proofs.put_symbol.Tie as tie
 
--- the digits put, of one alphabet
-abbrev Put : tie.Start → ℕ → List ℕ → Alphabet → Type 0
-Put s end after w = Puts (s .args .out .now) (s .args .at) (symbolText (codeOn w) (s .args .x)) end after
+abbrev textOn : Alphabet → tie.Start → List ℕ
+textOn w at-start = symbolText (codeOn w) (at-start .args .x)
 
--- The alphabet has thirty-two symbols, whose text is two digits.
+-- both promises, from the digits that were put: on the alphabet w they are the symbol's text
+digits-put : (at-start : tie.Start) (w : Alphabet) (digits after : List ℕ) (end : ℕ)
+    → (let a = at-start .args in
+    a .alphabet ≡ w → digits ≡ textOn w at-start → length digits ≤ 2 → Puts (a .out .now) (a .at) digits end after
+    → Puts (a .out .now) (a .at) (textOn (a .alphabet) at-start) end after × (end ≤ a .at + 2))
+digits-put at-start w digits after end on same few puts =
+    let a = at-start .args in
+    let e : digits ≡ textOn (a .alphabet) at-start = same ∙ ap (λ (v : Alphabet). textOn v at-start) (sym on) in
+    let last : end ≡ a .at + length digits = puts .0 in
+    (subst (λ (words : List ℕ). Puts (a .out .now) (a .at) words end after) e puts, omega arith)
+
+-- Thirty-two symbols: two digits are put.
 returns : tie.Need-returns
 returns c =
-    let p = c .before .before in
-    let second = p .before .before .before in
+    let at-put = c .before .before in
+    let second = at-put .before .before .before in
     let first = second .before in
-    let t = first .before in
-    let s = t .before .before .before in
+    let at-alphabet = first .before in
+    let at-start = at-alphabet .before .before .before in
     let two = ap₂ (λ (a b : ℕ). a ∷ b ∷ []) (first .digit .ensures) (second .digit2 .ensures) in
-    let words = subst (λ (u : List ℕ). Puts (s .args .out .now) (s .args .at) u (p .put .result) (p .put .last .0)) two (p .put .ensures) in
-    let e : p .put .result ≡ s .args .at + 2 = p .put .ensures .0 in
-    (subst (Put s (p .put .result) (p .put .last .0)) (sym (t .enum-told .given .1)) words, omega arith)
+    digits-put at-start _ _ (at-put .put .last .0) (at-put .put .result) (at-alphabet .enum-told .given .1) two (omega arith) (at-put .put .ensures)
 
--- The alphabet has sixteen symbols, whose text is one digit.
+-- Sixteen symbols: one digit is put.
 returns-2 : tie.Need-returns-2
 returns-2 c =
-    let p = c .before .before in
-    let last = p .before .before .before in
-    let t = last .before in
-    let s = t .before .before .before in
-    let one = ap (λ (a : ℕ). a ∷ []) (last .digit3 .ensures) in
-    let words = subst (λ (u : List ℕ). Puts (s .args .out .now) (s .args .at) u (p .put2 .result) (p .put2 .last .0)) one (p .put2 .ensures) in
-    let e : p .put2 .result ≡ s .args .at + 1 = p .put2 .ensures .0 in
-    (subst (Put s (p .put2 .result) (p .put2 .last .0)) (sym (t .enum-told2 .given .1)) words, omega arith)
+    let at-put = c .before .before in
+    let first = at-put .before .before .before in
+    let at-alphabet = first .before in
+    let at-start = at-alphabet .before .before .before in
+    let one = ap (λ (a : ℕ). a ∷ []) (first .digit3 .ensures) in
+    digits-put at-start _ _ (at-put .put2 .last .0) (at-put .put2 .result) (at-alphabet .enum-told2 .given .1) one (omega arith) (at-put .put2 .ensures)
 
 pub put-symbol-spec : {M : Type 1} → statement M
 put-symbol-spec =

@@ -1,4 +1,5 @@
--- A refusal is its number and place.
+-- A refusal tells its number and its place; here the place has sixty-four bits, so nothing is asked
+-- of it, and the number is below 256.
 use mathlib.Core.Path.{sym, _∙_, ap₂}
 use Rattle.definitions.specs.Answers.{refused}
 use Rattle.refusals.proofs.Chain.{told-is}
@@ -6,6 +7,8 @@ use borrow.Author.Needs.{needs}
 use Rattle.crossing.proofs.judgements.refused.Statement.{statement}
 use Rattle.crossing.proofs.judgements.refused.Tie as tie
 
+-- The only end: the number is narrowed and the place is widened, and both stay what the refusal
+-- tells.
 returns : tie.Need-returns
 returns c =
     let number = c .before in

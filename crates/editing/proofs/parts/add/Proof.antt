@@ -1,5 +1,5 @@
--- The chain tries the sizes and the stored numbers of both records; the line for entries above 5 is
--- add_right's.
+-- Two lines of sizes and one for each record's stored numbers are a chain; the last line, of the
+-- entries of both and of their sum, is tried by `add_right`, with what it writes.
 use mathlib.Core.Bool.{true}
 use mathlib.Core.List.{List, [], _∷_}
 use mathlib.Core.Path.{_≡_}
@@ -14,6 +14,7 @@ use Rattle.definitions.specs.Field.{Code}
 use Rattle.definitions.specs.Held.{Held, held, heldOf, withAdded, rightly}
 use Rattle.definitions.specs.Refusals.{Line, size}
 use Rattle.matrix.proofs.Record.{stored-tried}
+use Rattle.editing.proofs.After.{parts-promised}
 use Rattle.edits.proofs.Edits.{edit-refused, edit-goes-on}
 use Rattle.refusals.proofs.Chain.{Came, start, _▸_, accepted}
 use Rattle.refusals.specs.Checked.{toldChecked}
@@ -23,12 +24,12 @@ use Rattle.editing.proofs.parts.add.Tie as tie
 abbrev code : tie.Start → Code
 code s = codeOn (s .args .alphabet)
 
--- the check of the sizes, and the entry, from the last check
-abbrev at-sizes : tie.After-or3 → tie.After-or
-at-sizes c = let first-stored = c .before .before in first-stored .before .before .before .before
+-- where both sizes are checked
+abbrev sizes : tie.After-or3 → tie.After-or
+sizes c = let first-right = c .before .before in first-right .before .before .before .before
 
 abbrev entry : tie.After-or3 → tie.Start
-entry c = let at-size = at-sizes c .before in at-size .before .before .before .before .before
+entry c = let at-size = sizes c .before in at-size .before .before .before .before .before
 
 abbrev handed : tie.Start → Held
 handed s = held (s .args .n) (s .args .cost) (s .args .totals .now) (s .args .entries .now)
@@ -36,17 +37,16 @@ handed s = held (s .args .n) (s .args .cost) (s .args .totals .now) (s .args .en
 abbrev other : tie.Start → Held
 other s = held (s .args .other-n) (s .args .other-cost) (s .args .other-totals .now) (s .args .other-entries .now)
 
--- the lines that are tried here, and the one that is left
 abbrev front : tie.Start → List Line
 front s = size (code s) (s .args .n) ∷ sameSize (s .args .n) (s .args .other-n) ∷ stored (code s) (handed s) ∷ stored (code s) (other s) ∷ []
 
 abbrev sum : tie.Start → List ℕ
 sum s = withAdded (s .args .entries .now) (s .args .other-entries .now)
 
-abbrev left : tie.Start → List Line
-left s = inOrOut (code s) (s .args .entries .now ∷ s .args .other-entries .now ∷ sum s ∷ []) ∷ []
+-- the line that is left, and the record where nothing is refused
+abbrev rest : tie.Start → List Line
+rest s = inOrOut (code s) (s .args .entries .now ∷ s .args .other-entries .now ∷ sum s ∷ []) ∷ []
 
--- the record that comes of it
 abbrev after : tie.Start → Held
 after s = heldOf (code s) (s .args .n) (sum s)
 
@@ -54,41 +54,40 @@ came : (c : tie.After-or3) → Came (front (entry c)) [] (toldChecked (c .or3 .r
 came c =
     let s = entry c in
     let second = c .before in
-    let at-first = second .before in
-    let first = at-first .before in
-    let sizes = at-sizes c in
-    start ▸ sizes .before .size .ensures ▸ sizes .or .ensures
-    ▸ stored-tried (code s) (handed s) (toldChecked (sizes .or .result)) (at-first .or2 .ensures) (first .rightly .ensures)
-    ▸ stored-tried (code s) (other s) (toldChecked (at-first .or2 .result)) (c .or3 .ensures) (second .rightly2 .ensures)
+    let tried = second .before in
+    let first = tried .before in
+    let sized = sizes c in
+    start ▸ sized .before .size .ensures ▸ sized .or .ensures
+    ▸ stored-tried (code s) (handed s) (toldChecked (sized .or .result)) (tried .or2 .ensures) (first .rightly .ensures)
+    ▸ stored-tried (code s) (other s) (toldChecked (tried .or2 .result)) (c .or3 .ensures) (second .rightly2 .ensures)
 
--- A check has refused: its refusal is answered, and the first record's memory is as it was.
+-- The chain refuses: its refusal is that of the table, and the parts are as they came.
 returns : tie.Need-returns
 returns c =
-    let tried = c .before .before .before in
-    let s = entry tried in
-    let d = edit-refused (came tried) (left s) (handed s) (after s) (c .before .checked .given .1) in
-    (d .answered, (d .totals-are, d .entries-are))
+    let checked = c .before .before .before in
+    let s = entry checked in
+    parts-promised (edit-refused (came checked) (rest s) (handed s) (after s) (c .before .checked .given .1))
 
+-- what passes the chain has the right numbers, both records
 fits : (s : tie.Start) → Accepts (front s) → (rightly (code s) (handed s) ≡ true) × (rightly (code s) (other s) ≡ true)
 fits s (next n (next m (next h (next o end)))) = (not-false _ h, not-false _ o)
 
 add-right-requires : tie.Need-add-right-requires
 add-right-requires c κs =
-    let t = c .before .before in
-    let tried = t .before .before in
-    let s = entry tried in
-    let f = fits s (accepted (came tried) (t .enum-told .given .1)) in
-    (f .0, rightly-means (code s) (other s) (f .1) .full)
+    let passed = c .before .before in
+    let checked = passed .before .before in
+    let s = entry checked in
+    let right = fits s (accepted (came checked) (passed .enum-told .given .1)) in
+    (right .0, rightly-means (code s) (other s) (right .1) .full)
 
--- All checks have passed: what add_right makes of the line that is left is the table's.
+-- The chain is passed: what `add_right` promises of the last line is what the whole table makes.
 returns-2 : tie.Need-returns-2
 returns-2 c =
-    let at-add = c .before .before .before .before in
-    let t = at-add .before .before .before in
-    let tried = t .before .before in
-    let s = entry tried in
-    let d = edit-goes-on (came tried) (left s) (handed s) (after s) (t .enum-told .given .1) (at-add .add-right .ensures) in
-    (d .answered, (d .totals-are, d .entries-are))
+    let done = c .before .before .before .before in
+    let passed = done .before .before .before in
+    let checked = passed .before .before in
+    let s = entry checked in
+    parts-promised (edit-goes-on (came checked) (rest s) (handed s) (after s) (passed .enum-told .given .1) (done .add-right .ensures))
 
 pub add-spec : {M : Type 1} → statement M
 add-spec =

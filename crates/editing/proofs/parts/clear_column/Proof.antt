@@ -1,5 +1,5 @@
--- The chain tries the position and the stored numbers; the line for entries above 5 is
--- clear_right's.
+-- The lines of size, position and stored numbers are a chain; the last line, of the entries before
+-- and after the clearing, is tried by `clear_right`, with what it writes.
 use mathlib.Core.Bool.{true}
 use mathlib.Core.List.{List, [], _∷_}
 use mathlib.Core.Path.{_≡_, refl}
@@ -14,6 +14,7 @@ use Rattle.definitions.specs.Field.{Code}
 use Rattle.definitions.specs.Held.{Held, held, heldOf, withoutColumn, rightly}
 use Rattle.definitions.specs.Refusals.{Line, size}
 use Rattle.matrix.proofs.Record.{stored-tried}
+use Rattle.editing.proofs.After.{parts-promised}
 use Rattle.edits.proofs.Edits.{edit-refused, edit-goes-on}
 use Rattle.refusals.proofs.Chain.{Came, start, _▸_, accepted}
 use Rattle.refusals.specs.Checked.{toldChecked}
@@ -23,44 +24,42 @@ use Rattle.editing.proofs.parts.clear_column.Tie as tie
 abbrev code : tie.Start → Code
 code s = codeOn (s .args .alphabet)
 
--- the first check, and the entry, from the last check
-abbrev at-placed : tie.After-or → tie.After-placed
-at-placed c = c .before .before .before .before
+abbrev placed : tie.After-or → tie.After-placed
+placed c = c .before .before .before .before
 
 abbrev entry : tie.After-or → tie.Start
-entry c = at-placed c .before .before .before
+entry c = placed c .before .before .before
 
 abbrev handed : tie.Start → Held
 handed s = held (s .args .n) (s .args .cost) (s .args .totals .now) (s .args .entries .now)
 
--- the lines that are tried here, and the one that is left
 abbrev front : tie.Start → List Line
 front s = size (code s) (s .args .n) ∷ position (s .args .n) (s .args .position) ∷ stored (code s) (handed s) ∷ []
 
 abbrev cleared : tie.Start → List ℕ
 cleared s = withoutColumn (code s) (s .args .entries .now) (s .args .position)
 
-abbrev left : tie.Start → List Line
-left s = inOrOut (code s) (s .args .entries .now ∷ cleared s ∷ []) ∷ []
+-- the line that is left, and the record where nothing is refused
+abbrev rest : tie.Start → List Line
+rest s = inOrOut (code s) (s .args .entries .now ∷ cleared s ∷ []) ∷ []
 
--- the record that comes of it
 abbrev after : tie.Start → Held
 after s = heldOf (code s) (s .args .n) (cleared s)
 
 came : (c : tie.After-or) → Came (front (entry c)) [] (toldChecked (c .or .result))
 came c =
     let s = entry c in
-    let placed = at-placed c .placed in
-    start ▸ refl ▸ placed .ensures ▸ stored-tried (code s) (handed s) (toldChecked (placed .result)) (c .or .ensures) (c .before .rightly .ensures)
+    let at-place = placed c .placed in
+    start ▸ refl ▸ at-place .ensures ▸ stored-tried (code s) (handed s) (toldChecked (at-place .result)) (c .or .ensures) (c .before .rightly .ensures)
 
--- A check has refused: its refusal is answered, and the record's memory is as it was.
+-- The chain refuses: its refusal is that of the table, and the parts are as they came.
 returns : tie.Need-returns
 returns c =
-    let tried = c .before .before .before in
-    let s = entry tried in
-    let d = edit-refused (came tried) (left s) (handed s) (after s) (c .before .checked .given .1) in
-    (d .answered, (d .totals-are, d .entries-are))
+    let checked = c .before .before .before in
+    let s = entry checked in
+    parts-promised (edit-refused (came checked) (rest s) (handed s) (after s) (c .before .checked .given .1))
 
+-- what the lines of the chain say where they are passed
 record Fit (s : tie.Start) : Type 0 where
   sized : (2 ≤ s .args .n) × (s .args .n ≤ code s .positions)
   at : s .args .position < s .args .n
@@ -73,22 +72,20 @@ fits s (next n (next p (next h end))) = record {
   right = not-false _ h;
 }
 
-clear-right-requires : tie.Need-clear-right-requires
-clear-right-requires c κs =
-    let t = c .before .before in
-    let tried = t .before .before in
-    let f = fits (entry tried) (accepted (came tried) (t .enum-told .given .1)) in
-    ((f .sized .1, f .at), f .right)
+fit : (passed : tie.After-enum-told) → Fit (entry (passed .before .before))
+fit passed = let checked = passed .before .before in fits (entry checked) (accepted (came checked) (passed .enum-told .given .1))
 
--- All checks have passed: what clear_right makes of the line that is left is the table's.
+clear-right-requires : tie.Need-clear-right-requires
+clear-right-requires c κs = let f = fit (c .before .before) in ((f .sized .1, f .at), f .right)
+
+-- The chain is passed: what `clear_right` promises of the last line is what the whole table makes.
 returns-2 : tie.Need-returns-2
 returns-2 c =
-    let at-clear = c .before .before .before .before in
-    let t = at-clear .before .before .before in
-    let tried = t .before .before in
-    let s = entry tried in
-    let d = edit-goes-on (came tried) (left s) (handed s) (after s) (t .enum-told .given .1) (at-clear .clear-right .ensures) in
-    (d .answered, (d .totals-are, d .entries-are))
+    let done = c .before .before .before .before in
+    let passed = done .before .before .before in
+    let checked = passed .before .before in
+    let s = entry checked in
+    parts-promised (edit-goes-on (came checked) (rest s) (handed s) (after s) (passed .enum-told .given .1) (done .clear-right .ensures))
 
 pub clear-column-spec : {M : Type 1} → statement M
 clear-column-spec =

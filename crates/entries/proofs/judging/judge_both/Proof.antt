@@ -1,5 +1,5 @@
--- The settings are put together from their numbers, and the verdict on two lists crosses whatever its
--- place is: a judgement has sixty-four bits for it.
+-- The settings are put together from their numbers, and the verdict on two lists crosses whatever
+-- its place is: a judgement has sixty-four bits for it.
 use mathlib.Core.Path.{_∙_}
 use borrow.Author.Needs.{needs}
 use Rattle.entries.proofs.judging.judge_both.Statement.{statement}

@@ -8,8 +8,8 @@ use Rattle.entries.proofs.planning.check_plan.Tie as tie
 
 planned-requires : tie.Need-planned-requires
 planned-requires c κs =
-    let at-start = c .before .before .before in
-    let a = at-start .args in
+    let entry = c .before .before .before in
+    let a = entry .args in
     rw (c .check-plan .ensures) (check-narrow (a .alphabet) (a .n) (a .steps) (a .reliabilities .now) (a .plan .now))
 
 -- The only end: what crosses to C is what `planner::check_plan` answered.

@@ -9,13 +9,13 @@ use Rattle.entries.proofs.planning.list_of_plan.Tie as tie
 abbrev at-call : tie.After-slice-known4 → tie.After-list-of-plan
 at-call c = c .before .before .before .before
 
-abbrev at-start : tie.After-list-of-plan → tie.Start
-at-start c = let at-lending = c .before .before .before in at-lending .before .before .before .before
+abbrev entry : tie.After-list-of-plan → tie.Start
+entry c = let at-lending = c .before .before .before in at-lending .before .before .before .before
 
 counted-requires : tie.Need-counted-requires
 counted-requires c κs =
     let called = at-call c in
-    let a = at-start called .args in
+    let a = entry called .args in
     let promised = called .list-of-plan .ensures in
     few-fit (promised .0) (promised .1 .1 .1) (plan-list-narrow (a .alphabet) (a .n) (a .k) (a .limit) (a .steps) (a .reliabilities .now) (a .plan .now) (a .rows .now) (a .scores .now))
 

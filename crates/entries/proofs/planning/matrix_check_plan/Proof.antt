@@ -1,5 +1,5 @@
--- As for a plan in bytes, the value is at most 75; a refusal names an entry of the record, which has as
--- many as there are places, or a position: the value and the place fit sixteen bits.
+-- As for a plan in bytes, the value is at most 75; a refusal names an entry of the record, which
+-- has as many as there are places, or a position: the value and the place fit sixteen bits.
 use mathlib.Core.Path.{_∙_}
 use Rattle.definitions.specs.Held.{held}
 use Rattle.entries.proofs.PlanFits.{held-check-narrow}
@@ -9,8 +9,8 @@ use Rattle.entries.proofs.planning.matrix_check_plan.Tie as tie
 
 planned-requires : tie.Need-planned-requires
 planned-requires c κs =
-    let at-start = c .before .before .before .before in
-    let a = at-start .args in
+    let entry = c .before .before .before .before in
+    let a = entry .args in
     let h = held (a .n) (a .cost) (a .totals .now) (a .entries .now) in
     rw (c .check-plan-of-parts .ensures) (held-check-narrow (a .alphabet) h (a .steps) (a .reliabilities .now))
 

@@ -1,5 +1,5 @@
--- The list of a plan that is held in a record is promised to have at most 20 rows; a refusal names an
--- entry of the record or a position: the count and the place fit sixteen bits.
+-- The list of a plan that is held in a record is promised to have at most 20 rows; a refusal names
+-- an entry of the record or a position: the count and the place fit sixteen bits.
 use Rattle.definitions.specs.Held.{held}
 use Rattle.entries.proofs.Crossed.{few-fit, list-crosses}
 use Rattle.entries.proofs.PlanFits.{held-plan-list-narrow}
@@ -10,19 +10,19 @@ use Rattle.entries.proofs.planning.matrix_list_of_plan.Tie as tie
 abbrev at-call : tie.After-slice-known4 → tie.After-list-of-plan-of-parts
 at-call c = c .before .before .before .before
 
-abbrev at-start : tie.After-list-of-plan-of-parts → tie.Start
-at-start c = let at-lending = c .before .before .before in at-lending .before .before .before .before .before
+abbrev entry : tie.After-list-of-plan-of-parts → tie.Start
+entry c = let at-lending = c .before .before .before in at-lending .before .before .before .before .before
 
 counted-requires : tie.Need-counted-requires
 counted-requires c κs =
     let called = at-call c in
-    let a = at-start called .args in
+    let a = entry called .args in
     let h = held (a .n) (a .cost) (a .totals .now) (a .entries .now) in
     let promised = called .list-of-plan-of-parts .ensures in
     few-fit (promised .0) (promised .1 .1 .1) (held-plan-list-narrow (a .alphabet) h (a .k) (a .limit) (a .steps) (a .reliabilities .now) (a .rows .now) (a .scores .now))
 
--- The only end: what crosses to C is what `offers::list_of_plan_of_parts` answered, and its promises
--- of both memories and of few rows are handed on.
+-- The only end: what crosses to C is what `offers::list_of_plan_of_parts` answered, and its
+-- promises of both memories and of few rows are handed on.
 returns : tie.Need-returns
 returns c = list-crosses (c .counted .ensures) (at-call (c .before) .list-of-plan-of-parts .ensures)
 

@@ -8,16 +8,17 @@ use Rattle.entries.proofs.planning.plan.Tie as tie
 abbrev at-call : tie.After-slice-known2 → tie.After-plan
 at-call c = c .before .before
 
-abbrev at-start : tie.After-plan → tie.Start
-at-start c = c .before .before .before .before
+abbrev entry : tie.After-plan → tie.Start
+entry c = c .before .before .before .before
 
 planned-requires : tie.Need-planned-requires
 planned-requires c κs =
     let called = at-call c in
-    let a = at-start called .args in
+    let a = entry called .args in
     rw (called .plan .ensures .0) (plan-narrow (a .alphabet) (a .n) (a .steps) (a .reliabilities .now) (a .out .now))
 
--- The only end: what crosses to C is what `planner::plan` answered, and the memory is as that left it.
+-- The only end: what crosses to C is what `planner::plan` answered, and the memory is as that left
+-- it.
 returns : tie.Need-returns
 returns c = rw (c .planned .ensures) (at-call (c .before) .plan .ensures)
 

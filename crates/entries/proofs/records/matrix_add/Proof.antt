@@ -1,5 +1,5 @@
--- The sum of two records has the places of the first, and none above 5 where it is accepted: its cost
--- is small. A refusal names a place of a record. Both numbers fit sixteen bits.
+-- The sum of two records has as many entries as the first, and none above 5 where the call is
+-- accepted: its cost is small. A refusal names a place of a record. Both numbers fit sixteen bits.
 use Rattle.definitions.specs.Held.{held}
 use Rattle.entries.proofs.RecordFits.{add-narrow}
 use borrow.Author.Needs.{needs}
@@ -9,13 +9,13 @@ use Rattle.entries.proofs.records.matrix_add.Tie as tie
 abbrev at-call : tie.After-slice-known4 → tie.After-add
 at-call c = c .before .before .before .before
 
-abbrev at-start : tie.After-add → tie.Start
-at-start c = let at-lending = c .before .before .before in at-lending .before .before .before .before
+abbrev entry : tie.After-add → tie.Start
+entry c = let at-lending = c .before .before .before in at-lending .before .before .before .before
 
 priced-requires : tie.Need-priced-requires
 priced-requires c κs =
     let called = at-call c in
-    let a = at-start called .args in
+    let a = entry called .args in
     let h = held (a .n) (a .cost) (a .totals .now) (a .entries .now) in
     let o = held (a .other-n) (a .other-cost) (a .other-totals .now) (a .other-entries .now) in
     rw (called .add .ensures .0) (add-narrow (a .alphabet) h o)

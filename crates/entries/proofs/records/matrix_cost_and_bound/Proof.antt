@@ -1,5 +1,6 @@
--- A record that is accepted has no entry above 5, so its cost is small, and so is that of its bytes;
--- the bound is not above it, and a refusal names a place of the record: all fit sixteen bits.
+-- A record that is accepted has no entry above 5, so its cost is small, and so is that of its
+-- bytes; the bound is not above it, and a refusal names a place of the record: all fit sixteen
+-- bits.
 use mathlib.Core.Path.{_∙_}
 use Rattle.definitions.specs.Held.{held}
 use Rattle.entries.proofs.RecordFits.{held-cost-narrow}
@@ -9,8 +10,8 @@ use Rattle.entries.proofs.records.matrix_cost_and_bound.Tie as tie
 
 costed-requires : tie.Need-costed-requires
 costed-requires c κs =
-    let at-start = c .before .before .before in
-    let a = at-start .args in
+    let entry = c .before .before .before in
+    let a = entry .args in
     let h = held (a .n) (a .cost) (a .totals .now) (a .entries .now) in
     rw (c .cost-and-bound-of-parts .ensures) (held-cost-narrow (a .alphabet) h (a .k))
 

@@ -7,17 +7,17 @@ use Rattle.entries.proofs.records.matrix_fresh.Tie as tie
 abbrev at-call : tie.After-slice-known4 → tie.After-fresh
 at-call c = c .before .before .before .before
 
-abbrev at-start : tie.After-fresh → tie.Start
-at-start c = c .before .before .before .before .before
+abbrev entry : tie.After-fresh → tie.Start
+entry c = c .before .before .before .before .before
 
 priced-requires : tie.Need-priced-requires
 priced-requires c κs =
     let called = at-call c in
-    let a = at-start called .args in
+    let a = entry called .args in
     rw (called .fresh .ensures .0) (fresh-narrow (a .alphabet) (a .n) (a .totals .now) (a .entries .now))
 
--- The only end: what crosses to C is what `editing::parts::fresh` answered, and both memories are as
--- that left them.
+-- The only end: what crosses to C is what `editing::parts::fresh` answered, and both memories are
+-- as that left them.
 returns : tie.Need-returns
 returns c = rw (c .priced .ensures) (at-call (c .before) .fresh .ensures)
 

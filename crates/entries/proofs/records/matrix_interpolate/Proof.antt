@@ -1,5 +1,6 @@
--- The cost of the record's bytes is within the limit, hence within 225; the bound is not above it, and
--- there are at most 246 coefficients; a refusal names a place of the record: all fit sixteen bits.
+-- The cost of the record's bytes is within the limit, hence within 225; the bound is not above it,
+-- and there are at most 246 coefficients; a refusal names a place of the record: all fit sixteen
+-- bits.
 use Rattle.definitions.specs.Held.{held}
 use Rattle.entries.proofs.RecordFits.{held-interpolation-narrow}
 use borrow.Author.Needs.{needs}
@@ -9,17 +10,18 @@ use Rattle.entries.proofs.records.matrix_interpolate.Tie as tie
 abbrev at-call : tie.After-slice-known2 → tie.After-interpolate-parts
 at-call c = c .before .before
 
-abbrev at-start : tie.After-interpolate-parts → tie.Start
-at-start c = c .before .before .before .before .before
+abbrev entry : tie.After-interpolate-parts → tie.Start
+entry c = c .before .before .before .before .before
 
 interpolated-requires : tie.Need-interpolated-requires
 interpolated-requires c κs =
     let called = at-call c in
-    let a = at-start called .args in
+    let a = entry called .args in
     let h = held (a .n) (a .cost) (a .totals .now) (a .entries .now) in
     held-interpolation-narrow (a .alphabet) h (a .k) (a .limit) (a .out .now) _ _ (called .interpolate-parts .ensures)
 
--- The only end: what `interpolation::interpolate_parts` promises of its answer is true of what crosses.
+-- The only end: what `interpolation::interpolate_parts` promises of its answer is true of what
+-- crosses.
 returns : tie.Need-returns
 returns c = rw (c .interpolated .ensures) (at-call (c .before) .interpolate-parts .ensures)
 

@@ -1,5 +1,5 @@
--- The list of a record is promised to have at most 20 rows, and a refusal names a place of the record:
--- the count and the place fit sixteen bits.
+-- The list of a record is promised to have at most 20 rows, and a refusal names a place of the
+-- record: the count and the place fit sixteen bits.
 use Rattle.definitions.specs.Held.{held}
 use Rattle.entries.proofs.Crossed.{few-fit, list-crosses}
 use Rattle.entries.proofs.RecordFits.{held-list-narrow}
@@ -10,13 +10,13 @@ use Rattle.entries.proofs.records.matrix_list.Tie as tie
 abbrev at-call : tie.After-slice-known4 → tie.After-list-of-parts
 at-call c = c .before .before .before .before
 
-abbrev at-start : tie.After-list-of-parts → tie.Start
-at-start c = let at-lending = c .before .before .before in at-lending .before .before .before .before
+abbrev entry : tie.After-list-of-parts → tie.Start
+entry c = let at-lending = c .before .before .before in at-lending .before .before .before .before
 
 counted-requires : tie.Need-counted-requires
 counted-requires c κs =
     let called = at-call c in
-    let a = at-start called .args in
+    let a = entry called .args in
     let h = held (a .n) (a .cost) (a .totals .now) (a .entries .now) in
     let promised = called .list-of-parts .ensures in
     few-fit (promised .0) (promised .1 .1 .1) (held-list-narrow (a .alphabet) h (a .k) (a .limit) (a .rows .now) (a .scores .now))

@@ -8,17 +8,17 @@ use Rattle.entries.proofs.records.matrix_of_bytes.Tie as tie
 abbrev at-call : tie.After-slice-known4 → tie.After-of-bytes
 at-call c = c .before .before .before .before
 
-abbrev at-start : tie.After-of-bytes → tie.Start
-at-start c = let at-lending = c .before .before .before in at-lending .before .before .before
+abbrev entry : tie.After-of-bytes → tie.Start
+entry c = let at-lending = c .before .before .before in at-lending .before .before .before
 
 priced-requires : tie.Need-priced-requires
 priced-requires c κs =
     let called = at-call c in
-    let a = at-start called .args in
+    let a = entry called .args in
     rw (called .of-bytes .ensures .0) (bytes-narrow (a .alphabet) (a .n) (a .bytes .now) (a .totals .now) (a .entries .now))
 
--- The only end: what crosses to C is what `editing::parts::of_bytes` answered, and both memories are
--- as that left them.
+-- The only end: what crosses to C is what `editing::parts::of_bytes` answered, and both memories
+-- are as that left them.
 returns : tie.Need-returns
 returns c = rw (c .priced .ensures) (at-call (c .before) .of-bytes .ensures)
 
