@@ -5,10 +5,9 @@ use mathlib.Core.List.{List, [], _∷_, List·Memᴰ, List·Memᴰ·head, List·
 use mathlib.Core.Logic.{_≢_}
 use mathlib.Core.Path.{_≡_, refl, sym, _∙_, ap, ap₂}
 use Prim.Native.Nat.{ℕ, zero, suc, _+_, _-_, _*_, _/_, _≤_, _<_}
-use native.Mathlib.Decide.{decLt}
 use native.Mathlib.Nat.{not-suc-le-zero, mul-comm, mul-suc, mul-add, mul-left-comm, mul-le-mul-right, div-eq-of-lt-le}
 use native.Mathlib.Omega.{arith}
-use borrow.Author.Tests.{eq-eqb, le-ltb, ltb-true}
+use borrow.Author.Tests.{eq-eqb, le-ltb}
 use lib.Dec.{eqb, ltb}
 use lib.ListN.{length, getD}
 use Rattle.algebra.proofs.Elements.{zero-symbol}
@@ -22,16 +21,16 @@ use Rattle.audit.specs.Words.{Message, agreeing}
 use Rattle.definitions.proofs.Above.{above-in-order}
 use Rattle.definitions.proofs.Bound.{bound-above}
 use Rattle.definitions.proofs.Codeword.{length-codeword}
+use Rattle.definitions.proofs.Columns.{columns-pass}
 use Rattle.definitions.proofs.Powers.{count-closed}
 use Rattle.definitions.proofs.Table.{Accepts, next, end, sizes-pass, level-passes}
-use Rattle.definitions.proofs.Tools.{sum-ext, smallest-passes}
+use Rattle.definitions.proofs.Tools.{sum-ext}
 use Rattle.definitions.specs.Bound.{count, bound}
 use Rattle.definitions.specs.Code.{codeword}
 use Rattle.definitions.specs.Field.{Code}
 use Rattle.definitions.specs.Limits.{greatestSum, greatestLevel, greatestLimit, greatestRows}
 use Rattle.definitions.specs.Listing.{listOf}
-use Rattle.definitions.specs.Refusals.{entries, badColumn, columns, readTable}
-use Rattle.definitions.specs.Tools.{smallest}
+use Rattle.definitions.specs.Refusals.{entries, readTable}
 use Rattle.definitions.specs.Weights.{entry, sumOfColumn, entryCost, cost, score}
 use Rattle.starred.proofs.Single.{length-single, single-entry}
 
@@ -133,18 +132,6 @@ module _ (C : Code) (n : ℕ) (word : List ℕ) (size : length word ≡ n) where
       at-most true = omega arith
       at-most false = omega arith
 
-  columns-passed : columns C n (weightsOf C word) .given ≡ false
-  columns-passed =
-      let first = smallest (badColumn C (weightsOf C word)) n in
-      elim (decLt first n) [
-        | yes l ↦
-            let bad = ltb-true greatestSum (sumOfColumn C (weightsOf C word) first) (smallest-passes (badColumn C (weightsOf C word)) n l) in
-            let good = column-sum first l in
-            let z : ⊥ = omega arith in
-            absurd z
-        | no g ↦ le-ltb first n (omega arith)
-      ]
-
   -- so only the cost can refuse it
   pub word-taken : (k L G rows scores : ℕ) → Sizes C n k → (1 ≤ L) × (L ≤ greatestLevel) → G ≤ greatestLimit
       → greatestRows * k ≤ rows → greatestRows ≤ scores → cost (matrixOf C L word) ≤ G → Accepts (readTable C n k L G (weightsOf C word) rows scores)
@@ -156,4 +143,4 @@ module _ (C : Code) (n : ℕ) (word : List ℕ) (size : length word ≡ n) where
       (next (le-ltb greatestLimit G limit)
       (next long
       (next (le-ltb rows (greatestRows * k) rowsRoom)
-      (next (le-ltb scores greatestRows scoresRoom) (next columns-passed (next (le-ltb G (cost (matrixOf C L word)) price) end)))))))
+      (next (le-ltb scores greatestRows scoresRoom) (next (columns-pass C (weightsOf C word) n column-sum) (next (le-ltb G (cost (matrixOf C L word)) price) end)))))))

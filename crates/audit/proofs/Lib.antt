@@ -13,3 +13,5 @@ pub mod Coefficients
 pub mod Factors
 pub mod Laws
 pub mod Desk
+pub mod ReadersSums
+pub mod Sequences

@@ -3,3 +3,5 @@ pub mod Marks
 pub mod Factors
 pub mod Laws
 pub mod Desk
+pub mod ReadersSums
+pub mod Sequences

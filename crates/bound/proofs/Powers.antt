@@ -8,7 +8,7 @@ use native.Mathlib.Decide.{decLt}
 use native.Mathlib.Nat.{div-le-self, div-lt-iff-lt-mul, le-div-iff-mul-le, mul-comm, mul-le-mul, mul-le-mul-right}
 use native.Mathlib.Numerals.{add-one}
 use native.Mathlib.Omega.{arith}
-use Rattle.definitions.proofs.Direct.{direct, largest-is}
+use Rattle.bound.proofs.Direct.{direct, largest-is}
 use Rattle.definitions.proofs.Monomials.{power-within}
 use Rattle.definitions.specs.Bound.{bound}
 

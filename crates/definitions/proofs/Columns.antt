@@ -1,24 +1,17 @@
--- The columns of the reliabilities: which sums are taken, where one is refused, and that an erased mark weighs nothing.
+-- The columns of the reliabilities: which sums are taken, and where one is refused.
 -- Assumes nothing.
 use mathlib.Core.Bool.{true, false}
 use mathlib.Core.List.{List}
-use mathlib.Core.Path.{_≡_, _∙_, ap}
-use Prim.Native.Nat.{ℕ, _+_, _*_, _≤_, _<_}
-use native.Mathlib.Decide.{decLt}
+use mathlib.Core.Path.{_≡_}
+use Prim.Native.Nat.{ℕ, _≤_, _<_}
 use native.Mathlib.Omega.{arith}
 use borrow.Author.Tests.{lt-ltb, le-ltb, ltb-true, ltb-false}
-use lib.ListN.{length, List·getD-eq-default}
-use Rattle.definitions.proofs.Tools.{sum-bound, smallest-fails, smallest-passes}
-use Rattle.definitions.proofs.Weights.{length-matrix, matrix-at}
+use Rattle.definitions.proofs.Tools.{split, smallest-fails, smallest-passes}
 use Rattle.definitions.specs.Field.{Code}
 use Rattle.definitions.specs.Limits.{greatestSum}
 use Rattle.definitions.specs.Refusals.{badColumn, columns}
 use Rattle.definitions.specs.Tools.{smallest}
-use Rattle.definitions.specs.Weights.{entry, sumOfColumn, multiplicity, matrix}
-
--- "A column of zeros is an erased mark" (document 02, order 1): of the reliabilities, or of a matrix
-abbrev pub Erased : Code → List ℕ → ℕ → Type 0
-Erased C r i = (b : ℕ) → b < C .symbols → entry C r i b ≡ 0
+use Rattle.definitions.specs.Weights.{sumOfColumn}
 
 module _ (C : Code) (r : List ℕ) where
   -- "a column may sum to anything from 0 to 4,096"
@@ -45,18 +38,13 @@ module _ (C : Code) (r : List ℕ) where
         λ i h. ltb-false greatestSum (sumOfColumn C r i) (smallest-fails (badColumn C r) n i h),
       )
 
-  -- an erased mark is taken
-  pub erased-taken : (i : ℕ) → Erased C r i → badColumn C r i ≡ false
-  erased-taken i none =
-      let nothing = sum-bound (C .symbols) 0 (entry C r i) (λ b h. rw (none b h) (omega arith)) in column-taken i (omega arith)
-
-  -- "A column of zeros is an erased mark with all multiplicities zero", at every level
-  pub erased-mark : (L i : ℕ) → Erased C r i → Erased C (matrix L r) i
-  erased-mark L i none b h =
-      elim (decLt (C .symbols * i + b) (length r)) [
-        | yes l ↦ matrix-at L r (C .symbols * i + b) l ∙ ap (multiplicity L) (none b h) ∙ nothing
-        | no l ↦ List·getD-eq-default (matrix L r) 0 {n = C .symbols * i + b} (rw (length-matrix L r) (omega arith))
-      ]
-    where
-      nothing : multiplicity L 0 ≡ 0
-      nothing = omega arith
+  -- and where no position's sum is greater the line is passed
+  pub columns-pass : (n : ℕ) → ((i : ℕ) → i < n → sumOfColumn C r i ≤ greatestSum) → columns C n r .given ≡ false
+  columns-pass n good =
+      split (columns C n r .given)
+      (λ y.
+      let bad = columns-refused n y in
+      let high = bad .1 in
+      let low = good (columns C n r .place) (bad .0) in
+      let z : ⊥ = omega arith in absurd z)
+      (λ f. f)

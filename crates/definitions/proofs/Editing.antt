@@ -1,27 +1,24 @@
--- The edits of a matrix record: the lowest place of an entry above 5, what their lines say, and that after any sequence of them the stored
--- numbers are those that the entries define.
+-- The edits of a matrix record: the lowest place of an entry above 5, and what their lines say.
 -- Assumes nothing.
 use mathlib.Core.Bool.{true, false}
 use mathlib.Core.List.{List, [], _∷_}
-use mathlib.Core.Path.{_≡_, refl, sym, _∙_, ap, ap₂}
-use Prim.Native.Nat.{ℕ, _+_, _*_, _≤_, _<_}
+use mathlib.Core.Path.{_≡_, refl, sym, _∙_, ap}
+use Prim.Native.Nat.{ℕ, _+_, _≤_, _<_}
 use native.Mathlib.Decide.{decLt, ℕ-discrete}
-use native.Mathlib.Nat.{mul-suc, mul-add, mul-le-mul-left}
+use native.Mathlib.Nat.{mul-suc, mul-le-mul-left}
 use native.Mathlib.Omega.{arith}
 use borrow.Author.Tests.{ltb-false, leb-false, eqb-true, not-false, lt-ltb, le-ltb}
 use lib.Dec.{eqb, ltb}
-use lib.ListN.{length, getD, drop, set, length-replicate, length-set, List·getD-append, List·getD-eq-default}
+use lib.ListN.{length, getD, set, List·getD-eq-default}
 use lib.Seq.{getD-set-same, getD-set-other}
-use Rattle.definitions.proofs.Held.{Rightly, rightly-means, length-cleared, cleared-below, length-filled, filled-behind}
+use Rattle.definitions.proofs.Held.{Rightly, rightly-means, cleared-below}
 use Rattle.definitions.proofs.Refusals.{first-within, first-above, before-above}
-use Rattle.definitions.proofs.Table.{Accepts, next, end, whatever, last, or, size-means, entries-mean, above-means}
 use Rattle.definitions.proofs.Tools.{neither, split, length-map-below, map-below-at, smallest-is, smallest-fails}
-use Rattle.definitions.proofs.Zeros.{zero-at}
-use Rattle.definitions.specs.Editing.{anyAbove, edited, position, sameSize, symbol, stored, lowestAbove, inOrOut, noMatrix, freshTable, freshHeld, bytesTable, bytesHeld, setTable, setHeld, clearTable, clearHeld, addTable, addHeld}
+use Rattle.definitions.specs.Editing.{anyAbove, position, sameSize, symbol, stored, lowestAbove, inOrOut}
 use Rattle.definitions.specs.Field.{Code}
-use Rattle.definitions.specs.Held.{Held, held, places, noEntries, heldOf, filled, withEntry, withoutColumn, withAdded, rightly}
+use Rattle.definitions.specs.Held.{Held, places, withoutColumn, withAdded, rightly}
 use Rattle.definitions.specs.Limits.{greatestLevel}
-use Rattle.definitions.specs.Refusals.{Line, firstAbove}
+use Rattle.definitions.specs.Refusals.{firstAbove}
 use Rattle.definitions.specs.Tools.{below}
 
 -- ---- the lowest place
@@ -155,171 +152,3 @@ module _ (C : Code) where
   pub out-of-three : (c d e : List ℕ) → length e ≡ places C → inOrOut C (c ∷ d ∷ e ∷ []) .given ≡ false → (j : ℕ) → getD e j 0 ≤ greatestLevel
   out-of-three c d e full given =
       out-low (c ∷ d ∷ e ∷ []) e full given (λ j n. low-first j e [] (low-first j d (e ∷ []) (low-first j c (d ∷ e ∷ []) n .1) .1) .0)
-
-  -- ---- any sequence of edits
-
-  -- a record of a matrix within limits, whose stored numbers are right
-  pub record Sound (h : Held) : Type 0 where
-    pub sized : (2 ≤ h .n) × (h .n ≤ C .positions)
-    pub right : Rightly C h
-    pub low : (j : ℕ) → getD (h .entries) j 0 ≤ greatestLevel
-
-  -- "the stored numbers equal those defined by the entries"
-  pub stored-numbers : (h : Held) → Rightly C h → h ≡ heldOf C (h .n) (h .entries)
-  stored-numbers h r = ap₂ (λ (c : ℕ) (t : List ℕ). held (h .n) c t (h .entries)) (r .cost-is) (r .totals-are)
-
-  -- what holds the numbers that its entries define is sound where its entries are
-  holds : (n : ℕ) (e : List ℕ) → (2 ≤ n) × (n ≤ C .positions) → length e ≡ places C → ((j : ℕ) → C .symbols * n ≤ j → getD e j 0 ≡ 0)
-      → ((j : ℕ) → getD e j 0 ≤ greatestLevel) → Sound (heldOf C n e)
-  holds n e sized full unused low =
-      record { sized = sized; right = record { full = full; totals-are = refl; cost-is = refl; unused = unused }; low = low }
-
-  no-entry : (j : ℕ) → getD (noEntries C) j 0 ≡ 0
-  no-entry j = zero-at (places C) j
-
-  zeros-hold : (n : ℕ) → (2 ≤ n) × (n ≤ C .positions) → Sound (heldOf C n (noEntries C))
-  zeros-hold n sized =
-      holds n (noEntries C) sized (length-replicate {A = ℕ} (places C) 0) (λ j _. no-entry j) (λ j. let z = no-entry j in omega arith)
-
-  pub fresh-sound : 2 ≤ C .positions → (n : ℕ) → Sound (freshHeld C n)
-  fresh-sound two n =
-      whatever Sound (λ _ _. noMatrix C) (heldOf C n (noEntries C)) (freshTable C n)
-      (or (λ _. zeros-hold 2 (omega arith, two)) (λ s. last (zeros-hold n (size-means C n s))))
-
-  pub bytes-sound : 2 ≤ C .positions → (n : ℕ) (m : List ℕ) → Sound (bytesHeld C n m)
-  bytes-sound two n m =
-      whatever Sound (λ _ _. noMatrix C) (heldOf C n (filled C m)) (bytesTable C n m)
-      (or (λ _. none)
-      (λ s. or (λ _. none)
-      (λ e. or (λ _. none)
-      (λ a. last
-      (let size = entries-mean (C .symbols * n) m e in
-      let sized = size-means C n s in
-      let w : C .symbols * n ≤ places C = mul-le-mul-left (C .symbols) (sized .1) in
-      holds n (filled C m) sized (length-filled C m (omega arith)) (λ j l. filled-behind C m (omega arith) j (omega arith)) (low (omega arith) (above-means greatestLevel m a)))))))
-    where
-      none : Sound (noMatrix C)
-      none = zeros-hold 2 (omega arith, two)
-
-      low : length m ≤ places C → ((j : ℕ) → getD m j 0 ≤ greatestLevel) → (j : ℕ) → getD (filled C m) j 0 ≤ greatestLevel
-      low small h j =
-          elim (decLt j (length m)) [
-            | yes l ↦ (let here = h j in let same = List·getD-append m (drop (length m) (noEntries C)) 0 j l in omega arith)
-            | no n ↦ (let z = filled-behind C m small j (omega arith) in omega arith)
-          ]
-
-  -- what comes out of an edit of a record that is rightly held
-  module _ (h : Held) (sized : (2 ≤ h .n) × (h .n ≤ C .positions)) (right : Rightly C h) where
-    set-out : (i b x : ℕ) → i < h .n → b < C .symbols → inOrOut C (h .entries ∷ withEntry C (h .entries) i b x ∷ []) .given ≡ false
-        → Sound (heldOf C (h .n) (withEntry C (h .entries) i b x))
-    set-out i b x hi hb a =
-        let full = length-set (h .entries) (C .symbols * i + b) x ∙ right .full in
-        let w = mul-le-mul-left (C .symbols) hi in
-        let m = mul-suc (C .symbols) i in
-        holds (h .n) (withEntry C (h .entries) i b x) sized full
-        (λ j l. getD-set-other (h .entries) (C .symbols * i + b) j x 0 (λ e. let z : ⊥ = omega arith in z) ∙ right .unused j l)
-        (out-of-two (h .entries) (withEntry C (h .entries) i b x) full a)
-
-    clear-out : (i : ℕ) → i < h .n → inOrOut C (h .entries ∷ withoutColumn C (h .entries) i ∷ []) .given ≡ false
-        → Sound (heldOf C (h .n) (withoutColumn C (h .entries) i))
-    clear-out i hi a =
-        let small = sized .1 in
-        let all = right .full in
-        let w : C .symbols * (i + 1) ≤ places C = mul-le-mul-left (C .symbols) (omega arith) in
-        let m = mul-add (C .symbols) i 1 in
-        let within : C .symbols * i + C .symbols ≤ length (h .entries) = omega arith in
-        let full = length-cleared C (h .entries) i within ∙ all in
-        holds (h .n) (withoutColumn C (h .entries) i) sized full
-        (λ j l. let below = cleared-below C (h .entries) i within j in let z = right .unused j l in omega arith)
-        (out-of-two (h .entries) (withoutColumn C (h .entries) i) full a)
-
-    add-out : (o : Held) → h .n ≡ o .n → Rightly C o → inOrOut C (h .entries ∷ o .entries ∷ withAdded (h .entries) (o .entries) ∷ []) .given ≡ false
-        → Sound (heldOf C (h .n) (withAdded (h .entries) (o .entries)))
-    add-out o same r a =
-        let full = length-added (h .entries) (o .entries) ∙ right .full in
-        holds (h .n) (withAdded (h .entries) (o .entries)) sized full
-        (λ j l.
-        elim (decLt j (length (h .entries))) [
-          | yes k ↦
-              let here = added-at (h .entries) (o .entries) j k in
-              let mine = right .unused j l in
-              let e = ap (λ (n : ℕ). C .symbols * n) same in
-              let theirs = r .unused j (omega arith) in
-              omega arith
-          | no k ↦ List·getD-eq-default (withAdded (h .entries) (o .entries)) 0 {n = j} (let e = length-added (h .entries) (o .entries) in omega arith)
-        ])
-        (out-of-three (h .entries) (o .entries) (withAdded (h .entries) (o .entries)) full a)
-
--- an edit: an entry set, a column cleared, any record added
-pub data Edit : Type 0 where
-  setting : ℕ → ℕ → ℕ → Edit
-  clearing : ℕ → Edit
-  adding : Held → Edit
-
-module _ (C : Code) where
-  -- its table, the record that comes out where it is accepted, and the record after it, accepted or refused
-  pub tableOf : Held → Edit → List Line
-  tableOf h (setting i b x) = setTable C h i b x
-  tableOf h (clearing i) = clearTable C h i
-  tableOf h (adding o) = addTable C h o
-
-  pub outOf : Held → Edit → Held
-  outOf h (setting i b x) = heldOf C (h .n) (withEntry C (h .entries) i b x)
-  outOf h (clearing i) = heldOf C (h .n) (withoutColumn C (h .entries) i)
-  outOf h (adding o) = heldOf C (h .n) (withAdded (h .entries) (o .entries))
-
-  pub after : Held → Edit → Held
-  after h s = edited (tableOf h s) h (outOf h s)
-
-  -- as the promises have it
-  pub after-setting : (h : Held) (i b x : ℕ) → after h (setting i b x) ≡ setHeld C h i b x
-  unfolding after tableOf outOf
-  after-setting h i b x = refl
-
-  pub after-clearing : (h : Held) (i : ℕ) → after h (clearing i) ≡ clearHeld C h i
-  unfolding after tableOf outOf
-  after-clearing h i = refl
-
-  pub after-adding : (h o : Held) → after h (adding o) ≡ addHeld C h o
-  unfolding after tableOf outOf
-  after-adding h o = refl
-
-  -- "No accepted call hands out a record whose stored numbers are wrong", whatever record it is handed
-  pub accepted-sound : (h : Held) (s : Edit) → Accepts (tableOf h s) → Sound C (outOf h s)
-  unfolding tableOf outOf
-  accepted-sound h (setting i b x) (next n (next p (next q (next t (next a end))))) =
-      set-out C h (size-means C (h .n) n) (stored-means C h t) i b x (position-means (h .n) i p) (symbol-means C b q) a
-  accepted-sound h (clearing i) (next n (next p (next t (next a end)))) =
-      clear-out C h (size-means C (h .n) n) (stored-means C h t) i (position-means (h .n) i p) a
-  accepted-sound h (adding o) (next n (next m (next t (next u (next a end))))) =
-      add-out C h (size-means C (h .n) n) (stored-means C h t) o (sameSize-means (h .n) (o .n) m) (stored-means C o u) a
-
-  -- a table refuses, or accepts
-  either : (P : Held → Type 0) (before out : Held) (table : List Line) → P before → (Accepts table → P out) → P (edited table before out)
-  either P before out [] r f = f end
-  either P before out (l ∷ table) r f = split (l .given) (λ e. rw e r) (λ e. rw e (either P before out table r (λ a. f (next e a))))
-
-  pub after-sound : (h : Held) (s : Edit) → Sound C h → Sound C (after h s)
-  unfolding after
-  after-sound h s r = either (Sound C) h (outOf h s) (tableOf h s) r (accepted-sound h s)
-
-  -- one edit after the other
-  pub afterAll : Held → List Edit → Held
-  afterAll h [] = h
-  afterAll h (s ∷ edits) = afterAll (after h s) edits
-
-  pub afterAll-sound : (h : Held) (edits : List Edit) → Sound C h → Sound C (afterAll h edits)
-  unfolding afterAll
-  afterAll-sound h [] r = r
-  afterAll-sound h (s ∷ edits) r = afterAll-sound (after h s) edits (after-sound h s r)
-
-  -- "After any sequence, the stored numbers equal those defined by the entries": from a fresh record, and from one that was turned from bytes
-  pub after-any-sequence : 2 ≤ C .positions → (n : ℕ) (edits : List Edit)
-      → afterAll (freshHeld C n) edits ≡ heldOf C (afterAll (freshHeld C n) edits .n) (afterAll (freshHeld C n) edits .entries)
-  after-any-sequence two n edits =
-      stored-numbers C (afterAll (freshHeld C n) edits) (afterAll-sound (freshHeld C n) edits (fresh-sound C two n) .right)
-
-  pub after-any-sequence-of-bytes : 2 ≤ C .positions → (n : ℕ) (m : List ℕ) (edits : List Edit)
-      → afterAll (bytesHeld C n m) edits ≡ heldOf C (afterAll (bytesHeld C n m) edits .n) (afterAll (bytesHeld C n m) edits .entries)
-  after-any-sequence-of-bytes two n m edits =
-      stored-numbers C (afterAll (bytesHeld C n m) edits) (afterAll-sound (bytesHeld C n m) edits (bytes-sound C two n m) .right)

@@ -19,4 +19,3 @@ pub mod Sums
 pub mod Powers
 pub mod Held
 pub mod Editing
-pub mod Direct

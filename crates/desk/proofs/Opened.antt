@@ -32,7 +32,7 @@ use Rattle.definitions.specs.Refusals.{size, sizes, level}
 use Rattle.definitions.specs.Weights.{cost, score}
 use Rattle.desk.specs.Opened.{Photograph, rowsListed, scoresListed, AtTheCounter}
 use Rattle.instances.proofs.Codes.{sixteen-field}
-use Rattle.opening.specs.Handing.{opened, isOpen, front}
+use Rattle.opening.specs.Handing.{opened, bothOpened, isOpen, front}
 use Rattle.rows.proofs.Messages.{same-self, same-means}
 use Rattle.rows.proofs.Written.{rowsWritten, scoresWritten}
 use Rattle.rows.specs.Rows.{same}
@@ -172,11 +172,23 @@ module _ (C : Code) (F : FieldOf C) (s : Settings) (G : ℕ) (f h word rows scor
       ∙ ap (λ (b : Bool). valued (judged g (cond b (two .1) (one .1)))) (some-row C F s G f word rows scores p)
       ∙ ap valued (judged-open C F s G f word rows scores p g some low)
 
+  -- both have rows, so the first is judged: its first row is the message
+  both-hands-back : f ≡ h → g ≤ s .level → (r o : RefT (List ℕ)) → r .now ≡ one .0 → o .now ≡ two .0
+      → bothOpened C s r (one .1) s o (two .1) g ≡ (r .ptr, f)
+  both-hands-back alike low r o is are =
+      let open-is : isOpen (bothAnswer C s (r .now) (one .1) s (o .now) (two .1) g) ≡ true =
+      ap₂ (λ (x y : List ℕ). isOpen (bothAnswer C s x (one .1) s y (two .1) g)) is are ∙ ap isOpen (both-open alike low) in
+      ap (λ (t : Bool). cond t (front (s .k) (ofJudged (one .1) r o)) (front 0 r)) open-is
+      ∙ ap (λ (t : Bool). front (s .k) (cond t o r)) (some-row C F s G f word rows scores p)
+      ∙ ap (λ (x : List ℕ). (r .ptr, x)) (ap (take (s .k)) is ∙ front-row C F s G f word rows scores p)
+
 pub at-the-counter : (C : Code) → FieldOf C → (s : Settings) → AtTheCounter C s
 at-the-counter C F s = record {
   opens = λ G g f word rows scores p some low. opens C F s G f word rows scores p g some low;
   hands-back = λ G g f word rows scores p some low. hands-back C F s G f word rows scores p g some low;
   both-open = λ G g f word rows scores other others otherScores p q some low. both-open C F s G f f word rows scores other others otherScores p q g some refl low;
+  both-hands-back = λ G g f word rows scores other others otherScores p q some low r o is are.
+      both-hands-back C F s G f f word rows scores other others otherScores p q g some refl low r o is are;
   both-ask = λ G g f h word rows scores other others otherScores differ p q some. both-ask C F s G f h word rows scores other others otherScores p q g some differ;
 }
 

@@ -16,7 +16,7 @@ use Rattle.definitions.specs.Code.{codeword}
 use Rattle.definitions.specs.Field.{Code}
 use Rattle.definitions.specs.Limits.{greatestLevel, greatestLimit, greatestRows}
 use Rattle.definitions.specs.Weights.{cost}
-use Rattle.opening.specs.Handing.{opened}
+use Rattle.opening.specs.Handing.{opened, bothOpened}
 
 -- a photograph of the tag of message f, on which each mark is read as one symbol or erased, and the memory that is lent for its list
 pub record Photograph (C : Code) (s : Settings) (G : ℕ) (f word rows scores : List ℕ) : Type 0 where
@@ -49,11 +49,15 @@ pub record AtTheCounter (C : Code) (s : Settings) : Type 0 where
       → judgeAnswer C (s .k) (rowsListed C s G word rows scores) (scoresListed C s G word rows scores) g ≡ valued toOpen
   pub hands-back : (G g : ℕ) (f word rows scores : List ℕ) → Photograph C s G f word rows scores → 1 ≤ g → g ≤ s .level
       → (r : RefT (List ℕ)) → r .now ≡ rowsListed C s G word rows scores → opened C (s .k) r (scoresListed C s G word rows scores) g .1 ≡ f
-  -- two photographs of one tag: it is opened; of two tags: a person is asked, whatever the lead
+  -- two photographs of one tag: it is opened, and handed back where the first list lies; of two tags: a person is asked, whatever the lead
   pub both-open : (G g : ℕ) (f word rows scores other others otherScores : List ℕ) → Photograph C s G f word rows scores
       → Photograph C s G f other others otherScores → 1 ≤ g → g ≤ s .level
       → bothAnswer C s (rowsListed C s G word rows scores) (scoresListed C s G word rows scores) s (rowsListed C s G other others otherScores)
       (scoresListed C s G other others otherScores) g ≡ valued toOpen
+  pub both-hands-back : (G g : ℕ) (f word rows scores other others otherScores : List ℕ) → Photograph C s G f word rows scores
+      → Photograph C s G f other others otherScores → 1 ≤ g → g ≤ s .level
+      → (r o : RefT (List ℕ)) → r .now ≡ rowsListed C s G word rows scores → o .now ≡ rowsListed C s G other others otherScores
+      → bothOpened C s r (scoresListed C s G word rows scores) s o (scoresListed C s G other others otherScores) g ≡ (r .ptr, f)
   pub both-ask : (G g : ℕ) (f h word rows scores other others otherScores : List ℕ) → f ≢ h → Photograph C s G f word rows scores
       → Photograph C s G h other others otherScores → 1 ≤ g
       → bothAnswer C s (rowsListed C s G word rows scores) (scoresListed C s G word rows scores) s (rowsListed C s G other others otherScores)

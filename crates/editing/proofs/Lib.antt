@@ -1,3 +1,2 @@
-pub mod UniqueInParts
 pub mod After
 pub mod Unique

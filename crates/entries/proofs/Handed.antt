@@ -1,8 +1,8 @@
--- What crosses to C in place of the part tells the part: its first symbols, so many, of that list. And a judgement is told by its numbers.
+-- What crosses to C in place of the part tells the part: its first symbols, so many, of that list.
 -- Assumes nothing.
 use mathlib.Core.Bool.{cond}
 use mathlib.Core.List.{List}
-use mathlib.Core.Path.{_≡_, sym, _∙_, ap}
+use mathlib.Core.Path.{_≡_}
 use Prim.Native.Nat.{ℕ}
 use denote.Ref.{RefT}
 use lib.Dec.{eqb}
@@ -10,10 +10,8 @@ use lib.ListN.{length}
 use Rattle.counter.specs.Judging.{judgeAnswer, bothAnswer}
 use Rattle.counter.specs.declared.Settings.{Settings}
 use Rattle.definitions.proofs.Tools.{split}
-use Rattle.definitions.specs.Answers.{Answer}
 use Rattle.definitions.specs.Field.{Code}
-use Rattle.crossing.specs.Part.{judgementOf, holder, partAnswer}
-use Rattle.crossing.specs.declared.judgements.Judgement as crossing
+use Rattle.crossing.specs.Part.{holder, partAnswer}
 use Rattle.opening.specs.Handing.{isOpen, front, opened, bothOpened}
 
 -- list 2 is the second, any other number the first
@@ -32,9 +30,3 @@ module _ (C : Code) where
       split (isOpen (bothAnswer C s (rows .now) scores t (others .now) otherScores g))
       (λ y. rw y (split (eqb (length scores) 0) (λ z. rw z) (λ z. rw z)))
       (λ n. rw n)
-
-pub judgement-unique : (a : Answer) (x y : crossing.Judgement) → judgementOf x ≡ a → judgementOf y ≡ a → x ≡ y
-judgement-unique a x y p q = ap back (p ∙ sym q)
-  where
-    back : Answer → crossing.Judgement
-    back b = record { place = b .place; number = b .number; value = b .value; count = b .count }

@@ -77,22 +77,8 @@ unfolding interpolatedOf
 interpolated-back (Of bound count) = refl
 interpolated-back (Refused r) = refused-back (λ a. Of (a .bound) (a .count)) Refused r
 
--- two answers with their memories that the promise allows are equal
-told-unique : {x y : Declared.Interpolated} {after later : List ℕ} → (toldInterpolated x ≡ toldInterpolated y) × (after ≡ later) → (x ≡ y) × (after ≡ later)
-told-unique u = (same-told toldInterpolated interpolatedOf interpolated-back (u .0) refl, u .1)
-
-module _ (C : Code) (F : FieldOf C) where
-  pub interpolation-unique : (n k G : ℕ) (m out : List ℕ) (x y : Declared.Interpolated) (after later : List ℕ)
-      → InterpolationAnswers C n k G m out (toldInterpolated x) after → InterpolationAnswers C n k G m out (toldInterpolated y) later
-      → (x ≡ y) × (after ≡ later)
-  interpolation-unique n k G m out x y after later p q =
-      told-unique (numbers-unique C F n k G m out (toldInterpolated x) (toldInterpolated y) after later p q)
-
-  pub held-interpolation-unique : (h : Held) (k G : ℕ) (out : List ℕ) (x y : Declared.Interpolated) (after later : List ℕ)
-      → HeldInterpolationAnswers C h k G out (toldInterpolated x) after → HeldInterpolationAnswers C h k G out (toldInterpolated y) later
-      → (x ≡ y) × (after ≡ later)
-  held-interpolation-unique h k G out x y after later p q =
-      told-unique (held-numbers-unique C F h k G out (toldInterpolated x) (toldInterpolated y) after later p q)
+pub one-interpolated : {x y : Declared.Interpolated} {a : Answer} → toldInterpolated x ≡ a → toldInterpolated y ≡ a → x ≡ y
+one-interpolated = same-told toldInterpolated interpolatedOf interpolated-back
 
 -- ---- all multiplicities zero
 

@@ -5,7 +5,7 @@ use mathlib.Core.Path.{_≡_, refl, sym, _∙_, ap, ap₂}
 use Prim.Native.Nat.{ℕ, _-_}
 use native.Mathlib.Omega.{arith}
 use lib.Dec.{ltb}
-use lib.ListN.{length, take, drop, getD, length-map}
+use lib.ListN.{length, drop, getD, length-map}
 use Rattle.alphabet.specs.Codes.{codeOn}
 use Rattle.alphabet.specs.declared.Alphabet.{Alphabet}
 use Rattle.algebra.proofs.Elements.{zero-symbol}
@@ -21,10 +21,10 @@ use Rattle.definitions.specs.Weights.{matrix, cost, score}
 use Rattle.instances.proofs.Codes.{field-on}
 use Rattle.numbers.specs.Numbers.{numbersOf}
 use Rattle.output.specs.Program.{listText, symbolsOfRows, headerBytes, output}
-use Rattle.output.specs.Told.{Told, refusal, list, scoredList, told}
+use Rattle.output.specs.Told.{Told, refusal, list, scoredList, told, TextTells}
 use Rattle.text.proofs.Putting.{puts-words}
 use Rattle.text.proofs.Reading.{row-told, refused-told, listed-told, listed-or-refused}
-use Rattle.text.specs.Text.{listedLine, rowLine, refusedLine, Puts}
+use Rattle.text.specs.Text.{listedLine, rowLine, refusedLine}
 
 -- two ways to take one table: what is related for each refusal, and where none is given, is related
 tried-alike : {A B : Type 0} (R : A → B → Type 0) (f : ℕ → ℕ → A) (g : ℕ → ℕ → B) (x : A) (y : B) (table : List Line)
@@ -101,27 +101,20 @@ module _ (w : Alphabet) where
       tried-alike Tells refusedLine refusal (listText (codeOn w) n k (matrix L r)) (list (scoredList (codeOn w) n k (matrix L r)))
       (line 3 (ltb (length input) headerBytes) ∷ readTable (codeOn w) n k L (getD input 3 0) r (symbolsOfRows (codeOn w)) greatestRows) refusal-tells (list-tells n k (matrix L r))
 
-  -- inputs that are answered by the same bytes have the same told of them, refusals too; and the other way round
-  pub same-text : (a b : List ℕ) → output (codeOn w) a ≡ output (codeOn w) b → told (codeOn w) a ≡ told (codeOn w) b
+  -- inputs that are answered by the same bytes have the same told of them, refusals too
+  same-text : (a b : List ℕ) → output (codeOn w) a ≡ output (codeOn w) b → told (codeOn w) a ≡ told (codeOn w) b
   same-text a b e =
       let (ta, ma) = output-tells a in
       let (tb, mb) = output-tells b in
       text-told (told (codeOn w) a) (told (codeOn w) b) ma mb (sym ta ∙ e ∙ tb)
 
-  pub same-bytes : (a b : List ℕ) → told (codeOn w) a ≡ told (codeOn w) b → output (codeOn w) a ≡ output (codeOn w) b
-  same-bytes a b e = output-tells a .0 ∙ ap textOf e ∙ sym (output-tells b .0)
-
-  -- lists that differ are answered by different bytes
-  pub lists-apart : (a b : List ℕ) (l m : List (ℕ × List ℕ)) → told (codeOn w) a ≡ list l → told (codeOn w) b ≡ list m → (l ≡ m → ⊥) → output (codeOn w) a ≡ output (codeOn w) b → ⊥
-  lists-apart a b l m ea eb other e = let same = same-text a b e in other (cc)
-
-  -- no list is answered like a refusal
-  pub list-or-refusal : (a b : List ℕ) (l : List (ℕ × List ℕ)) (number place : ℕ) → told (codeOn w) a ≡ list l → told (codeOn w) b ≡ refusal number place
-      → output (codeOn w) a ≡ output (codeOn w) b → ⊥
-  list-or-refusal a b l number place ea eb e = let same = same-text a b e in let z : _≡_ {A = ℕ} 0 1 = cc in omega arith
-
-  -- what two calls wrote tells it, whatever memory was lent
-  pub written-tells : (a b out other after later : List ℕ) (end last : ℕ) → Puts out 0 (output (codeOn w) a) end after → Puts other 0 (output (codeOn w) b) last later
-      → take end after ≡ take last later → told (codeOn w) a ≡ told (codeOn w) b
-  written-tells a b out other after later end last p q e =
-      same-text a b (sym (puts-words out after (output (codeOn w) a) end p) ∙ e ∙ puts-words other later (output (codeOn w) b) last q)
+  pub text-tells : TextTells (codeOn w)
+  text-tells = record {
+    one-output = λ input out after other end last p q. (p .0 ∙ sym (q .0), p .2 ∙ sym (q .2));
+    same-text = λ a b e. same-text a b e;
+    same-bytes = λ a b e. output-tells a .0 ∙ ap textOf e ∙ sym (output-tells b .0);
+    lists-apart = λ a b l m ea eb other e. (let same = same-text a b e in other (cc));
+    list-or-refusal = λ a b l number place ea eb e. (let same = same-text a b e in let z : _≡_ {A = ℕ} 0 1 = cc in omega arith);
+    written-tells = λ a b out other after later end last p q e.
+        same-text a b (sym (puts-words out after (output (codeOn w) a) end p) ∙ e ∙ puts-words other later (output (codeOn w) b) last q);
+  }

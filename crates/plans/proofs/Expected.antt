@@ -19,6 +19,7 @@ use Rattle.definitions.specs.Tools.{sum}
 use Rattle.definitions.specs.Weights.{entryCost, cost}
 use Rattle.plans.proofs.Leads.{best-leads}
 use Rattle.plans.proofs.Planning.{raise-grows, raised-within, stays, raises, plan-zero, plan-suc, length-plan}
+use Rattle.plans.specs.Laws.{times, expected}
 
 -- the m-th raise of an entry costs m
 module _ (c : ℕ → ℕ) (more : (m : ℕ) → c (suc m) ≡ c m + suc m) where
@@ -73,19 +74,15 @@ module _ (c : ℕ → ℕ) (more : (m : ℕ) → c (suc m) ≡ c m + suc m) wher
 left-over : (x y z w : ℕ) → x + z ≤ y + w → w ≤ z → x ≤ y
 left-over x y z w h l = omega arith
 
--- "The problem reduces to finding the matrix M which maximizes the inner product of M and Π" (004): 4,096 times the expected score
-abbrev pub expected : List ℕ → List ℕ → ℕ
-expected r m = sum (length r) (λ (j : ℕ). getD r j 0 * getD m j 0)
-
 module _ (r : List ℕ) where
   -- no raise that is next has a larger share than one that was done
   abbrev Ranked : List ℕ → Type 0
   Ranked m = (i j : ℕ) → i < length r → j < length r → getD r i 0 * getD m j 0 ≤ getD r j 0 * (getD m i 0 + 1)
 
-  unbeaten : (m : List ℕ) (i : ℕ) → i < length r → getD r i 0 * (getD m (best r m) 0 + 1) ≤ getD r (best r m) 0 * (getD m i 0 + 1)
+  pub unbeaten : (m : List ℕ) (i : ℕ) → i < length r → times r m i (best r m) ≤ times r m (best r m) i
   unbeaten m i h =
       let b = best r m in
-      ltb-false (getD r b 0 * (getD m i 0 + 1)) (getD r i 0 * (getD m b 0 + 1)) (best-leads r m (omega arith) .unbeaten i (omega arith) h)
+      ltb-false (times r m b i) (times r m i b) (best-leads r m (omega arith) .unbeaten i (omega arith) h)
 
   raised-ranked : (m : List ℕ) → length m ≡ length r → Ranked m → best r m < length r → Ranked (set m (best r m) (getD m (best r m) 0 + 1))
   raised-ranked m full ranked inside i j hi hj =

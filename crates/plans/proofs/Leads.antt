@@ -18,6 +18,7 @@ use Rattle.definitions.proofs.Tools.{split, smallest-is}
 use Rattle.definitions.specs.Field.{Code}
 use Rattle.definitions.specs.Planning.{beats, best}
 use Rattle.definitions.specs.Tools.{every}
+use Rattle.plans.specs.Laws.{times}
 use Rattle.plans.specs.Leads.{Leads, LeadsColumn, Led}
 
 -- a/p ≤ b/q < c/s, in products
@@ -37,23 +38,19 @@ module _ (r m : List ℕ) (earlier later kept new : ℕ) (is-kept : kept ≡ get
   earlier-wins h = rw (le-ltb _ _ (rw (is-kept, is-new) at h))
 
 module _ (r m : List ℕ) where
-  -- the reliability of i, times the multiplicity of j and one
-  abbrev times : ℕ → ℕ → ℕ
-  times i j = getD r i 0 * (getD m j 0 + 1)
-
   -- what beats a place beats all that do not
   beats-too : (j b i : ℕ) → beats r m j b ≡ true → beats r m i b ≡ false → beats r m j i ≡ true
   beats-too j b i g h =
-      lt-ltb (times i j) (times j i)
-      (quotients (getD r i 0) (getD r b 0) (getD r j 0) (getD m i 0 + 1) (getD m b 0 + 1) (getD m j 0 + 1) (omega arith) (ltb-false (times b i) (times i b) h)
-      (ltb-true (times b j) (times j b) g))
+      lt-ltb (times r m i j) (times r m j i)
+      (quotients (getD r i 0) (getD r b 0) (getD r j 0) (getD m i 0 + 1) (getD m b 0 + 1) (getD m j 0 + 1) (omega arith) (ltb-false (times r m b i) (times r m i b) h)
+      (ltb-true (times r m b j) (times r m j b) g))
 
   -- and is not beaten by them
   not-back : (j i : ℕ) → beats r m j i ≡ true → beats r m i j ≡ false
-  not-back j i g = le-ltb (times j i) (times i j) (le-of-lt (ltb-true (times i j) (times j i) g))
+  not-back j i g = le-ltb (times r m j i) (times r m i j) (le-of-lt (ltb-true (times r m i j) (times r m j i) g))
 
   not-itself : (i : ℕ) → beats r m i i ≡ false
-  not-itself i = le-ltb (times i i) (times i i) (le-refl (times i i))
+  not-itself i = le-ltb (times r m i i) (times r m i i) (le-refl (times r m i i))
 
   -- a place alone
   pub leads-itself : (j : ℕ) → Leads r m j (j + 1) j

@@ -3,6 +3,7 @@
 -- Assumes nothing.
 use mathlib.Core.Bool.{true, false, not}
 use mathlib.Core.List.{List, [], _∷_, _++_}
+use mathlib.Core.Logic.{_≢_}
 use mathlib.Core.Path.{_≡_, refl, sym, _∙_, ap}
 use Prim.Native.Nat.{ℕ, _*_, _≤_}
 use native.Mathlib.Omega.{arith}
@@ -11,7 +12,7 @@ use lib.ListN.{length, take, drop}
 use lib.Seq.{take-at, length-take-le}
 use Rattle.definitions.proofs.Editing.{stored-means}
 use Rattle.definitions.proofs.Held.{used-within}
-use Rattle.definitions.proofs.Table.{Accepts, next, end, accepts, both-accept, without, passed-front, zero-accepts, sizes-mean, entries-mean, none-passes}
+use Rattle.definitions.proofs.Table.{Accepts, next, end, accepts, both-accept, without, passed-front, zero-accepts, sizes-mean, sizes-pass, size-means, entries-mean, none-passes}
 use Rattle.definitions.proofs.Tools.{split}
 use Rattle.definitions.specs.Answers.{refused, counted, listAnswer, listRows, listScores}
 use Rattle.definitions.specs.Editing.{stored, heldListTable, heldListAnswer, heldListRows, heldListScores}
@@ -19,8 +20,8 @@ use Rattle.definitions.specs.Field.{Code}
 use Rattle.definitions.specs.Held.{Held, bytesOf}
 use Rattle.definitions.specs.Limits.{greatestLevel, greatestLimit, greatestSteps, greatestRows}
 use Rattle.definitions.specs.Listing.{listOf}
-use Rattle.definitions.specs.Planning.{plan, stepsDone, isPlan, steps, ruled, planned, planTable, planAnswer, planOut, checkTable, checkAnswer, planListTable, planListAnswer, planListRows, planListScores, heldPlanListTable, heldPlanListAnswer, heldPlanListRows, heldPlanListScores}
-use Rattle.definitions.specs.Refusals.{Line, tried, sizes, limit, entries, room, entriesOf, columns, costWithin, listTable}
+use Rattle.definitions.specs.Planning.{plan, stepsDone, isPlan, steps, ruled, planned, planTable, planAnswer, planOut, checkTable, checkAnswer, planListTable, planListAnswer, planListRows, planListScores, heldCheckTable, heldCheckAnswer, heldPlanListTable, heldPlanListAnswer, heldPlanListRows, heldPlanListScores}
+use Rattle.definitions.specs.Refusals.{Line, tried, sizes, size, limit, entries, room, entriesOf, columns, costWithin, listTable}
 use Rattle.definitions.specs.Weights.{cost}
 use Rattle.plans.proofs.Planning.{length-plan, plan-low, done-within, plan-cost, is-plan, plan-is}
 
@@ -46,7 +47,18 @@ affordable G r s m front rows other cheap e =
     let paid = le-ltb G (cost m) (cheap a) in
     split (ruled r s m .given) (λ wrong. let z = rw (paid, wrong) at left in omega arith) (λ right. let z = rw (paid, right) at left in omega arith)
 
+-- where the plan's line is the last, what is refused as 9 is not the rule's result
+no-plan : (r : List ℕ) (s : ℕ) (m : List ℕ) (front : List Line) → without 9 front ≡ true
+    → tried (front ++ (ruled r s m ∷ [])) refused (planned 0 (stepsDone r s)) .number ≡ 9 → m ≢ plan r s
+no-plan r s m front other e same =
+    let left = passed-front 9 front (ruled r s m ∷ []) (planned 0 (stepsDone r s)) other e .1 in
+    let z = rw (ap (isPlan r s) same ∙ is-plan r s) at left in omega arith
+
 module _ (C : Code) where
+  -- the bytes of a record that is rightly held are as many as its n says
+  bytes-full : (h : Held) → stored C h .given ≡ false → h .n ≤ C .positions → length (bytesOf C h) ≡ C .symbols * h .n
+  bytes-full h held few = length-take-le (C .symbols * h .n) (h .entries) (used-within C h (stored-means C h held) few)
+
   -- "From outside, a plan is taken exactly when it equals the rule's result": so the plan itself is
   plan-taken : (n s : ℕ) (r : List ℕ) (out : ℕ) → Accepts (planTable C n s r out) → Accepts (checkTable C n s r (plan r s))
   plan-taken n s r out (next size (next few (next full (next room (next columns end))))) =
@@ -80,6 +92,23 @@ module _ (C : Code) where
       of-rule : Accepts (checkTable C n s r m) → m ≡ plan r s
       of-rule (next size (next few (next full (next whole (next low (next columns (next right end))))))) =
           plan-is r s m (entries-mean (C .symbols * n) m whole ∙ sym (entries-mean (C .symbols * n) r full)) (ruled-means r s m right)
+
+  -- what is refused as 9 is not it
+  pub refused-is-none : (n s : ℕ) (r m : List ℕ) → checkAnswer C n s r m .number ≡ 9 → m ≢ plan r s
+  refused-is-none n s r m =
+      no-plan r s m (size C n ∷ steps s ∷ entries (C .symbols * n) r ∷ entries (C .symbols * n) m ∷ entriesOf m ∷ columns C n r ∷ []) refl
+
+  -- of a record too
+  pub held-taken-is-plan : (h : Held) (s : ℕ) (r : List ℕ) → heldCheckAnswer C h s r .number ≡ 0 → bytesOf C h ≡ plan r s
+  held-taken-is-plan h s r zero = of-rule (zero-accepts (heldCheckTable C h s r) (planned 0 (stepsDone r s)) refl zero)
+    where
+      of-rule : Accepts (heldCheckTable C h s r) → bytesOf C h ≡ plan r s
+      of-rule (next size (next few (next full (next held (next low (next columns (next right end))))))) =
+          plan-is r s (bytesOf C h) (bytes-full h held (size-means C (h .n) size .1) ∙ sym (entries-mean (C .symbols * h .n) r full)) (ruled-means r s (bytesOf C h) right)
+
+  pub held-refused-is-none : (h : Held) (s : ℕ) (r : List ℕ) → heldCheckAnswer C h s r .number ≡ 9 → bytesOf C h ≢ plan r s
+  held-refused-is-none h s r =
+      no-plan r s (bytesOf C h) (size C (h .n) ∷ steps s ∷ entries (C .symbols * h .n) r ∷ stored C h ∷ entriesOf (h .entries) ∷ columns C (h .n) r ∷ []) refl
 
   -- "An accepted plan feeds the list like any other matrix"
   listed-too : (n k G s : ℕ) (r m : List ℕ) (rows scores : ℕ) → Accepts (planListTable C n k G s r m rows scores) → Accepts (listTable C n k G m rows scores)
@@ -149,25 +178,24 @@ module _ (C : Code) where
     where
       cheap : Accepts (heldPlanStart h k greatestLimit s r (length rows) (length scores) ++ (columns C (h .n) r ∷ [])) → cost (bytesOf C h) ≤ greatestLimit
       cheap (next sized (next low (next few (next full (next held rest))))) =
-          right-within (h .n) s r (bytesOf C h) right few full
-          (length-take-le (C .symbols * h .n) (h .entries) (used-within C h (stored-means C h held) (sizes-mean C (h .n) k sized .2)))
+          right-within (h .n) s r (bytesOf C h) right few full (bytes-full h held (sizes-mean C (h .n) k sized .2))
 
   -- so what is written for s steps is listed at the greatest limit, where k fits and there is room
-  pub written-listed : (n k s : ℕ) (r out rows scores : List ℕ) → planAnswer C n s r out .number ≡ 0
-      → Accepts (sizes C n k ∷ room (greatestRows * k) (length rows) ∷ room greatestRows (length scores) ∷ [])
+  pub written-listed : (n k s : ℕ) (r out rows scores : List ℕ) → planAnswer C n s r out .number ≡ 0 → 2 ≤ k → k ≤ n → greatestRows * k ≤ length rows
+      → greatestRows ≤ length scores
       → planListAnswer C n k greatestLimit s r (take (C .symbols * n) (planOut C n s r out)) rows scores ≡ counted (length (listOf C n k (plan r s)))
-  written-listed n k s r out rows scores zero fits =
+  written-listed n k s r out rows scores zero some fits rowed scored =
       let a = zero-accepts (planTable C n s r (length out)) (planned (C .symbols * n) (stepsDone r s)) refl zero in
       ap (λ (m : List ℕ). planListAnswer C n k greatestLimit s r m rows scores) (written n s r out a)
-      ∙ sym (accepts refused (counted (length (listOf C n k (plan r s)))) (listed (plan-taken n s r (length out) a) fits))
+      ∙ sym (accepts refused (counted (length (listOf C n k (plan r s)))) (listed (plan-taken n s r (length out) a)))
     where
-      listed : Accepts (checkTable C n s r (plan r s)) → Accepts (sizes C n k ∷ room (greatestRows * k) (length rows) ∷ room greatestRows (length scores) ∷ [])
-          → Accepts (planListTable C n k greatestLimit s r (plan r s) (length rows) (length scores))
-      listed (next size (next few (next full (next whole (next low (next columns (next right end))))))) (next sized (next rowed (next scored end))) =
-          next sized
+      listed : Accepts (checkTable C n s r (plan r s)) → Accepts (planListTable C n k greatestLimit s r (plan r s) (length rows) (length scores))
+      listed (next size (next few (next full (next whole (next low (next columns (next right end))))))) =
+          next (sizes-pass C n k some fits (size-means C n size .1))
           (next refl
           (next few
           (next full
           (next whole
-          (next rowed
-          (next scored (next low (next columns (next (le-ltb greatestLimit (cost (plan r s)) (plan-within r s (steps-mean s few))) (next right end))))))))))
+          (next (le-ltb (length rows) (greatestRows * k) rowed)
+          (next (le-ltb (length scores) greatestRows scored)
+          (next low (next columns (next (le-ltb greatestLimit (cost (plan r s)) (plan-within r s (steps-mean s few))) (next right end))))))))))

@@ -4,14 +4,12 @@ use mathlib.Core.Path.{_≡_, sym}
 use Prim.Native.Nat.{ℕ, suc, _+_, _-_, _*_, _/_, _≤_, _<_}
 use native.Mathlib.Decide.{decLt}
 use native.Mathlib.Nat.{mul-add, mul-comm, mul-left-comm, mul-le-mul, mul-le-mul-left, div-eq-of-lt-le}
+use native.Mathlib.Numerals.{add-one}
 use native.Mathlib.Omega.{arith}
+use Rattle.bound.specs.Direct.{Largest, DirectForm}
 use Rattle.definitions.proofs.Bound.{bound-is-least}
 use Rattle.definitions.proofs.Powers.{count-closed, count-at-bound, powers-within, powers-enough}
 use Rattle.definitions.specs.Bound.{bound}
-
--- "m the largest whole number such that v·m·(m-1) is at most 2C"
-abbrev pub Largest : ℕ → ℕ → ℕ → Type 0
-Largest v C m = (v * (m * (m - 1)) ≤ 2 * C) × ((j : ℕ) → v * (j * (j - 1)) ≤ 2 * C → j ≤ m)
 
 -- there is no more than one
 pub largest-once : (v C m n : ℕ) → Largest v C m → Largest v C n → m ≡ n
@@ -55,3 +53,10 @@ module _ (v : ℕ) (pos : 1 ≤ v) (C : ℕ) where
       let above = bound-is-least v pos C .0 in
       let whole : (2 * C + v * (suc j * j)) / (2 * suc j) ≡ bound v C = div-eq-of-lt-le (2 * suc j) (omega arith) (omega arith) in
       rw (e, f) (sym whole)
+
+pub direct-form : DirectForm
+direct-form = record {
+  largest-powers = λ v C pos. rw (add-one (bound v C / v)) (largest-powers v pos C);
+  largest-once = λ v C m n a b. largest-once v C m n a b;
+  direct = λ v C m pos largest. direct v pos C m largest;
+}
