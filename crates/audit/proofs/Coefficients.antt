@@ -17,7 +17,8 @@ use Rattle.algebra.proofs.Evaluation.{evaluate}
 use Rattle.algebra.proofs.Hasse.{around, value-around, inSeries, hasse-is-coefficient}
 use Rattle.algebra.proofs.RingLaws.{ring, plus-zero, zero-plus, plus-self, times-one, times-zero, zero-times}
 use Rattle.algebra.proofs.RootCounting.{Zero}
-use Rattle.algebra.proofs.Series.{Series, mulS, constant, constants, linear, addS-at, zeroS-at, constant-o, constant-add, constant-times, constant-zero, constant-suc, constant-mul, linear-mul-zero, linear-mul-suc}
+use Rattle.algebra.proofs.Series.{Series, mulS, constant, constants, linear, addS-at, zeroS-at, constant-o, constant-add, constant-times}
+use Rattle.algebra.proofs.Series.{constant-zero, constant-suc, constant-mul, linear-mul-zero, linear-mul-suc}
 use Rattle.algebra.proofs.Taylor.{taylor}
 use Rattle.algebra.specs.Ring.{Ring, Hom}
 use Rattle.audit.proofs.Quotient.{at, at-factor, quotientBy, at-quotient}

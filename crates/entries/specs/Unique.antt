@@ -11,8 +11,12 @@ use Rattle.counter.specs.declared.Settings.{Settings}
 use Rattle.crossing.specs.Crossing.{answerOf}
 use Rattle.crossing.specs.Part.{judgementOf}
 use Rattle.crossing.specs.declared.Answer as crossing
-use Rattle.definitions.specs.Answers.{Answer, sumAnswer, productAnswer, inverseAnswer, encodeAnswer, encodeOut, multiplicitiesAnswer, multiplicitiesOut, costAnswer, InterpolationAnswers, rootsAnswer, rootsOut, listAnswer, listRows, listScores, readAnswer, readRows, readScores}
-use Rattle.definitions.specs.Editing.{freshAnswer, freshHeld, bytesAnswer, bytesHeld, lentFreshAnswer, lentFreshHeld, lentBytesAnswer, lentBytesHeld, setAnswer, setHeld, clearAnswer, clearHeld, addAnswer, addHeld, heldCostAnswer, HeldInterpolationAnswers, heldListAnswer, heldListRows, heldListScores}
+use Rattle.definitions.specs.Answers.{Answer, sumAnswer, productAnswer, inverseAnswer, encodeAnswer, encodeOut, multiplicitiesAnswer}
+use Rattle.definitions.specs.Answers.{multiplicitiesOut, costAnswer, InterpolationAnswers, rootsAnswer, rootsOut, listAnswer, listRows, listScores}
+use Rattle.definitions.specs.Answers.{readAnswer, readRows, readScores}
+use Rattle.definitions.specs.Editing.{freshAnswer, freshHeld, bytesAnswer, bytesHeld, lentFreshAnswer, lentFreshHeld, lentBytesAnswer, lentBytesHeld}
+use Rattle.definitions.specs.Editing.{setAnswer, setHeld, clearAnswer, clearHeld, addAnswer, addHeld, heldCostAnswer, HeldInterpolationAnswers}
+use Rattle.definitions.specs.Editing.{heldListAnswer, heldListRows, heldListScores}
 use Rattle.definitions.specs.Field.{Code}
 use Rattle.definitions.specs.Held.{Held}
 use Rattle.definitions.specs.Planning.{planAnswer, planOut, checkAnswer, planListAnswer, planListRows, planListScores, heldCheckAnswer, heldPlanListAnswer, heldPlanListRows, heldPlanListScores}

@@ -13,7 +13,8 @@ use Rattle.definitions.specs.Tools.{every}
 use Rattle.plans.proofs.Expected.{unbeaten, plan-expects-most}
 use Rattle.plans.proofs.Leads.{best-leads}
 use Rattle.plans.proofs.Planning.{plan-low, plan-stays, done-after, all-done, steps-are-sum}
-use Rattle.plans.proofs.Taken.{written-taken, taken-is-plan, refused-is-none, held-taken-is-plan, held-refused-is-none, plan-listed, held-plan-listed, plan-affordable, held-plan-affordable, written-listed}
+use Rattle.plans.proofs.Taken.{written-taken, taken-is-plan, refused-is-none, held-taken-is-plan, held-refused-is-none, plan-listed}
+use Rattle.plans.proofs.Taken.{held-plan-listed, plan-affordable, held-plan-affordable, written-listed}
 use Rattle.plans.specs.Laws.{times, RuleLaws, PlanLaws}
 
 rule : (r : List ℕ) → RuleLaws r

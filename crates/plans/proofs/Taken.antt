@@ -20,7 +20,9 @@ use Rattle.definitions.specs.Field.{Code}
 use Rattle.definitions.specs.Held.{Held, bytesOf}
 use Rattle.definitions.specs.Limits.{greatestLevel, greatestLimit, greatestSteps, greatestRows}
 use Rattle.definitions.specs.Listing.{listOf}
-use Rattle.definitions.specs.Planning.{plan, stepsDone, isPlan, steps, ruled, planned, planTable, planAnswer, planOut, checkTable, checkAnswer, planListTable, planListAnswer, planListRows, planListScores, heldCheckTable, heldCheckAnswer, heldPlanListTable, heldPlanListAnswer, heldPlanListRows, heldPlanListScores}
+use Rattle.definitions.specs.Planning.{plan, stepsDone, isPlan, steps, ruled, planned, planTable, planAnswer, planOut, checkTable, checkAnswer}
+use Rattle.definitions.specs.Planning.{planListTable, planListAnswer, planListRows, planListScores, heldCheckTable, heldCheckAnswer}
+use Rattle.definitions.specs.Planning.{heldPlanListTable, heldPlanListAnswer, heldPlanListRows, heldPlanListScores}
 use Rattle.definitions.specs.Refusals.{Line, tried, sizes, size, limit, entries, room, entriesOf, columns, costWithin, listTable}
 use Rattle.definitions.specs.Weights.{cost}
 use Rattle.plans.proofs.Planning.{length-plan, plan-low, done-within, plan-cost, is-plan, plan-is}

@@ -12,7 +12,8 @@ use Rattle.definitions.specs.Field.{Code}
 use Rattle.definitions.specs.Held.{Held, bytesOf}
 use Rattle.definitions.specs.Limits.{greatestLevel, greatestLimit, greatestRows}
 use Rattle.definitions.specs.Listing.{listOf}
-use Rattle.definitions.specs.Planning.{best, stops, plan, stepsDone, isPlan, planned, planAnswer, planOut, checkAnswer, planListAnswer, planListRows, planListScores, heldCheckAnswer, heldPlanListAnswer, heldPlanListRows, heldPlanListScores}
+use Rattle.definitions.specs.Planning.{best, stops, plan, stepsDone, isPlan, planned, planAnswer, planOut, checkAnswer, planListAnswer, planListRows}
+use Rattle.definitions.specs.Planning.{planListScores, heldCheckAnswer, heldPlanListAnswer, heldPlanListRows, heldPlanListScores}
 use Rattle.definitions.specs.Tools.{sum}
 use Rattle.definitions.specs.Weights.{cost}
 

@@ -73,7 +73,9 @@ passes i b hi hb s t h =
 both-zero : (a b : ℕ) → a < sixteen .symbols → b < sixteen .symbols → valueAt (a ∷ b ∷ 0 ∷ 0 ∷ 0 ∷ 0 ∷ []) 1 1 ≡ 0 → valueAt (a ∷ b ∷ 0 ∷ 0 ∷ 0 ∷ 0 ∷ []) 2 1 ≡ 0 → (a ≡ 0) × (b ≡ 0)
 unfolding noneAt
 both-zero a b ha hb e f =
-    let t : T (eqb a 0 && eqb b 0) = rw (eq-eqb (valueAt (a ∷ b ∷ 0 ∷ 0 ∷ 0 ∷ 0 ∷ []) 1 1) 0 e, eq-eqb (valueAt (a ∷ b ∷ 0 ∷ 0 ∷ 0 ∷ 0 ∷ []) 2 1) 0 f) at (everyPair-at (sixteen .symbols) noneAt none a b ha hb) in
+    let at-one = eq-eqb (valueAt (a ∷ b ∷ 0 ∷ 0 ∷ 0 ∷ 0 ∷ []) 1 1) 0 e in
+    let at-two = eq-eqb (valueAt (a ∷ b ∷ 0 ∷ 0 ∷ 0 ∷ 0 ∷ []) 2 1) 0 f in
+    let t : T (eqb a 0 && eqb b 0) = rw (at-one, at-two) at (everyPair-at (sixteen .symbols) noneAt none a b ha hb) in
     (eqb→eq a 0 (first-passes (eqb a 0) (eqb b 0) t), eqb→eq b 0 (second-passes (eqb a 0) (eqb b 0) t))
 
 -- a list of six that ends before the third
@@ -100,7 +102,9 @@ second-point p h = h 1 1 (omega arith) (omega arith) 0 0 (omega arith)
 none-earlier : (p : List ℕ) → length p ≡ 6 → Symbols sixteen p → Through sixteen 3 1 2 word p → leading p < 2 → isZero p ≡ true
 none-earlier p e sp through h =
     let s = shape p e h in
-    let z = both-zero (getD p 0 0) (getD p 1 0) (sp 0) (sp 1) (ap (λ (q : List ℕ). valueAt q 1 1) (sym s) ∙ first-point p through) (ap (λ (q : List ℕ). valueAt q 2 1) (sym s) ∙ second-point p through) in
+    let at-one = ap (λ (q : List ℕ). valueAt q 1 1) (sym s) ∙ first-point p through in
+    let at-two = ap (λ (q : List ℕ). valueAt q 2 1) (sym s) ∙ second-point p through in
+    let z = both-zero (getD p 0 0) (getD p 1 0) (sp 0) (sp 1) at-one at-two in
     isZero-of-zeros p (λ k. at z k)
   where
     at : (getD p 0 0 ≡ 0) × (getD p 1 0 ≡ 0) → (k : ℕ) → getD p k 0 ≡ 0

@@ -123,12 +123,6 @@ pub fn put_row(alphabet: Alphabet, out: &mut [u8], at: usize, score: usize, mess
     put(out, written, &LINE_FEED)
 }
 
-fn full(score: u16) -> usize
-    ensures { λ r. ⌜ r ≡ score ⌝ }
-{
-    score as usize
-}
-
 // The line of row j of k symbols.
 fn put_row_of(
     alphabet: Alphabet,
@@ -145,7 +139,7 @@ fn put_row_of(
 {
     let from = k * j;
     let to = from + k;
-    let score = full(scores[j]);
+    let score = numbers::long(scores[j]);
     put_row(alphabet, out, at, score, &rows[from..to])
 }
 

@@ -8,7 +8,7 @@ use borrow.Author.Needs.{needs}
 use Rattle.text.proofs.put_row_of.Statement.{statement}
 use Rattle.text.proofs.put_row_of.Tie as tie
 
-abbrev entry : tie.After-full → tie.Start
+abbrev entry : tie.After-long → tie.Start
 entry at-score = at-score .before .before .before .before .before
 
 -- a row has no more symbols than the longest row of either alphabet
@@ -34,10 +34,10 @@ returns c =
     let at-score = at-put .before .before .before in
     let at-start = entry at-score in
     let a = at-start .args in
-    let score = at-score .full in
+    let score = at-score .long in
     let put = at-put .put-row in
     row-put (codeOn (a .alphabet)) (a .k) (a .rows .now) (a .scores .now) (a .out .now) (put .last .1 .0) (a .at) (a .j) (score .result) (put .result)
-    (few-symbols at-start) (score .ensures) (omega arith) (put .ensures .0) (put .ensures .1)
+    (few-symbols at-start) (score .ensures .0) (omega arith) (put .ensures .0) (put .ensures .1)
 
 pub put-row-of-spec : {M : Type 1} → statement M
 put-row-of-spec =
