@@ -1,4 +1,4 @@
--- The columns that a matrix is opened into: they are loaded one by one, and their entries and their cost are those of the bytes.
+-- The columns of a matrix: they are loaded one by one, and their entries and their cost are those of the bytes.
 -- Assumes nothing.
 use mathlib.Core.List.{List, [], _++_, map}
 use mathlib.Core.Path.{_≡_, sym, _∙_, ap}
@@ -86,8 +86,8 @@ next-column C m i h =
 pub cost-small : (C : Code) (m : List ℕ) → length m ≤ places C → ((j : ℕ) → getD m j 0 ≤ greatestLevel) → cost m ≤ places C * entryCost greatestLevel
 cost-small C m size h = let bounded = cost-le m greatestLevel h (length m) in omega arith
 
--- entries that the bytes of n positions stand in front of, opened
-module _ (C : Code) (n price : ℕ) (e : List ℕ) (small : n ≤ C .positions) (h : FrontCosts C n price e) (columns : List (List ℕ)) (opened : columns ≡ matrixOf C e n) where
+-- entries that the bytes of n positions stand in front of, as columns
+module _ (C : Code) (n price : ℕ) (e : List ℕ) (small : n ≤ C .positions) (h : FrontCosts C n price e) (columns : List (List ℕ)) (loaded : columns ≡ matrixOf C e n) where
   column-in-front : (i : ℕ) → i < n → columnOf C e i ≡ columnOf C (take (C .symbols * n) e) i
   column-in-front i l =
       let front = take (C .symbols * n) e in
@@ -100,11 +100,11 @@ module _ (C : Code) (n price : ℕ) (e : List ℕ) (small : n ≤ C .positions) 
       map-below-at (entry C e i) (C .symbols) b 0 low ∙ sym (getD-take (C .symbols * n) e (C .symbols * i + b) 0 (omega arith)) ∙ sym (map-below-at (entry C front i) (C .symbols) b 0 low)))
 
   -- the columns are those of the bytes
-  pub opened-front : columns ≡ matrixOf C (take (C .symbols * n) e) n
-  opened-front =
+  pub columns-front : columns ≡ matrixOf C (take (C .symbols * n) e) n
+  columns-front =
       let front = take (C .symbols * n) e in
       let size : (x : List ℕ) → length (map (columnOf C x) (below n)) ≡ n = λ x. length-map-below (columnOf C x) n in
-      opened
+      loaded
       ∙ ap (λ (cols : List (List ℕ)). cols ++ drop n zeroColumns)
       (ext-getD [] (map (columnOf C e) (below n)) (map (columnOf C front) (below n)) (size e ∙ sym (size front))
       (λ i l.
@@ -112,9 +112,9 @@ module _ (C : Code) (n price : ℕ) (e : List ℕ) (small : n ≤ C .positions) 
       map-below-at (columnOf C e) n i [] within ∙ column-in-front i within ∙ sym (map-below-at (columnOf C front) n i [] within)))
 
   -- and cost what they do
-  pub opened-cost : price ≡ matrixCost C columns
-  opened-cost =
-      h .paid ∙ sym (matrix-cost C (take (C .symbols * n) e) n small (length-take-le (C .symbols * n) e (h .within))) ∙ ap (matrixCost C) (sym opened-front)
+  pub columns-cost : price ≡ matrixCost C columns
+  columns-cost =
+      h .paid ∙ sym (matrix-cost C (take (C .symbols * n) e) n small (length-take-le (C .symbols * n) e (h .within))) ∙ ap (matrixCost C) (sym columns-front)
 
 -- a record that is rightly held
 pub rightly-priced : (C : Code) (h : Held) → Rightly C h → h .n ≤ C .positions → FrontCosts C (h .n) (h .cost) (h .entries)

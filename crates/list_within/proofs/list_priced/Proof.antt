@@ -9,7 +9,7 @@ use lib.Seq.{length-take-le}
 use Rattle.alphabet.specs.Codes.{codeOn}
 use Rattle.definitions.specs.Field.{Code}
 use Rattle.list_within.proofs.Answers.{refused-by-cost, listed}
-use Rattle.matrix.proofs.Columns.{opened-front, opened-cost}
+use Rattle.matrix.proofs.Columns.{columns-front, columns-cost}
 use Rattle.matrix.specs.Columns.{matrixOf}
 use borrow.Author.Needs.{needs}
 use Rattle.list_within.proofs.list_priced.Statement.{statement}
@@ -41,7 +41,7 @@ loaded : (c : tie.After-in-columns) → (let s = entry c in c .in-columns .resul
 loaded c =
     let s = entry c in
     let a = s .args in
-    opened-front (codeOf s) (a .n) (a .cost) (a .entries .now) (s .pre .0 .sized .2) (s .pre .1) (c .in-columns .result) (c .in-columns .ensures)
+    columns-front (codeOf s) (a .n) (a .cost) (a .entries .now) (s .pre .0 .sized .2) (s .pre .1) (c .in-columns .result) (c .in-columns .ensures)
 
 list-of-columns-requires : tie.Need-list-of-columns-requires
 list-of-columns-requires c κs =
@@ -52,7 +52,7 @@ list-of-columns-requires c κs =
     let f = s .pre .0 in
     let z = f .sized in
     let low = f .low in
-    let costs = opened-cost (codeOf s) (a .n) (a .cost) (a .entries .now) (z .2) (s .pre .1) (columns .result) (columns .ensures) in
+    let costs = columns-cost (codeOf s) (a .n) (a .cost) (a .entries .now) (z .2) (s .pre .1) (columns .result) (columns .ensures) in
     ((z .0, z .1, z .2, costs, omega arith), ((f .room-for-rows, f .room-for-scores), (bytes s, full s, loaded at-columns)))
 
 -- The cost is within the limit, and the list of the columns is that of the bytes.

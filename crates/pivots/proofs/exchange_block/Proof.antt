@@ -3,6 +3,7 @@ use mathlib.Core.List.{[]}
 use Prim.Native.Nat.{_<_}
 use native.Mathlib.Omega.{arith}
 use lib.ListN.{length, getD, set, length-set}
+use Rattle.alphabet.proofs.Sizes.{sized}
 use Rattle.alphabet.specs.Codes.{codeOn}
 use Rattle.pivots.proofs.Blocks.{exchanged-once, exchanged-in}
 use Rattle.pivots.specs.System.{System}
@@ -26,6 +27,8 @@ scaled-requires c κs =
     let k = c .before .before .before in
     let s = k .before .before .before in
     let a = s .args in
+    let z = sized (a .alphabet) in
+    let least = z .least in
     let symbols = block-symbols (codeOn (a .alphabet)) (a .at) (getD (a .system .now) (a .r) []) (k .block .result) (s .pre .0 .symbols (a .r)) (k .block .ensures) in
     (s .pre .1 .0, (omega arith, symbols))
 

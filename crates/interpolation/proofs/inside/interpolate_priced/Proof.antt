@@ -12,7 +12,7 @@ use Rattle.definitions.specs.Bound.{bound}
 use Rattle.definitions.specs.Limits.{greatestLimit}
 use Rattle.interpolation.proofs.Answers.{refused-by-cost, found-is-answered}
 use Rattle.polynomial.proofs.Coefficients.{count-small}
-use Rattle.matrix.proofs.Columns.{opened-front, opened-cost}
+use Rattle.matrix.proofs.Columns.{columns-front, columns-cost}
 use Rattle.matrix.specs.Columns.{matrixCost}
 use borrow.Author.Needs.{needs}
 use Rattle.interpolation.proofs.inside.interpolate_priced.Statement.{statement}
@@ -50,7 +50,7 @@ count-requires c κs =
 paid : (c : tie.After-in-columns) → entry (c .before) .args .cost ≡ matrixCost (codeOn (entry (c .before) .args .alphabet)) (c .in-columns .result)
 paid c =
     let s = entry (c .before) in
-    opened-cost (codeOn (s .args .alphabet)) (s .args .n) (s .args .cost) (s .args .entries .now) (s .pre .0 .sized .2) (s .pre .1) (c .in-columns .result) (c .in-columns .ensures)
+    columns-cost (codeOn (s .args .alphabet)) (s .args .n) (s .args .cost) (s .args .entries .now) (s .pre .0 .sized .2) (s .pre .1) (c .in-columns .result) (c .in-columns .ensures)
 
 abbrev at-bound : tie.After-count → tie.After-bound
 at-bound n = n .before
@@ -94,7 +94,7 @@ returns-2 c =
     let f = s .pre .0 in
     let h = s .pre .1 in
     found-is-answered C (a .n) (a .k) (a .limit) (bytes s) (a .out .now) (f .sized .2) (length-take-le (C .symbols * a .n) (a .entries .now) (h .within))
-    (o .in-columns .result) (opened-front C (a .n) (a .cost) (a .entries .now) (f .sized .2) h (o .in-columns .result) (o .in-columns .ensures)) (a .cost) (d .bound .result)
+    (o .in-columns .result) (columns-front C (a .n) (a .cost) (a .entries .now) (f .sized .2) h (o .in-columns .result) (o .in-columns .ensures)) (a .cost) (d .bound .result)
     (n .count .result) (p .polynomial .result) (p .polynomial .last .1 .1 .1 .1 .1 .1 .0) (h .paid) (o .before .if1 .left) (d .bound .ensures) (n .count .ensures)
     (p .polynomial .ensures)
 
