@@ -69,8 +69,8 @@ pub text-whole : (C : Code) (message out after : List ℕ) (at end j : ℕ) → 
 text-whole C message out after at end j e p = subst (λ (l : List ℕ). Puts out at (messageText C l) end after) (take-all j message (omega arith)) p
 
 -- row j, as the part of the memory that is lent, has k symbols
-pub row-length : (rows : List ℕ) (k j : ℕ) → k * j + k ≤ length rows → length (take (k * j + k - k * j) (drop (k * j) rows)) ≡ k
-row-length rows k j h =
+pub lent-row-length : (rows : List ℕ) (k j : ℕ) → k * j + k ≤ length rows → length (take (k * j + k - k * j) (drop (k * j) rows)) ≡ k
+lent-row-length rows k j h =
     let size : k * j + k - k * j ≡ k = omega arith in
     let rest = length-drop (k * j) rows in
     ap (λ (n : ℕ). length (take n (drop (k * j) rows))) size ∙ length-take-le k (drop (k * j) rows) (omega arith)
@@ -100,7 +100,7 @@ module _ (C : Code) (k : ℕ) (rows scores : List ℕ) where
       → end ≤ at + rowRoom (length (take (k * j + k - k * j) (drop (k * j) rows))) → Puts out at (lineOf C k rows scores j) end after × (end ≤ at + longestRowRoom)
   row-put out after at j score end hk es h p l =
       let size : k * j + k - k * j ≡ k = omega arith in
-      let long = row-length rows k j h in
+      let long = lent-row-length rows k j h in
       let same : rowLine C score (take (k * j + k - k * j) (drop (k * j) rows)) ≡ lineOf C k rows scores j =
       ap (λ (n : ℕ). rowLine C score (take n (drop (k * j) rows))) size ∙ ap (λ (s : ℕ). rowLine C s (take k (drop (k * j) rows))) es in
       (subst (λ (w : List ℕ). Puts out at w end after) same p, omega arith)

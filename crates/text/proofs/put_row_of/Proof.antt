@@ -3,7 +3,7 @@ use Prim.Native.Nat.{_≤_}
 use native.Mathlib.Omega.{arith}
 use Rattle.alphabet.proofs.Sizes.{sized}
 use Rattle.alphabet.specs.Codes.{codeOn, mostPositions}
-use Rattle.text.proofs.Putting.{row-length, row-put}
+use Rattle.text.proofs.Putting.{lent-row-length, row-put}
 use borrow.Author.Needs.{needs}
 use Rattle.text.proofs.put_row_of.Statement.{statement}
 use Rattle.text.proofs.put_row_of.Tie as tie
@@ -24,7 +24,7 @@ put-row-requires c κs =
     let at-start = entry (c .before .before) in
     let a = at-start .args in
     let few = few-symbols at-start in
-    let long = row-length (a .rows .now) (a .k) (a .j) (omega arith) in
+    let long = lent-row-length (a .rows .now) (a .k) (a .j) (omega arith) in
     omega arith
 
 -- The line that is put is that of row j, with its score.
