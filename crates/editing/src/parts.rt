@@ -31,7 +31,7 @@ pub fn fresh(alphabet: Alphabet, n: usize, totals: &mut [u16], entries: &mut [u8
         return Priced::Refused(r);
     }
     memory::clear(entries, 0, entries.len());
-    Priced::Cost(edits::count(alphabet, entries, totals))
+    Priced::Cost(turning::count(alphabet, entries, totals))
 }
 
 pub fn of_bytes(
@@ -50,7 +50,7 @@ pub fn of_bytes(
     if let Checked::Refused(r) = checked {
         return Priced::Refused(r);
     }
-    Priced::Cost(edits::lay(alphabet, bytes, totals, entries))
+    Priced::Cost(turning::lay(alphabet, bytes, totals, entries))
 }
 
 pub fn set_entry(

@@ -1,3 +1,2 @@
 pub mod Priced
 pub mod Edits
-pub mod Turned

@@ -42,7 +42,7 @@ pub fn interpolate(
         return Interpolated::Refused(r);
     }
     let mut entries = [0u8; MOST_PLACES];
-    let cost = edits::turn(alphabet, matrix, &mut entries);
+    let cost = turning::turn(alphabet, matrix, &mut entries);
     inside::interpolate_priced(alphabet, &entries, n, cost, k, limit, out)
 }
 

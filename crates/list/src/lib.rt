@@ -43,7 +43,7 @@ pub fn list_of_multiplicities(
         return Counted::Refused(r);
     }
     let mut entries = [0u8; MOST_PLACES];
-    let cost = edits::turn(alphabet, matrix, &mut entries);
+    let cost = turning::turn(alphabet, matrix, &mut entries);
     list_within::list_priced(alphabet, &entries, n, cost, k, limit, rows, scores)
 }
 

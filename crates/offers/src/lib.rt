@@ -80,7 +80,7 @@ pub fn list_of_plan(
         return Counted::Refused(r);
     }
     let mut entries = [0u8; MOST_PLACES];
-    let cost = edits::turn(alphabet, plan, &mut entries);
+    let cost = turning::turn(alphabet, plan, &mut entries);
     list_planned(
         alphabet,
         &entries,

@@ -67,7 +67,7 @@ pub fn check_plan(
         return Planned::Refused(r);
     }
     let mut entries = [0u8; MOST_PLACES];
-    edits::turn(alphabet, plan, &mut entries);
+    turning::turn(alphabet, plan, &mut entries);
     inside::check_entries(alphabet, n, reliabilities, steps, &entries)
 }
 

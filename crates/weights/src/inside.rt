@@ -7,7 +7,7 @@ ghost use Rattle.alphabet.specs.Codes.{codeOn, mostPlaces};
 ghost use Rattle.definitions.specs.Held.{places};
 ghost use Rattle.definitions.specs.Limits.{greatestLevel};
 ghost use Rattle.definitions.specs.Weights.{multiplicity, matrix};
-ghost use Rattle.edits.specs.Turned.{Turned};
+ghost use Rattle.turning.specs.Turned.{Turned};
 use alphabet::Alphabet;
 use refusals::limits::GREATEST_SUM;
 
@@ -36,5 +36,5 @@ pub fn weigh(alphabet: Alphabet, level: usize, reliabilities: &[u16], entries: &
     ensures { λ r. ⌜ Turned (matrix level (now (reliabilities .entry))) r (now (entries .exit)) ⌝ }
 {
     multiplicities_into(level, reliabilities, entries);
-    edits::turn_in_place(alphabet, reliabilities.len(), entries)
+    turning::turn_in_place(alphabet, reliabilities.len(), entries)
 }

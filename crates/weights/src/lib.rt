@@ -56,7 +56,7 @@ pub fn cost_and_bound(alphabet: Alphabet, n: usize, k: usize, matrix: &[u8]) -> 
         return Costed::Refused(r);
     }
     let mut entries = [0u8; MOST_PLACES];
-    let cost = edits::turn(alphabet, matrix, &mut entries);
+    let cost = turning::turn(alphabet, matrix, &mut entries);
     let bound = bound::bound(k - 1, cost);
     Costed::Of { cost, bound }
 }

@@ -6,7 +6,7 @@ use Prim.Native.Nat.{_*_}
 use native.Mathlib.Omega.{arith}
 use lib.ListN.{length}
 use Rattle.alphabet.specs.Codes.{codeOn}
-use Rattle.edits.proofs.Turned.{bytes-within, turned-bytes, turned-costs}
+use Rattle.turning.proofs.Turned.{bytes-within, turned-bytes, turned-costs}
 use Rattle.interpolation.proofs.Answers.{front, fits, refused-by-check, passed-on}
 use Rattle.interpolation.specs.Answered.{Fit}
 use Rattle.refusals.proofs.Chain.{Came, start, _▸_, accepted}

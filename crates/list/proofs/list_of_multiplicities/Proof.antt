@@ -6,7 +6,7 @@ use Prim.Native.Nat.{_*_}
 use native.Mathlib.Omega.{arith}
 use lib.ListN.{length}
 use Rattle.alphabet.specs.Codes.{codeOn}
-use Rattle.edits.proofs.Turned.{bytes-within, turned-bytes, turned-costs}
+use Rattle.turning.proofs.Turned.{bytes-within, turned-bytes, turned-costs}
 use Rattle.definitions.specs.Refusals.{Line}
 use Rattle.list.proofs.Answers.{costLeft, listFront, list-fits}
 use Rattle.list_within.proofs.Answers.{refused-by-check, passed-on}

@@ -11,7 +11,7 @@ use Rattle.definitions.proofs.Weights.{length-matrix}
 use Rattle.definitions.specs.Limits.{greatestLevel}
 use Rattle.definitions.specs.Refusals.{Line, columns}
 use Rattle.definitions.specs.Weights.{matrix}
-use Rattle.edits.proofs.Turned.{bytes-within, turned-bytes, turned-costs}
+use Rattle.turning.proofs.Turned.{bytes-within, turned-bytes, turned-costs}
 use Rattle.list.proofs.Answers.{costLeft, readStart, read-fits}
 use Rattle.list_within.proofs.Answers.{refused-by-check, passed-on}
 use Rattle.list_within.specs.Within.{Fit}

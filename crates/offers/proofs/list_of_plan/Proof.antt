@@ -8,7 +8,7 @@ use lib.ListN.{length}
 use Rattle.alphabet.specs.Codes.{codeOn}
 use Rattle.definitions.proofs.Table.{Accepts}
 use Rattle.definitions.specs.Refusals.{Line, columns}
-use Rattle.edits.proofs.Turned.{bytes-within, turned-bytes, turned-costs}
+use Rattle.turning.proofs.Turned.{bytes-within, turned-bytes, turned-costs}
 use Rattle.list_within.proofs.Answers.{refused-by-check, passed-on}
 use Rattle.list_within.specs.Within.{Fit}
 use Rattle.offers.proofs.Answers.{plan-fits}

@@ -10,7 +10,7 @@ use Rattle.definitions.proofs.Table.{Accepts, next, end, size-means, entries-me
 use Rattle.definitions.specs.Field.{Code}
 use Rattle.definitions.specs.Planning.{steps, ruled}
 use Rattle.definitions.specs.Refusals.{Line, size, entries, entriesOf, columns}
-use Rattle.edits.proofs.Turned.{bytes-within, turned-bytes, turned-costs}
+use Rattle.turning.proofs.Turned.{bytes-within, turned-bytes, turned-costs}
 use Rattle.planner.proofs.Checking.{plan-left}
 use Rattle.refusals.proofs.Chain.{Came, start, _▸_, further, accepts-front, accepted, answers}
 use Rattle.refusals.specs.Checked.{toldChecked}

@@ -12,7 +12,7 @@ use Rattle.definitions.specs.Field.{Code}
 use Rattle.definitions.specs.Held.{places}
 use Rattle.definitions.specs.Limits.{greatestLevel}
 use Rattle.definitions.specs.Refusals.{costTable}
-use Rattle.edits.proofs.Turned.{bytes-within}
+use Rattle.turning.proofs.Turned.{bytes-within}
 use Rattle.matrix.proofs.Columns.{places-within, cost-small}
 use Rattle.refusals.proofs.Chain.{Came, start, _▸_, accepted, answers}
 use Rattle.refusals.specs.Checked.{toldChecked}

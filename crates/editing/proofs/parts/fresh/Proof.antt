@@ -14,7 +14,7 @@ use Rattle.definitions.specs.Refusals.{Line}
 use Rattle.definitions.specs.Weights.{cost}
 use Rattle.editing.proofs.After.{parts-promised}
 use Rattle.edits.proofs.Edits.{edit-refused, edit-goes-on, edit-counted}
-use Rattle.edits.proofs.Entries.{laid-fresh}
+use Rattle.turning.proofs.Filled.{laid-fresh}
 use Rattle.refusals.proofs.Chain.{Came, start, _▸_, accepted}
 use Rattle.refusals.specs.Checked.{toldChecked}
 use Rattle.editing.proofs.parts.fresh.Statement.{statement}

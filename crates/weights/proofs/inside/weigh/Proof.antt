@@ -8,7 +8,7 @@ use lib.ListN.{length, take}
 use lib.Seq.{take-at}
 use Rattle.definitions.proofs.Weights.{length-matrix}
 use Rattle.definitions.specs.Weights.{matrix}
-use Rattle.edits.specs.Turned.{Turned}
+use Rattle.turning.specs.Turned.{Turned}
 use Rattle.matrix.proofs.Columns.{places-within}
 use Rattle.weights.proofs.inside.weigh.Statement.{statement}
 use Rattle.weights.proofs.inside.weigh.Tie as tie

@@ -8,10 +8,10 @@ use Rattle.alphabet.specs.Codes.{codeOn}
 use Rattle.definitions.proofs.Held.{length-filled}
 use Rattle.definitions.specs.Held.{totalsOf, filled}
 use Rattle.definitions.specs.Weights.{cost}
-use Rattle.edits.proofs.Entries.{laid-filled}
+use Rattle.turning.proofs.Filled.{laid-filled}
 use Rattle.memory.proofs.Laid.{length-laid}
-use Rattle.edits.proofs.lay.Statement.{statement}
-use Rattle.edits.proofs.lay.Tie as tie
+use Rattle.turning.proofs.lay.Statement.{statement}
+use Rattle.turning.proofs.lay.Tie as tie
 
 abbrev entry : tie.After-put → tie.Start
 entry p = p .before .before .before .before .before

@@ -8,10 +8,10 @@ use lib.ListN.{length, take, replicate}
 use lib.Seq.{length-take-le}
 use Rattle.alphabet.proofs.Sizes.{sized}
 use Rattle.alphabet.specs.Codes.{codeOn, mostPositions}
-use Rattle.edits.proofs.Turned.{Turning, turning-within, length-turning, turned}
+use Rattle.turning.proofs.Turned.{Turning, turning-within, length-turning, turned}
 use Rattle.matrix.proofs.Columns.{places-within}
-use Rattle.edits.proofs.turn_in_place.Statement.{statement}
-use Rattle.edits.proofs.turn_in_place.Tie as tie
+use Rattle.turning.proofs.turn_in_place.Statement.{statement}
+use Rattle.turning.proofs.turn_in_place.Tie as tie
 
 abbrev entry : tie.After-places → tie.Start
 entry p = p .before .before .before

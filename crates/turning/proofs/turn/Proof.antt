@@ -6,11 +6,11 @@ use native.Mathlib.Omega.{arith}
 use borrow.Author.Needs.{needs}
 use lib.ListN.{length, take}
 use lib.Seq.{take-at}
-use Rattle.edits.specs.Turned.{Turned}
+use Rattle.turning.specs.Turned.{Turned}
 use Rattle.matrix.proofs.Columns.{places-within}
 use Rattle.memory.proofs.Laid.{laid-front}
-use Rattle.edits.proofs.turn.Statement.{statement}
-use Rattle.edits.proofs.turn.Tie as tie
+use Rattle.turning.proofs.turn.Statement.{statement}
+use Rattle.turning.proofs.turn.Tie as tie
 
 abbrev lending : tie.After-put-arg → tie.Start
 lending c = c .before .before .before

@@ -3,8 +3,8 @@
 use native.Mathlib.Omega.{arith}
 use borrow.Author.Needs.{needs}
 use Rattle.matrix.proofs.Columns.{places-within}
-use Rattle.edits.proofs.count.Statement.{statement}
-use Rattle.edits.proofs.count.Tie as tie
+use Rattle.turning.proofs.count.Statement.{statement}
+use Rattle.turning.proofs.count.Tie as tie
 
 abbrev entry : tie.After-lay-totals → tie.Start
 entry t = t .before .before .before .before

@@ -11,8 +11,8 @@ use Rattle.definitions.proofs.Held.{length-filled, filled-front, cost-filled}
 use Rattle.definitions.specs.Field.{Code}
 use Rattle.definitions.specs.Held.{places, filled}
 use Rattle.definitions.specs.Weights.{cost}
-use Rattle.edits.proofs.Entries.{zeros-behind}
-use Rattle.edits.specs.Turned.{Turned}
+use Rattle.turning.proofs.Filled.{zeros-behind}
+use Rattle.turning.specs.Turned.{Turned}
 use Rattle.matrix.specs.Columns.{FrontCosts}
 use Rattle.memory.specs.Laid.{laid}
 
