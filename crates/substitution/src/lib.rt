@@ -91,17 +91,27 @@ fn shift(alphabet: Alphabet, table: &[u8], p: &mut [u8], h: usize, w: usize, g: 
     }
 }
 
+// So many entries of a column that is laid from x^a on have a place: all of them, or as many as there are columns left.
+fn reach(a: usize, h: usize, w: usize) -> usize
+    requires { ⌜ a < w ⌝ }
+    ensures { λ r. ⌜ (r ≤ h) × (a + r ≤ w) × (r < h → w ≤ a + r) ⌝ }
+{
+    let left = w - a;
+    if left < h {
+        return left;
+    }
+    h
+}
+
 // The column with x y put for y, laid from x^a on.
 fn lay(p: &mut [u8], col: &[u8], a: usize, h: usize, w: usize)
     requires { ⌜ (h ≤ length (now col)) × (a < w) × (w * h ≤ length (now p)) ⌝ }
     ensures laid { λ _. ⌜ Laid h w a h (now (col .entry)) (now (p .entry)) (now (p .exit)) ⌝ }
     ensures symbols { λ _. ⌜ SymbolsLaid (now (col .entry)) (now (p .entry)) (now (p .exit)) ⌝ }
 {
+    let end = reach(a, h, w);
     let mut b = 0;
-    while b < h {
-        if w <= a + b {
-            return;
-        }
+    while b < end {
         p[(a + b) * h + b] = col[b];
         b += 1;
     }
