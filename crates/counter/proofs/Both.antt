@@ -14,7 +14,7 @@ use Rattle.definitions.proofs.Table.{Accepts, next, sizes-mean}
 use Rattle.definitions.proofs.Tools.{both}
 use Rattle.definitions.specs.Field.{Code}
 use Rattle.definitions.specs.Refusals.{Line, sizes, level}
-use Rattle.rows.proofs.Rows.{listed-means}
+use Rattle.rows.proofs.Rows.{list-line-means}
 
 module _ (C : Code) (s t : Settings) where
   -- the lines before the lists
@@ -36,6 +36,6 @@ module _ (C : Code) (s t : Settings) where
   pub both-full : (rows scores others otherScores : List ℕ) (g : ℕ) → Accepts (bothTable C s rows scores t others otherScores g)
       → (length rows ≡ s .k * length scores) × (length others ≡ s .k * length otherScores)
   both-full rows scores others otherScores g (next a (next b (next c (next d (next e (next f (next h (next i later)))))))) = (
-    listed-means (s .k) rows scores h,
-    listed-means (t .k) others otherScores i ∙ ap (λ (k : ℕ). k * length otherScores) (same-k f),
+    list-line-means (s .k) rows scores h,
+    list-line-means (t .k) others otherScores i ∙ ap (λ (k : ℕ). k * length otherScores) (same-k f),
   )

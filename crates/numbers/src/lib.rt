@@ -1,4 +1,4 @@
-// Numbers as the machine holds them: those of sixteen bits from bytes, low byte first; and each cast, with what it keeps.
+// Numbers as the machine holds them: those of sixteen bits from bytes, low byte first; and casts, each with what it keeps.
 ghost use mathlib.Core.List.{_++_};
 ghost use mathlib.Core.Path.{_≡_};
 ghost use Prim.Native.Nat.{_+_, _*_, _≤_, _<_};

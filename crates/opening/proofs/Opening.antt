@@ -28,7 +28,7 @@ use Rattle.definitions.specs.Field.{Code}
 use Rattle.definitions.specs.Listing.{rowAt}
 use Rattle.definitions.specs.Refusals.{Line, tried}
 use Rattle.refusals.proofs.Chain.{told-is}
-use Rattle.rows.proofs.Rows.{listed-means}
+use Rattle.rows.proofs.Rows.{list-line-means}
 
 -- the list's first row is its front
 pub front-row : (k : ℕ) (rows row : RefT (List ℕ)) → row .now ≡ rowAt k (rows .now) 0 → row .ptr ≡ (rows .ptr .0, k * 0 + rows .ptr .1)
@@ -68,7 +68,7 @@ row-of-some k count size e h =
 
 module _ (C : Code) where
   one-full : (k : ℕ) (rows scores : List ℕ) (g : ℕ) → Accepts (judgeTable C k rows scores g) → length rows ≡ k * length scores
-  one-full k rows scores g (next a (next b (next c later))) = listed-means k rows scores c
+  one-full k rows scores g (next a (next b (next c later))) = list-line-means k rows scores c
 
   -- the row is there
   pub row-there : (k : ℕ) (rows scores : List ℕ) (g : ℕ) → isOpen (judgeAnswer C k rows scores g) ≡ true → k ≤ length rows
