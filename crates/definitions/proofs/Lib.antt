@@ -19,3 +19,4 @@ pub mod Sums
 pub mod Powers
 pub mod Held
 pub mod Editing
+pub mod Proposals

@@ -12,3 +12,4 @@ pub mod Answers
 pub mod Held
 pub mod Editing
 pub mod Planning
+pub mod Proposals

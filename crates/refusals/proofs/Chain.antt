@@ -13,7 +13,7 @@ use Rattle.refusals.specs.Refusal.{toldRefusal}
 use Rattle.refusals.specs.declared.Checked.{Checked}
 use Rattle.refusals.specs.declared.Checked.the-variants.{Passed, Refused}
 use Rattle.refusals.specs.declared.Refusal.{Refusal}
-use Rattle.refusals.specs.declared.Refusal.the-variants.{Sizes, Setting, Length, Room, Symbol, Column, Cost, Zero, Plan}
+use Rattle.refusals.specs.declared.Refusal.the-variants.{Sizes, Setting, Length, Room, Symbol, Column, Cost, Zero, Plan, Proposal}
 
 infixl 60 _▸_
 -- the lines of the table up to the rest were tried, and gave this
@@ -78,6 +78,7 @@ told-is (Column place) = refl
 told-is Cost = refl
 told-is Zero = refl
 told-is Plan = refl
+told-is Proposal = refl
 
 -- a table in two parts: the front gives a refusal, or passes the call on to the rest
 module _ {ℓ} {A : Type ℓ} (refuse : ℕ → ℕ → A) (accept : A) (rest : List Line) where

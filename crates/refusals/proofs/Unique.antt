@@ -12,7 +12,7 @@ use Rattle.refusals.specs.Refusal.{toldRefusal}
 use Rattle.refusals.specs.declared.Counted.{Counted}
 use Rattle.refusals.specs.declared.Counted.the-variants.{Count, Refused}
 use Rattle.refusals.specs.declared.Refusal.{Refusal}
-use Rattle.refusals.specs.declared.Refusal.the-variants.{Sizes, Setting, Length, Room, Symbol, Column, Cost, Zero, Plan}
+use Rattle.refusals.specs.declared.Refusal.the-variants.{Sizes, Setting, Length, Room, Symbol, Column, Cost, Zero, Plan, Proposal}
 
 -- where the answer can be had back from its numbers, two answers with the same numbers are equal
 pub same-told : {X : Type 0} (told : X → Answer) (back : Answer → X) → ((x : X) → back (told x) ≡ x) → {x y : X} {a : Answer}
@@ -30,10 +30,11 @@ refusal-number (Column place) e = omega arith
 refusal-number Cost e = omega arith
 refusal-number Zero e = omega arith
 refusal-number Plan e = omega arith
+refusal-number Proposal e = omega arith
 
 -- the refusal of a number and a place
 abbrev pub refusalOf : Answer → Refusal
-refusalOf a = getD (Sizes ∷ Sizes ∷ Setting ∷ Length ∷ Room ∷ Symbol (a .place) ∷ Column (a .place) ∷ Cost ∷ Zero ∷ Plan ∷ []) (a .number) Sizes
+refusalOf a = getD (Sizes ∷ Sizes ∷ Setting ∷ Length ∷ Room ∷ Symbol (a .place) ∷ Column (a .place) ∷ Cost ∷ Zero ∷ Plan ∷ Proposal ∷ []) (a .number) Sizes
 
 -- an answer whose number is 0 is accepted, any other is refused
 abbrev pub answerOf : {X : Type 0} → (Answer → X) → (Refusal → X) → Answer → X
@@ -50,6 +51,7 @@ refused-back accepted refused (Column place) = refl
 refused-back accepted refused Cost = refl
 refused-back accepted refused Zero = refl
 refused-back accepted refused Plan = refl
+refused-back accepted refused Proposal = refl
 
 countedOf : Answer → Counted
 countedOf = answerOf (λ a. Count (a .count)) Refused

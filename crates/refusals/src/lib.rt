@@ -27,6 +27,7 @@ pub enum Refusal {
     Cost,
     Zero,
     Plan,
+    Proposal,
 }
 
 // The answer of an entry that writes: how much it wrote.
@@ -55,6 +56,7 @@ impl Refusal {
             Refusal::Cost => 7,
             Refusal::Zero => 8,
             Refusal::Plan => 9,
+            Refusal::Proposal => 10,
         }
     }
 
@@ -71,6 +73,7 @@ impl Refusal {
             Refusal::Cost => 0,
             Refusal::Zero => 0,
             Refusal::Plan => 0,
+            Refusal::Proposal => 0,
         }
     }
 }
