@@ -1,0 +1,4 @@
+pub mod Collected
+pub mod Rows
+pub mod Gathered
+pub mod Tests
