@@ -1,8 +1,8 @@
 -- The check of a proposal: its test is true exactly where the polynomial is not all zero and passes.
 -- Assumes nothing.
-use mathlib.Core.Bool.{true, false, not}
+use mathlib.Core.Bool.{Bool, true, false, not, _&&_}
 use mathlib.Core.List.{List}
-use mathlib.Core.Path.{_≡_, refl}
+use mathlib.Core.Path.{_≡_, refl, sym, ap}
 use Prim.Native.Nat.{ℕ, _-_, _≤_}
 use borrow.Author.Tests.{eq-eqb, eqb-true, ltb-false, not-true}
 use native.Mathlib.Omega.{arith}
@@ -46,3 +46,11 @@ module _ (C : Code) (v D : ℕ) (q : List ℕ) where
     -- and what is not and does is a yes
     pub yes-of : isZero q ≡ false → Through C n v D m q → isYes C n v D m q ≡ true
     yes-of nonzero p = rw (nonzero, through-passes p) refl
+
+    -- all zeros is a no
+    pub no-of-zeros : isZero q ≡ true → false ≡ isYes C n v D m q
+    no-of-zeros e = sym (ap (λ (b : Bool). not b && passes C n v D m q) e)
+
+    -- where it is not, whether it passes decides
+    pub passing-decides : isZero q ≡ false → passes C n v D m q ≡ isYes C n v D m q
+    passing-decides e = sym (ap (λ (b : Bool). not b && passes C n v D m q) e)

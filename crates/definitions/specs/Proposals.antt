@@ -45,7 +45,7 @@ module _ (C : Code) where
   -- coefficients", whose indexes run on
   abbrev pub proposalTable : ℕ → ℕ → ℕ → List ℕ → List ℕ → List Line
   proposalTable n k D m q =
-      sizes C n k ∷ degree (k - 1) D ∷ entries (C .symbols * n) m ∷ entries (count (k - 1) D) q ∷ entriesOf m
+      sizes C n k ∷ degree (k - 1) D ∷ entries (count (k - 1) D) q ∷ entries (C .symbols * n) m ∷ entriesOf m
       ∷ runsOn (C .symbols * n) (symbols C q) ∷ []
 
   abbrev pub proposalAnswer : ℕ → ℕ → ℕ → List ℕ → List ℕ → Answer
@@ -54,7 +54,7 @@ module _ (C : Code) where
   -- "Add also a list made from a proposal": "for a yes with D at most the matrix's bound it is our list"
   abbrev pub proposalListTable : ℕ → ℕ → ℕ → ℕ → List ℕ → List ℕ → ℕ → ℕ → List Line
   proposalListTable n k G D m q rows scores =
-      sizes C n k ∷ limit G ∷ degree (k - 1) D ∷ entries (C .symbols * n) m ∷ entries (count (k - 1) D) q ∷ room (greatestRows * k) rows
+      sizes C n k ∷ limit G ∷ degree (k - 1) D ∷ entries (count (k - 1) D) q ∷ entries (C .symbols * n) m ∷ room (greatestRows * k) rows
       ∷ room greatestRows scores ∷ entriesOf m ∷ runsOn (C .symbols * n) (symbols C q) ∷ costWithin G m ∷ withinBound (k - 1) m D
       ∷ proposed n (k - 1) D m q ∷ []
 
@@ -73,7 +73,7 @@ module _ (C : Code) where
   -- "Every function that takes a matrix takes the new record" (order 5): a matrix that is held in one
   abbrev pub heldProposalTable : Held → ℕ → ℕ → List ℕ → List Line
   heldProposalTable h k D q =
-      sizes C (h .n) k ∷ degree (k - 1) D ∷ stored C h ∷ entries (count (k - 1) D) q ∷ entriesOf (h .entries)
+      sizes C (h .n) k ∷ degree (k - 1) D ∷ entries (count (k - 1) D) q ∷ stored C h ∷ entriesOf (h .entries)
       ∷ runsOn (C .symbols * h .n) (symbols C q) ∷ []
 
   abbrev pub heldProposalAnswer : Held → ℕ → ℕ → List ℕ → Answer
@@ -81,7 +81,7 @@ module _ (C : Code) where
 
   abbrev pub heldProposalListTable : Held → ℕ → ℕ → ℕ → List ℕ → ℕ → ℕ → List Line
   heldProposalListTable h k G D q rows scores =
-      sizes C (h .n) k ∷ limit G ∷ degree (k - 1) D ∷ stored C h ∷ entries (count (k - 1) D) q ∷ room (greatestRows * k) rows
+      sizes C (h .n) k ∷ limit G ∷ degree (k - 1) D ∷ entries (count (k - 1) D) q ∷ stored C h ∷ room (greatestRows * k) rows
       ∷ room greatestRows scores ∷ entriesOf (h .entries) ∷ runsOn (C .symbols * h .n) (symbols C q) ∷ costWithin G (bytesOf C h)
       ∷ withinBound (k - 1) (bytesOf C h) D ∷ proposed (h .n) (k - 1) D (bytesOf C h) q ∷ []
 

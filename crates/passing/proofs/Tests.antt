@@ -44,10 +44,10 @@ module _ (C : Code) (F : FieldOf C) (v D : ℕ) (pos : 0 < v) (q : List ℕ) (sq
         every-same _ _ m (λ s l. every-same _ _ (m - s) (λ t k. ap (λ (x : ℕ). eqb x 0)
         (parts-hasse C F v D pos q sq (point C i) b (point-symbol C F i) hb s t px rows powers parts wide (omega arith))))
 
-    pub column-agrees : (entries : List ℕ) → Low entries
+    pub column-agrees : (entries : List ℕ) → Low (C .symbols * i + C .symbols) entries
         → columnPasses C rows (D / v + 1) entries (C .symbols * i) ≡ every (C .symbols) (λ b. passesAt C v D q i b (entry C entries i b))
     column-agrees entries low =
-        every-same _ _ (C .symbols) (λ b l. point-agrees b (getD entries (C .symbols * i + b) 0) l (low (C .symbols * i + b)))
+        every-same _ _ (C .symbols) (λ b l. point-agrees b (getD entries (C .symbols * i + b) 0) l (low (C .symbols * i + b) (omega arith)))
 
 -- a polynomial passes through the points of the first n positions, whatever stands behind them
 pub passes-front : (C : Code) (n v D : ℕ) (entries q : List ℕ) → passes C n v D entries q ≡ passes C n v D (take (C .symbols * n) entries) q

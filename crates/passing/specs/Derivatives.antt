@@ -17,9 +17,9 @@ use Rattle.definitions.specs.Polynomial.{derivative}
 use Rattle.definitions.specs.Tools.{every}
 use Rattle.monomials.specs.Walk.{walked}
 
--- no entry is above the greatest level, so that there is an order for each
-abbrev pub Low : List ℕ → Type 0
-Low entries = (j : ℕ) → getD entries j 0 ≤ greatestLevel
+-- none of the first n entries is above the greatest level, so that there is an order for each
+abbrev pub Low : ℕ → List ℕ → Type 0
+Low n entries = (j : ℕ) → j < n → getD entries j 0 ≤ greatestLevel
 
 module _ (C : Code) where
   abbrev pub SymbolRows : List (List ℕ) → Type 0
@@ -76,4 +76,4 @@ module _ (C : Code) where
     pub full : length q ≡ count v D
     pub coefficients : Symbols C q
     pub whole : C .symbols * n ≤ length entries
-    pub low : Low entries
+    pub low : Low (C .symbols * n) entries

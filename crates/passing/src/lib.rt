@@ -197,7 +197,7 @@ fn column_passes(
     at: usize,
 ) -> bool
     requires { ⌜ Tabled (codeOn alphabet) (now table) ⌝ }
-    requires { ⌜ (h ≤ greatestCount) × (at + codeOn alphabet .symbols ≤ length (now entries)) × Low (now entries) ⌝ }
+    requires { ⌜ (h ≤ greatestCount) × (at + codeOn alphabet .symbols ≤ length (now entries)) × Low (at + codeOn alphabet .symbols) (now entries) ⌝ }
     requires { ⌜ SymbolRows (codeOn alphabet) (now rows) ⌝ }
     ensures { λ r. ⌜ r ≡ columnPasses (codeOn alphabet) (now (rows .entry)) h (now (entries .entry)) at ⌝ }
 {

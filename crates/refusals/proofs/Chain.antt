@@ -123,3 +123,7 @@ further more (came ▸ e) = further more came ▸ e
 pub accepts-front : (front more : List Line) → Accepts (front ++ more) → Accepts front
 accepts-front [] more a = end
 accepts-front (l ∷ front) more (next e a) = next e (accepts-front front more a)
+
+pub accepts-behind : (front more : List Line) → Accepts (front ++ more) → Accepts more
+accepts-behind [] more a = a
+accepts-behind (l ∷ front) more (next e a) = accepts-behind front more a

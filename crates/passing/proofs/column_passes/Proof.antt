@@ -57,7 +57,8 @@ point-passes-requires c κs =
     let l = at-loop w in
     let s = entry l in
     let z = sized (s .args .alphabet) .least in
-    let low = s .pre .1 .0 .2 (s .args .at + w .wide .result) in
+    let is = w .wide .ensures .0 in
+    let low = s .pre .1 .0 .2 (s .args .at + w .wide .result) (omega arith) in
     (s .pre .0, ((omega arith, omega arith, omega arith), s .pre .1 .1))
 
 abbrev at-wide : tie.After-point-passes Inv-loop μ-loop → tie.After-wide Inv-loop μ-loop

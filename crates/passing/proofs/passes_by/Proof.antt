@@ -22,7 +22,7 @@ use Rattle.definitions.specs.Tools.{every}
 use Rattle.definitions.specs.Weights.{entry}
 use Rattle.instances.proofs.Codes.{field-on}
 use Rattle.passing.proofs.Tests.{column-agrees}
-use Rattle.passing.specs.Derivatives.{Powers, Parts, columnPasses}
+use Rattle.passing.specs.Derivatives.{Low, Powers, Parts, columnPasses}
 use borrow.Author.Needs.{needs}
 use Rattle.passing.proofs.passes_by.Statement.{statement}
 use Rattle.passing.proofs.passes_by.Tie as tie
@@ -103,25 +103,43 @@ div-column-passes c = entry-of (at-loop (at-px c)) .pre .1 .positive
 add-column-passes : tie.Need-add-column-passes Inv-loop μ-loop
 add-column-passes c = let h = powers-low (entry-of (at-loop (at-px c))) in omega arith
 
--- The entries of position i lie within the entries.
+-- The entries of position i are among those of n positions.
+among : (p : tie.After-px Inv-loop μ-loop)
+    → (let l = at-loop p in let C = codeOf (entry-of l) in C .symbols * l .loop .i + C .symbols ≤ C .symbols * entry-of l .args .n)
+among p =
+    let l = at-loop p in
+    let C = codeOf (entry-of l) in
+    let more = mul-suc (C .symbols) (l .loop .i) in
+    let grows = mul-le-mul-left (C .symbols) (left p) in
+    omega arith
+
+-- So they lie within the entries.
 inside : (y : tie.After-symbols Inv-loop μ-loop)
     → (let l = at-loop (at-px (y .before)) in y .symbols .result * l .loop .i + codeOf (entry-of l) .symbols ≤ length (entry-of l .args .entries .now))
 inside y =
     let l = at-loop (at-px (y .before)) in
     let s = entry-of l in
     let whole = s .pre .1 .whole in
-    let more = mul-suc (codeOf s .symbols) (l .loop .i) in
-    let grows = mul-le-mul-left (codeOf s .symbols) (left (at-px (y .before))) in
+    let here = among (at-px (y .before)) in
     rw (y .symbols .ensures) (omega arith)
 
 mul-column-passes : tie.Need-mul-column-passes Inv-loop μ-loop
 mul-column-passes c = let h = inside c in omega arith
 
+-- None of them is above the greatest level.
+low-here : (p : tie.After-px Inv-loop μ-loop)
+    → (let l = at-loop p in let C = codeOf (entry-of l) in Low (C .symbols * l .loop .i + C .symbols) (entry-of l .args .entries .now))
+low-here p j h = let here = among p in entry-of (at-loop p) .pre .1 .low j (omega arith)
+
+low-at : (y : tie.After-symbols Inv-loop μ-loop)
+    → (let l = at-loop (at-px (y .before)) in Low (y .symbols .result * l .loop .i + codeOf (entry-of l) .symbols) (entry-of l .args .entries .now))
+low-at y = rw (y .symbols .ensures) (low-here (at-px (y .before)))
+
 column-passes-requires : tie.Need-column-passes-requires Inv-loop μ-loop
 column-passes-requires c κs =
     let r = c .before in
     let s = entry-of (at-loop (at-px r)) in
-    (s .pre .0, ((powers-low s, inside c, s .pre .1 .low), r .before .parts .ensures .symbols))
+    (s .pre .0, ((powers-low s, inside c, low-at c), r .before .parts .ensures .symbols))
 
 abbrev at-rows : tie.After-column-passes Inv-loop μ-loop → tie.After-rows Inv-loop μ-loop
 at-rows p = p .before .before
@@ -143,7 +161,7 @@ is-test p =
     p .column-passes .ensures
     ∙ ap (λ (z : ℕ). columnPasses C rows (a .degree / a .v + 1) (a .entries .now) (z * l .loop .i)) (p .before .symbols .ensures)
     ∙ column-agrees C (field-on (a .alphabet)) (a .v) (a .degree) (g .positive) (a .coefficients .now) (g .coefficients) (powers-low s) (l .loop .i)
-    (x .before .powers .result) rows powers parts (a .entries .now) (g .low)
+    (x .before .powers .result) rows powers parts (a .entries .now) (low-here x)
 
 -- A position does not pass.
 returns : tie.Need-returns Inv-loop μ-loop
