@@ -5,6 +5,7 @@ ghost use Rattle.edits.specs.Priced.{toldPriced};
 ghost use Rattle.field.specs.Element.{toldElement};
 ghost use Rattle.interpolation.specs.Interpolated.{toldInterpolated};
 ghost use Rattle.planner.specs.Planned.{toldPlanned};
+ghost use Rattle.proposals.specs.Proposed.{toldProposed};
 ghost use Rattle.refusals.specs.Counted.{toldCounted};
 ghost use Rattle.refusals.specs.Refusal.{toldRefusal};
 ghost use Rattle.weights.specs.Costed.{toldCosted};
@@ -16,6 +17,7 @@ use field::Element;
 use interpolation::Interpolated;
 use numbers::narrow;
 use planner::Planned;
+use proposals::Proposed;
 use refusals::Counted;
 use refusals::Refusal;
 use weights::Costed;
@@ -114,5 +116,16 @@ pub fn planned(p: Planned) -> Answer
     match p {
         Planned::Of { count, steps } => accepted(narrow(count), narrow(steps), 0, 0),
         Planned::Refused(r) => refused(r),
+    }
+}
+
+pub fn proposed(p: Proposed) -> Answer
+    requires { ⌜ Narrow (toldProposed p) ⌝ }
+    ensures { λ a. ⌜ answerOf a ≡ toldProposed p ⌝ }
+{
+    match p {
+        Proposed::Yes => accepted(0, 1, 0, 0),
+        Proposed::No => accepted(0, 0, 0, 0),
+        Proposed::Refused(r) => refused(r),
     }
 }

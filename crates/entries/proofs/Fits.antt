@@ -3,7 +3,7 @@
 use mathlib.Core.Bool.{true}
 use mathlib.Core.List.{List, [], _∷_}
 use mathlib.Core.Path.{_≡_}
-use Prim.Native.Nat.{ℕ, _*_, _-_, _≤_, _<_}
+use Prim.Native.Nat.{ℕ, _+_, _*_, _-_, _≤_, _<_}
 use native.Mathlib.Nat.{div-le-self, mul-le-mul-left}
 use native.Mathlib.Omega.{arith}
 use borrow.Author.Tests.{ltb-true}
@@ -38,7 +38,7 @@ use Rattle.matrix.proofs.Columns.{places-within, cost-small}
 pub refused-narrow : (number place : ℕ) → place < 65536 → Narrow (refused number place)
 refused-narrow number place h = record { place = h; count = omega arith; value = omega arith; cost = omega arith; bound = omega arith }
 
-valued-narrow : (x : ℕ) → x < 65536 → Narrow (valued x)
+pub valued-narrow : (x : ℕ) → x < 65536 → Narrow (valued x)
 valued-narrow x h = record { place = omega arith; count = omega arith; value = h; cost = omega arith; bound = omega arith }
 
 pub counted-narrow : (n : ℕ) → n < 65536 → Narrow (counted n)
@@ -61,6 +61,11 @@ at-none {number} = refused-narrow number 0 (omega arith)
 -- a refusal at the first of few numbers above the greatest
 pub at-first : (greatest : ℕ) (l : List ℕ) → length l < 65536 → noneAbove greatest l .given ≡ true → Narrow (refused 5 (firstAbove greatest l))
 at-first greatest l h e = refused-narrow 5 (firstAbove greatest l) (let bad = ltb-true (firstAbove greatest l) (length l) e in omega arith)
+
+-- of numbers whose indexes run on
+pub at-later : (earlier greatest : ℕ) (l : List ℕ) → earlier + length l < 65536 → noneAbove greatest l .given ≡ true
+    → Narrow (refused 5 (earlier + firstAbove greatest l))
+at-later earlier greatest l h e = refused-narrow 5 (earlier + firstAbove greatest l) (let bad = ltb-true (firstAbove greatest l) (length l) e in omega arith)
 
 -- a refusal at the first of few positions whose numbers sum to more than 4,096
 pub at-bad-column : (C : Code) (n : ℕ) (r : List ℕ) → n < 65536 → columns C n r .given ≡ true → Narrow (refused 6 (smallest (badColumn C r) n))

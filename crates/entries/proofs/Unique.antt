@@ -18,6 +18,7 @@ use Rattle.definitions.specs.Editing.{addAnswer, addHeld, heldListAnswer, heldL
 use Rattle.definitions.specs.Field.{Code}
 use Rattle.definitions.specs.Held.{Held}
 use Rattle.definitions.specs.Planning.{planAnswer, planOut, planListAnswer, planListRows, planListScores, heldPlanListAnswer, heldPlanListRows, heldPlanListScores}
+use Rattle.definitions.specs.Proposals.{proposalListAnswer, proposalListRows, proposalListScores, heldProposalListAnswer, heldProposalListRows, heldProposalListScores}
 use Rattle.editing.proofs.Unique.{one-priced, one-edited}
 use Rattle.edits.specs.Priced.{toldPriced}
 use Rattle.entries.specs.Unique.{AllowsOne, Leaves, LeavesBoth, EditsParts, Unique}
@@ -30,6 +31,7 @@ use Rattle.opening.proofs.Unique.{one-part}
 use Rattle.opening.specs.Handing.{opened, bothOpened}
 use Rattle.planner.proofs.Unique.{one-planned}
 use Rattle.planner.specs.Planned.{toldPlanned}
+use Rattle.proposals.proofs.Unique.{one-proposed}
 use Rattle.refusals.proofs.Unique.{one-counted}
 use Rattle.refusals.specs.Counted.{toldCounted}
 use Rattle.weights.proofs.Unique.{one-costed}
@@ -117,6 +119,12 @@ module _ (C : Code) (F : FieldOf C) where
     matrix-check-plan = λ h s r x y. one-planned;
     matrix-list-of-plan = λ h k G s r rows scores.
         listed (heldPlanListAnswer C h k G s r rows scores) (heldPlanListRows C h k G s r rows scores) (heldPlanListScores C h k G s r rows scores);
+    check-proposal = λ n k D m q x y. one-proposed;
+    list-of-proposal = λ n k G D m q rows scores.
+        listed (proposalListAnswer C n k G D m q rows scores) (proposalListRows C n k G D m q rows scores) (proposalListScores C n k G D m q rows scores);
+    matrix-check-proposal = λ h k D q x y. one-proposed;
+    matrix-list-of-proposal = λ h k G D q rows scores.
+        listed (heldProposalListAnswer C h k G D q rows scores) (heldProposalListRows C h k G D q rows scores) (heldProposalListScores C h k G D q rows scores);
     crossed = λ answer x y p q. one-crossed x y (p ∙ sym q);
     crossed-with-memory = λ answer memory. one-left answerOf one-crossed answer memory;
     crossed-with-both = λ answer memory other. both-left answerOf one-crossed answer memory other;

@@ -20,6 +20,8 @@ use Rattle.definitions.specs.Editing.{heldListAnswer, heldListRows, heldListSco
 use Rattle.definitions.specs.Field.{Code}
 use Rattle.definitions.specs.Held.{Held}
 use Rattle.definitions.specs.Planning.{planAnswer, planOut, checkAnswer, planListAnswer, planListRows, planListScores, heldCheckAnswer, heldPlanListAnswer, heldPlanListRows, heldPlanListScores}
+use Rattle.definitions.specs.Proposals.{proposalAnswer, proposalListAnswer, proposalListRows, proposalListScores, heldProposalAnswer, heldProposalListAnswer}
+use Rattle.definitions.specs.Proposals.{heldProposalListRows, heldProposalListScores}
 use Rattle.editing.specs.declared.Edited.{Edited}
 use Rattle.edits.specs.Priced.{toldPriced}
 use Rattle.edits.specs.declared.Priced.{Priced}
@@ -29,6 +31,7 @@ use Rattle.interpolation.specs.declared.Interpolated.{Interpolated}
 use Rattle.matrix.specs.Record.{heldBy}
 use Rattle.opening.specs.Handing.{partAt, opened, bothOpened}
 use Rattle.planner.specs.Planned.{toldPlanned}
+use Rattle.proposals.specs.Proposed.{toldProposed}
 use Rattle.refusals.specs.Counted.{toldCounted}
 use Rattle.weights.specs.Costed.{toldCosted}
 
@@ -111,6 +114,15 @@ pub record Unique (C : Code) : Type 0 where
   pub matrix-list-of-plan : (h : Held) (k G s : ℕ) (r rows scores : List ℕ)
       → AllowsOne (LeavesBoth toldCounted (heldPlanListAnswer C h k G s r rows scores) (heldPlanListRows C h k G s r rows scores)
       (heldPlanListScores C h k G s r rows scores))
+  -- of somebody else's polynomial (order 8)
+  pub check-proposal : (n k D : ℕ) (m q : List ℕ) → AllowsOne (Answers toldProposed (proposalAnswer C n k D m q))
+  pub list-of-proposal : (n k G D : ℕ) (m q rows scores : List ℕ)
+      → AllowsOne (LeavesBoth toldCounted (proposalListAnswer C n k G D m q rows scores) (proposalListRows C n k G D m q rows scores)
+      (proposalListScores C n k G D m q rows scores))
+  pub matrix-check-proposal : (h : Held) (k D : ℕ) (q : List ℕ) → AllowsOne (Answers toldProposed (heldProposalAnswer C h k D q))
+  pub matrix-list-of-proposal : (h : Held) (k G D : ℕ) (q rows scores : List ℕ)
+      → AllowsOne (LeavesBoth toldCounted (heldProposalListAnswer C h k G D q rows scores) (heldProposalListRows C h k G D q rows scores)
+      (heldProposalListScores C h k G D q rows scores))
   -- the functions of the C boundary: each has one of these promises, of the struct that crosses
   pub crossed : (answer : Answer) → AllowsOne (Answers answerOf answer)
   pub crossed-with-memory : (answer : Answer) (memory : List ℕ) → AllowsOne (Leaves answerOf answer memory)

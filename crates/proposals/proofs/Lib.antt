@@ -1,3 +1,4 @@
 pub mod Lines
 pub mod Fits
 pub mod Answers
+pub mod Unique

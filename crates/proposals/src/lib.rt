@@ -1,18 +1,15 @@
 // A polynomial that somebody else proposes: its check, and the list that is made from it.
 ghost use mathlib.Core.Path.{_≡_};
 ghost use Prim.Native.Nat.{_*_, _-_, _≤_};
-ghost use lib.ListN.{length, take};
+ghost use lib.ListN.{length};
 ghost use Rattle.alphabet.specs.Codes.{codeOn};
 ghost use Rattle.definitions.specs.Field.{sixteen};
 ghost use Rattle.definitions.specs.Held.{held};
 ghost use Rattle.definitions.specs.Limits.{greatestCount, greatestRows};
-ghost use Rattle.definitions.specs.Proposals.{isYes, proposalAnswer, proposalListAnswer, proposalListRows, proposalListScores, heldProposalAnswer, heldProposalListAnswer, heldProposalListRows, heldProposalListScores};
+ghost use Rattle.definitions.specs.Proposals.{proposalAnswer, proposalListAnswer, proposalListRows, proposalListScores, heldProposalAnswer, heldProposalListAnswer, heldProposalListRows, heldProposalListScores};
 ghost use Rattle.definitions.specs.Refusals.{entriesOf, runsOn, symbols};
-ghost use Rattle.list_within.specs.Within.{Answered, Fit};
-ghost use Rattle.matrix.specs.Columns.{FrontCosts};
 ghost use Rattle.matrix.specs.Record.{heldBy};
-ghost use Rattle.passing.specs.Derivatives.{Given};
-ghost use Rattle.proposals.specs.Lines.{limited, stated, listLines};
+ghost use Rattle.proposals.specs.Lines.{limited, stated};
 ghost use Rattle.proposals.specs.Proposed.{toldProposed};
 ghost use Rattle.refusals.specs.Checked.{orLine, toldChecked};
 ghost use Rattle.refusals.specs.Counted.{toldCounted};
@@ -69,24 +66,6 @@ fn symbols_checked(
         .symbols_of_after(alphabet, alphabet.symbols() * n, coefficients)
 }
 
-// "yes exactly when it is not all zero and passes", of the matrix in front of the entries.
-fn is_yes(
-    alphabet: Alphabet,
-    entries: &[u8],
-    n: usize,
-    v: usize,
-    degree: usize,
-    coefficients: &[u8],
-) -> bool
-    requires { ⌜ Given (codeOn alphabet) n v degree (now entries) (now coefficients) ⌝ }
-    ensures { λ r. ⌜ r ≡ isYes (codeOn alphabet) n v degree (take (codeOn alphabet .symbols * n) (now (entries .entry))) (now (coefficients .entry)) ⌝ }
-{
-    if memory::all_zero(coefficients) {
-        return false;
-    }
-    passing::passes(alphabet, entries, n, v, degree, coefficients)
-}
-
 pub fn check_proposal(
     alphabet: Alphabet,
     n: usize,
@@ -109,7 +88,7 @@ pub fn check_proposal(
     }
     let mut entries = [0u8; MOST_PLACES];
     turning::turn(alphabet, matrix, &mut entries);
-    if is_yes(alphabet, &entries, n, k - 1, degree, coefficients) {
+    if proposal_within::is_yes(alphabet, &entries, n, k - 1, degree, coefficients) {
         return Proposed::Yes;
     }
     Proposed::No
@@ -137,7 +116,7 @@ pub fn check_proposal_of_parts(
     if let Checked::Refused(r) = checked {
         return Proposed::Refused(r);
     }
-    if is_yes(alphabet, entries, n, k - 1, degree, coefficients) {
+    if proposal_within::is_yes(alphabet, entries, n, k - 1, degree, coefficients) {
         return Proposed::Yes;
     }
     Proposed::No
@@ -158,47 +137,6 @@ pub fn check_proposal_of_matrix(m: Matrix, k: usize, degree: usize, coefficients
         degree,
         coefficients,
     )
-}
-
-// What passed the checks of its table before the cost, the matrix in front of the entries.
-fn list_proposed(
-    alphabet: Alphabet,
-    entries: &[u8],
-    n: usize,
-    cost: usize,
-    k: usize,
-    limit: usize,
-    degree: usize,
-    coefficients: &[u8],
-    rows: &mut [u8],
-    scores: &mut [u16],
-) -> Counted
-    requires { ⌜ Fit (codeOn alphabet) n k limit (length (now rows)) (length (now scores)) ⌝ }
-    requires { ⌜ FrontCosts (codeOn alphabet) n cost (now entries) × Given (codeOn alphabet) n (k - 1) degree (now entries) (now coefficients) ⌝ }
-    ensures { λ r. ⌜ Answered (codeOn alphabet) (listLines (codeOn alphabet) n k limit degree (now (coefficients .entry)) (take (codeOn alphabet .symbols * n) (now (entries .entry)))) n k (take (codeOn alphabet .symbols * n) (now (entries .entry))) (now (rows .entry)) (now (scores .entry)) (toldCounted r) (now (rows .exit)) (now (scores .exit)) ⌝ }
-{
-    if limit < cost {
-        return Counted::Refused(Refusal::Cost);
-    }
-    let bound = bound::bound(k - 1, cost);
-    if bound < degree {
-        return Counted::Refused(Refusal::Setting);
-    }
-    if !is_yes(alphabet, entries, n, k - 1, degree, coefficients) {
-        return Counted::Refused(Refusal::Proposal);
-    }
-    let columns = matrix::in_columns(alphabet, entries, n);
-    Counted::Count(list_within::roots_above(
-        alphabet,
-        &columns,
-        n,
-        k,
-        degree,
-        bound,
-        coefficients,
-        rows,
-        scores,
-    ))
 }
 
 pub fn list_of_proposal(
@@ -228,7 +166,7 @@ pub fn list_of_proposal(
     }
     let mut entries = [0u8; MOST_PLACES];
     let cost = turning::turn(alphabet, matrix, &mut entries);
-    list_proposed(
+    proposal_within::list_proposed(
         alphabet,
         &entries,
         n,
@@ -273,7 +211,7 @@ pub fn list_of_proposal_of_parts(
     if let Checked::Refused(r) = checked {
         return Counted::Refused(r);
     }
-    list_proposed(
+    proposal_within::list_proposed(
         alphabet,
         entries,
         n,

@@ -14,8 +14,8 @@ use Rattle.definitions.specs.Limits.{greatestLevel}
 use Rattle.definitions.specs.Refusals.{Line}
 use Rattle.list_within.proofs.Answers.{refused-by-check, passed-on}
 use Rattle.list_within.specs.Within.{Fit}
+use Rattle.proposal_within.specs.Lines.{listLines}
 use Rattle.proposals.proofs.Fits.{Fits, priced-fit, symbolLines, symbols-fit, given-front, listStart, list-fits}
-use Rattle.proposals.specs.Lines.{listLines}
 use Rattle.refusals.proofs.Chain.{Came, start, _▸_, further, accepts-front, accepts-behind, accepted}
 use Rattle.refusals.specs.Checked.{toldChecked}
 use Rattle.turning.proofs.Turned.{bytes-within, turned-bytes, turned-costs}

@@ -18,8 +18,8 @@ use Rattle.list_within.proofs.Answers.{refused-by-check, passed-on}
 use Rattle.list_within.specs.Within.{Fit}
 use Rattle.matrix.proofs.Columns.{rightly-priced}
 use Rattle.matrix.proofs.Record.{stored-tried}
+use Rattle.proposal_within.specs.Lines.{listLines}
 use Rattle.proposals.proofs.Fits.{Fits, priced-fit, symbolLines, symbols-fit, given-entries, heldListStart, held-list-fits}
-use Rattle.proposals.specs.Lines.{listLines}
 use Rattle.refusals.proofs.Chain.{Came, start, _▸_, further, accepts-front, accepts-behind, accepted}
 use Rattle.refusals.specs.Checked.{toldChecked}
 use borrow.Author.Needs.{needs}

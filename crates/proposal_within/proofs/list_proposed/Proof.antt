@@ -24,10 +24,10 @@ use Rattle.list_within.proofs.Listing.{lists}
 use Rattle.list_within.specs.Within.{Rooted}
 use Rattle.matrix.proofs.Columns.{columns-front}
 use Rattle.matrix.specs.Columns.{matrixOf}
-use Rattle.proposals.proofs.Answers.{refused-by-degree, refused-by-proposal, listed-by-proposal}
+use Rattle.proposal_within.proofs.Answers.{refused-by-degree, refused-by-proposal, listed-by-proposal}
 use borrow.Author.Needs.{needs}
-use Rattle.proposals.proofs.list_proposed.Statement.{statement}
-use Rattle.proposals.proofs.list_proposed.Tie as tie
+use Rattle.proposal_within.proofs.list_proposed.Statement.{statement}
+use Rattle.proposal_within.proofs.list_proposed.Tie as tie
 
 -- the code, and the bytes in front of the entries
 abbrev codeOf : tie.Start → Code

@@ -9,8 +9,8 @@ use Rattle.definitions.proofs.Proposals.{no-of-zeros, passing-decides}
 use Rattle.definitions.specs.Polynomial.{isZero}
 use Rattle.passing.proofs.Tests.{passes-front}
 use borrow.Author.Needs.{needs}
-use Rattle.proposals.proofs.is_yes.Statement.{statement}
-use Rattle.proposals.proofs.is_yes.Tie as tie
+use Rattle.proposal_within.proofs.is_yes.Statement.{statement}
+use Rattle.proposal_within.proofs.is_yes.Tie as tie
 
 -- the matrix in front of the entries
 abbrev bytes : tie.Start → List ℕ
