@@ -299,7 +299,7 @@ fn lines_in_x_pass_through_every_symbol_of_their_positions() -> Result<(), Refus
             dearest = dearest.max(cost_and_bound(sizes, &matrix)?.cost);
         }
     }
-    assert!(dearest > LIMIT);
+    assert_eq!(dearest, 3600);
     Ok(())
 }
 
