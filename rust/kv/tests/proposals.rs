@@ -3,8 +3,8 @@
 
 use kv::{
     check_proposal, cost_and_bound, encode, interpolate, list_of_multiplicities, list_of_proposal,
-    product, sum, Listed, Matrix, Polynomial, Refusal, Sizes, LEVEL, LIMIT, MONOMIALS, POSITIONS,
-    SYMBOLS,
+    product, roots, sum, Listed, Matrix, Polynomial, Refusal, Sizes, LEVEL, LIMIT, MONOMIALS,
+    POSITIONS, SYMBOLS,
 };
 use std::collections::BTreeMap;
 
@@ -274,6 +274,42 @@ fn a_line_through_a_codeword_is_taken_as_often_as_its_marks_count() -> Result<()
         }
     }
     Ok(())
+}
+
+/// Where lines in x and in y cross, their product passes as often as there are lines, not oftener.
+#[test]
+fn lines_that_cross_pass_together() -> Result<(), Refusal> {
+    let (sizes, position, symbol) = (Sizes { n: 4, k: 2 }, 2, 9);
+    let counts = 0..=LEVEL;
+    for (in_x, in_y) in counts
+        .clone()
+        .flat_map(|a| counts.clone().map(move |b| (a, b)))
+    {
+        let (x, y) = (line_in_x(position)?, line_in_y(&[symbol]));
+        let product = times(&power(&x, in_x)?, &power(&y, in_y)?)?;
+        let product = proposed(1, in_x + in_y, &product);
+        for m in 0..=LEVEL {
+            let mut matrix = vec![0; SYMBOLS * sizes.n];
+            matrix[SYMBOLS * position + usize::from(symbol)] = m as u8;
+            let passes = m <= in_x + in_y;
+            assert_eq!(check(sizes, &matrix, &product), Ok(passes));
+        }
+    }
+    Ok(())
+}
+
+/// A root whose score is at the bound, and above the degree, is not listed.
+#[test]
+fn roots_are_filtered_by_the_bound_and_not_by_the_degree() -> Result<(), Refusal> {
+    let sizes = Sizes { n: 5, k: 2 };
+    let mut matrix = marked(&encode(sizes, &[3, 1])?, 1);
+    matrix[..SYMBOLS].fill(1);
+    let lines = times(&line_in_x(0)?, &line_in_y(&[3, 1]))?;
+    let lines = proposed(1, 2, &lines);
+    assert_eq!(cost_and_bound(sizes, &matrix)?.bound, 5);
+    assert_eq!(roots(2, 2, &lines.coefficients)?, [[3, 1]]);
+    assert!(list(sizes, &matrix, &lines)?.rows.is_empty());
+    is_taken(sizes, &matrix, &lines)
 }
 
 /// A matrix of one number throughout costs up to 3,600; the product of x plus the x of each
