@@ -9,8 +9,8 @@ enum { N = 6, K = 2, LEVEL = 1, DEGREE = 2, COUNT = 6 };
 static const uint8_t marks[N] = {1, 1, 1, 1, 5, 1};
 
 /*
- * Of 1, x, y, x^2, xy and y^2: the box has multiplied y + 1, which passes through the marks that look
- * like 1, by x + 3, which passes through the fifth, where x is 3.
+ * Of 1, x, y, x^2, xy and y^2: the box has multiplied y + 1, which passes through the marks that
+ * look like 1, by x + 3, which passes through the fifth, where x is 3.
  */
 static const uint8_t boxed[COUNT] = {3, 1, 3, 0, 1, 0};
 

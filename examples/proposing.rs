@@ -10,8 +10,8 @@ const LEVEL: usize = 1;
 /// Each mark is clear, and the fifth is wrong.
 const MARKS: [usize; SIZES.n] = [1, 1, 1, 1, 5, 1];
 const DEGREE: usize = 2;
-/// Of 1, x, y, x², xy and y²: the box has multiplied y + 1, which passes through the marks that look
-/// like 1, by x + 3, which passes through the fifth, where x is 3.
+/// Of 1, x, y, x², xy and y²: the box has multiplied y + 1, which passes through the marks that
+/// look like 1, by x + 3, which passes through the fifth, where x is 3.
 const BOXED: [u8; 6] = [3, 1, 3, 0, 1, 0];
 
 fn photographed() -> Result<Vec<u8>, Refusal> {

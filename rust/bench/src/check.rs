@@ -24,8 +24,8 @@ fn compare_roots(k: usize, matrix: &[u8], polynomial: &Polynomial) {
     PLAIN.found("roots", matrix, &expected, &(count, plain));
 }
 
-/// Whether a polynomial that was interpolated is a yes, by the plain Rust and the second program: as
-/// it is, and with one coefficient off.
+/// Whether a polynomial that was interpolated is a yes, by the plain Rust and the second program:
+/// as it is, and with one coefficient off.
 fn compare_checks(k: usize, matrix: &[u8], polynomial: &Polynomial) {
     let mut coefficients = polynomial.coefficients[..polynomial.count].to_vec();
     for added in [0, 1] {

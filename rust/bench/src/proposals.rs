@@ -1,5 +1,5 @@
-//! What a check of a polynomial takes, beside the same in plain Rust and beside its interpolation, and
-//! the list that is made from it beside that of its matrix.
+//! What a check of a polynomial takes, beside the same in plain Rust and beside its interpolation,
+//! and the list that is made from it beside that of its matrix.
 
 use crate::baseline;
 use crate::programs::{Polynomial, PROVED};

@@ -115,8 +115,8 @@ fn lines_for_all(k: usize, entry: u8, positions: usize) -> Proposed {
     }
 }
 
-/// What is tried of such matrices, and how many conditions that is: the greatest matrix, with all that
-/// it asks for and with as many positions as the degree allows; and others with all of it.
+/// What is tried of such matrices, and how many conditions that is: the greatest matrix, with all
+/// that it asks for and with as many positions as the degree allows; and others with all of it.
 pub fn proposed_for_all() -> [(&'static str, usize, Proposed); 4] {
     [
         ("5, k 15, D 75, a yes", 3600, lines_for_all(15, 5, N)),

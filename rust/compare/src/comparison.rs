@@ -71,8 +71,8 @@ impl Comparison {
         proved
     }
 
-    /// Ends the run, moreover, unless the refusal is that of the faults which were put in, and a call
-    /// without any tells what it is to tell.
+    /// Ends the run, moreover, unless the refusal is that of the faults which were put in, and a
+    /// call without any tells what it is to tell.
     pub fn compare_made(&mut self, made: &Made) {
         let answer = self.compare(&made.call).answer;
         let (refusal, faults) = (made.refusal(), made.every_fault());

@@ -5,14 +5,14 @@ use crate::refusal::Refusal;
 use crate::settings::Sizes;
 
 /// Whether a polynomial from outside is not 0 and passes through each (alpha^i, b) as often as the
-/// matrix says. It has these coefficients, in the order that [`Polynomial`](crate::Polynomial) says,
-/// of the monomials of weighted degree at most `degree`. The matrix may cost anything.
+/// matrix says. It has these coefficients, in the order that [`Polynomial`](crate::Polynomial)
+/// says, of the monomials of weighted degree at most `degree`. The matrix may cost anything.
 ///
 /// Refused with [`Refusal::Sizes`], [`Refusal::Setting`] where more than
 /// [`MONOMIALS`](crate::MONOMIALS) have such a degree, [`Refusal::Length`] where the matrix has not
 /// 16n entries or the coefficients are not as many as the monomials, [`Refusal::Symbol`] where an
-/// entry is above [`LEVEL`](crate::LEVEL) or a coefficient above 15; the indexes of the coefficients
-/// run on after the matrix's last.
+/// entry is above [`LEVEL`](crate::LEVEL) or a coefficient above 15; the indexes of the
+/// coefficients run on after the matrix's last.
 ///
 /// ```
 /// use kv::{check_proposal, Refusal, Sizes};

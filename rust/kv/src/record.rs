@@ -301,9 +301,9 @@ impl Matrix {
 
     /// As [`list_of_proposal`](crate::list_of_proposal) of the first 16n entries.
     ///
-    /// Refused as [`check_proposal`](Matrix::check_proposal) is, and with [`Refusal::Setting`] where
-    /// the limit is above [`LIMIT`](crate::LIMIT), [`Refusal::Cost`] where the matrix costs more
-    /// than the limit, [`Refusal::Setting`] where the degree is above its bound,
+    /// Refused as [`check_proposal`](Matrix::check_proposal) is, and with [`Refusal::Setting`]
+    /// where the limit is above [`LIMIT`](crate::LIMIT), [`Refusal::Cost`] where the matrix costs
+    /// more than the limit, [`Refusal::Setting`] where the degree is above its bound,
     /// [`Refusal::Proposal`] where the check answers with a no.
     ///
     /// ```

@@ -40,8 +40,8 @@ pub enum Refusal {
     Zero,
     /// 9: the plan is not the one for its reliabilities and steps.
     Plan,
-    /// 10: the polynomial from outside is 0, or does not pass through every point of the matrix with
-    /// its multiplicity.
+    /// 10: the polynomial from outside is 0, or does not pass through every point of the matrix
+    /// with its multiplicity.
     Proposal,
     /// Any other number: the archive is of a later version than this crate.
     #[non_exhaustive]

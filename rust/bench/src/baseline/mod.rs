@@ -1,8 +1,8 @@
 //! The proved library's own algorithm in plain safe Rust, to be timed against it: conditions by
 //! masks, elimination below the pivots in blocks of sixteen columns, back substitution, the root
-//! search of Roth and Ruckenstein, the roots filtered by score; the planner's steps; and the check of
-//! a polynomial from outside.
-//! Inputs are those that the library accepts; nothing is refused here.
+//! search of Roth and Ruckenstein, the roots filtered by score; the planner's steps; and the check
+//! of a polynomial from outside. Inputs are those that the library accepts; nothing is refused
+//! here.
 
 mod conditions;
 mod elimination;

@@ -1,5 +1,5 @@
-//! Whether a polynomial passes through every point of a matrix. At each position what stands at each
-//! power of y is derived by x once, for all symbols.
+//! Whether a polynomial passes through every point of a matrix. At each position what stands at
+//! each power of y is derived by x once, for all symbols.
 
 use super::field::{point, product, SYMBOLS};
 use super::monomials::walk;
@@ -14,7 +14,8 @@ type Rows = [Derived; MOST_COEFFICIENTS];
 
 const ZEROS: Rows = [[0; GREATEST_LEVEL]; MOST_COEFFICIENTS];
 
-/// Of the derivatives of a power those of the next: times the symbol, and the one of the order before.
+/// Of the derivatives of a power those of the next: times the symbol, and the one of the order
+/// before.
 fn moved(row: &Derived, symbol: u8) -> Derived {
     std::array::from_fn(|s| {
         let before = if s > 0 { row[s - 1] } else { 0 };

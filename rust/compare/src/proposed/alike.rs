@@ -36,15 +36,6 @@ const LISTS: [[&Entry; 2]; 2] = [
     [&MATRIX_LIST_OF_PROPOSAL, &LIST],
 ];
 
-fn same<T: PartialEq + std::fmt::Debug>(call: &Call, entry: &Entry, found: &T, expected: &T) {
-    if found != expected {
-        eprintln!("{} differs on {call:?}", entry.name);
-        eprintln!("found: {found:?}");
-        eprintln!("expected: {expected:?}");
-        exit(1);
-    }
-}
-
 /// The call with the polynomial that is interpolated for its matrix.
 fn with_own_polynomial(call: &Call) -> Call {
     let roomy = Call {
@@ -59,17 +50,17 @@ fn with_own_polynomial(call: &Call) -> Call {
     }
 }
 
-/// Ends the run unless the polynomial is a yes, and listed as the matrix is; answers how many rows are
-/// listed.
+/// Ends the run unless the polynomial is a yes, and listed as the matrix is; answers how many rows
+/// are listed.
 fn listed_alike(call: &Call) -> usize {
     for entry in [&CHECK_PROPOSAL, &MATRIX_CHECK_PROPOSAL] {
         let answer = entry.outcome(Program::Proved, call).answer;
-        same(call, entry, &answer, &YES);
+        entry.found(call, &answer, &YES);
     }
     let mut rows = 0;
     for lists in LISTS {
         let [of_proposal, of_matrix] = lists.map(|entry| entry.outcome(Program::Proved, call));
-        same(call, lists[0], &of_proposal, &of_matrix);
+        lists[0].found(call, &of_proposal, &of_matrix);
         rows = of_proposal.answer.count;
     }
     rows.into()

@@ -10,8 +10,8 @@ fn any_other(random: &mut Random) -> u8 {
     random.between(1, GREATEST_SYMBOL.into()) as u8
 }
 
-/// Whether a power of y, times any power of x, passes: it does where y is 0, as often as it says, and
-/// nowhere else, for no position has x 0.
+/// Whether a power of y, times any power of x, passes: it does where y is 0, as often as it says,
+/// and nowhere else, for no position has x 0.
 fn power_passes(power_of_y: usize, matrix: &[u8]) -> bool {
     let passes =
         |(place, &m): (usize, &u8)| m == 0 || place % SYMBOLS == 0 && usize::from(m) <= power_of_y;

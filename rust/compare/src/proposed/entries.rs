@@ -1,5 +1,5 @@
-//! The entries that take a polynomial from outside: how both programs are called, and which faults a
-//! call can have.
+//! The entries that take a polynomial from outside: how both programs are called, and which faults
+//! a call can have.
 
 use crate::call::Call;
 use crate::entry::Entry;

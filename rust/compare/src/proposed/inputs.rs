@@ -1,5 +1,5 @@
-//! The table of faults, continued: a matrix, lent as bytes or held in a record, and a polynomial from
-//! outside.
+//! The table of faults, continued: a matrix, lent as bytes or held in a record, and a polynomial
+//! from outside.
 
 use crate::contents::{bad_multiplicity, bad_places, BAD_MULTIPLICITIES, BAD_SYMBOLS};
 use crate::cost_and_bound::matrix_of_cost;
@@ -18,8 +18,8 @@ use second::interpolation::{interpolate, ROOM_FOR_COEFFICIENTS};
 use second::roots::MOST_COEFFICIENTS;
 use tags::{multiplicity, random_matrix, Random};
 
-/// Of the calls with a fault in one place one in so many is made, and of those whose sizes are refused
-/// one in so many at all.
+/// Of the calls with a fault in one place one in so many is made, and of those whose sizes are
+/// refused one in so many at all.
 const CHECKED_ONE_IN: usize = 5;
 const LISTED_ONE_IN: usize = 19;
 const REFUSED_ONE_IN: usize = 7;
@@ -91,8 +91,8 @@ fn held_and_not(all: Vec<Made>, random: &mut Random) -> Vec<Made> {
     all.into_iter().flat_map(both).collect()
 }
 
-/// A matrix and what is proposed for it, of a degree that N(D) allows or not; whether the polynomial
-/// is a yes.
+/// A matrix and what is proposed for it, of a degree that N(D) allows or not; whether the
+/// polynomial is a yes.
 pub fn with_proposal(
     made: &Made,
     asked: Asked,
@@ -120,8 +120,8 @@ pub fn with_proposal(
 }
 
 /// Matrices on both sides of the degree, by their bound: one that costs as much as any of the bound
-/// may, and one that costs one less than the first of it; then zeros, and one that is too dear for any
-/// limit.
+/// may, and one that costs one less than the first of it; then zeros, and one that is too dear for
+/// any limit.
 fn matrices(n: usize, v: usize, degree: usize) -> Vec<Vec<u8>> {
     let most = |degree: usize| matrix_of_cost(n, monomials(v, degree).len() - 1);
     let at = most(degree);
@@ -130,8 +130,8 @@ fn matrices(n: usize, v: usize, degree: usize) -> Vec<Vec<u8>> {
     at.into_iter().chain(below).chain(ends).collect()
 }
 
-/// Lines through every point, where the degree allows them; all but one of these; and zeros. Each with
-/// whether it is a yes.
+/// Lines through every point, where the degree allows them; all but one of these; and zeros. Each
+/// with whether it is a yes.
 fn proposals(v: usize, degree: usize, matrix: &[u8]) -> Vec<(Vec<u8>, bool)> {
     let lines = Lines::through(matrix);
     let fewer = lines.without_one();
@@ -177,8 +177,8 @@ fn good_and_bad(made: Made, random: &mut Random) -> Vec<Made> {
     [made].into_iter().chain(bad).collect()
 }
 
-/// Every matrix with every proposal, of the lengths that were chosen; some of them where the sizes are
-/// refused.
+/// Every matrix with every proposal, of the lengths that were chosen; some of them where the sizes
+/// are refused.
 fn contents(made: &Made, asked: Asked, random: &mut Random) -> Vec<Made> {
     let (v, degree) = (weight(&made.call), seeming_degree(&made.call));
     let mut all = Vec::new();

@@ -47,8 +47,8 @@ const DEAR: Entries = &{
     entries
 };
 
-/// A matrix, a degree and its coefficients with k 2, in the order 1, x, y, x², xy, y², x³ and so on;
-/// what the checks answer, and what the lists do.
+/// A matrix, a degree and its coefficients with k 2, in the order 1, x, y, x², xy, y², x³ and so
+/// on; what the checks answer, and what the lists do.
 const PROPOSALS: [(Entries, usize, &[u8], Answers, Answers); 40] = [
     // 1 + y, and multiples of it, through the hard word.
     (WORD, 1, &[1, 0, 1], YES, NO),

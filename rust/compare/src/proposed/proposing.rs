@@ -93,8 +93,8 @@ impl Proposing {
         Some(with_entry(matrix, place, matrix[place] + 1))
     }
 
-    /// Products of lines for the greatest matrix through which they pass, for lower ones and for one
-    /// that asks for one more.
+    /// Products of lines for the greatest matrix through which they pass, for lower ones and for
+    /// one that asks for one more.
     pub fn products(&mut self, n: usize, k: usize) {
         let (v, call) = (k - 1, self.call(n, k));
         let greatest = greatest_degree(v);
@@ -129,8 +129,8 @@ impl Proposing {
         self.propose(call, matrix, (degree, zeros), false);
     }
 
-    /// What is interpolated, up to the bound, to its own degree and to one less, and to degrees on the
-    /// other sides of the bound and of what N(D) allows.
+    /// What is interpolated, up to the bound, to its own degree and to one less, and to degrees on
+    /// the other sides of the bound and of what N(D) allows.
     fn of_each_degree(&mut self, call: &Call, matrix: &[u8], (bound, coefficients): &Proposed) {
         let v = call.k - 1;
         let own = own_degree(v, *bound, coefficients);
