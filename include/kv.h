@@ -27,9 +27,9 @@
 extern "C" {
 #endif
 
-/* The version, as kv.pc has it. KV_VERSION is one number to compare: that of 0.1.0 is 100. */
+/* The version, as kv.pc has it. KV_VERSION is one number to compare: that of 0.2.0 is 200. */
 #define KV_VERSION_MAJOR 0
-#define KV_VERSION_MINOR 1
+#define KV_VERSION_MINOR 2
 #define KV_VERSION_PATCH 0
 #define KV_VERSION (10000 * KV_VERSION_MAJOR + 100 * KV_VERSION_MINOR + KV_VERSION_PATCH)
 
@@ -38,16 +38,17 @@ extern "C" {
  * come with later versions, and are refusals too.
  */
 enum {
-    KV_ACCEPTED = 0,        /* the call is not refused */
-    KV_REFUSED_SIZES = 1,   /* n, k, a position or a symbol out of range, or records of unequal n */
-    KV_REFUSED_SETTING = 2, /* level, limit, steps, degree or lead out of range, unequal settings */
-    KV_REFUSED_LENGTH = 3,  /* an input of a wrong length, rows that are no list, a record held wrong */
-    KV_REFUSED_ROOM = 4,    /* lent output is too short */
-    KV_REFUSED_SYMBOL = 5,  /* a symbol or coefficient above 15, or a multiplicity above KV_LEVEL */
-    KV_REFUSED_COLUMN = 6,  /* the reliabilities of a position sum to more than KV_WHOLE */
-    KV_REFUSED_COST = 7,    /* the matrix costs more than the limit */
-    KV_REFUSED_ZERO = 8,    /* 0 has no inverse, or all coefficients are 0 */
-    KV_REFUSED_PLAN = 9     /* the plan is another than kv_plan writes */
+    KV_ACCEPTED = 0,         /* the call is not refused */
+    KV_REFUSED_SIZES = 1,    /* n, k, a position or a symbol out of range, records of unequal n */
+    KV_REFUSED_SETTING = 2,  /* level, limit, steps, degree, lead out of range, unequal settings */
+    KV_REFUSED_LENGTH = 3,   /* a wrong length, rows that are no list, a record held wrong */
+    KV_REFUSED_ROOM = 4,     /* lent output is too short */
+    KV_REFUSED_SYMBOL = 5,   /* a symbol or coefficient above 15, a multiplicity above KV_LEVEL */
+    KV_REFUSED_COLUMN = 6,   /* the reliabilities of a position sum to more than KV_WHOLE */
+    KV_REFUSED_COST = 7,     /* the matrix costs more than the limit */
+    KV_REFUSED_ZERO = 8,     /* 0 has no inverse, or all coefficients are 0 */
+    KV_REFUSED_PLAN = 9,     /* the plan is another than kv_plan writes */
+    KV_REFUSED_PROPOSAL = 10 /* the polynomial is 0, or does not pass as the matrix says */
 };
 
 /* The limits. */
@@ -60,7 +61,7 @@ enum {
     KV_LIMIT = 225,        /* the greatest limit on a matrix's cost */
     KV_STEPS = 75,         /* the most steps that a plan is asked for */
     KV_COEFFICIENTS = 246, /* the room that kv_interpolate asks for */
-    KV_MONOMIALS = 256,    /* the most monomials, each with its coefficient, that kv_roots takes */
+    KV_MONOMIALS = 256,    /* the most monomials, each with its coefficient, that come in */
     KV_ROWS = 20           /* the most rows of a list, and the room that it asks for */
 };
 
@@ -191,6 +192,21 @@ struct kv_answer kv_interpolate(size_t n, size_t k, size_t limit,
                                 uint8_t *out, size_t out_len);
 
 /*
+ * Checks a polynomial from outside. coefficients[j] is that of the monomial j, in kv_interpolate's
+ * order, and N is the number of monomials of weighted degree at most degree. The matrix has the
+ * multiplicity of position i, symbol b at 16i + b, and may cost more than KV_LIMIT.
+ * value: 1, a yes, where not all coefficients are 0 and the polynomial passes through each
+ * (alpha^i, b) as often as the matrix says; else 0, a no.
+ * Refusals: 1 unless 2 <= k <= n <= 15; 2 where N is above KV_MONOMIALS; 3 where matrix_len is not
+ * 16n or coefficients_len is not N; 5 where an entry of the matrix is above KV_LEVEL, place its
+ * index, or a coefficient is above 15, place 16n + its index, the first one's, the matrix before
+ * the coefficients.
+ */
+struct kv_answer kv_check_proposal(size_t n, size_t k, size_t degree,
+                                   const uint8_t *matrix, size_t matrix_len,
+                                   const uint8_t *coefficients, size_t coefficients_len);
+
+/*
  * coefficients[j] is that of the monomial j, in kv_interpolate's order, of a polynomial Q. N is the
  * number of monomials of weighted degree at most degree.
  * count: of the messages of k symbols, f being a message's polynomial, for which Q(x, f(x)) is zero
@@ -254,6 +270,25 @@ struct kv_answer kv_list_of_plan(size_t n, size_t k, size_t limit, size_t steps,
                                  const uint8_t *plan, size_t plan_len,
                                  uint8_t *rows, size_t rows_len,
                                  uint16_t *scores, size_t scores_len);
+
+/*
+ * Makes the list of a matrix from a polynomial from outside, which kv_check_proposal answers with a
+ * yes and whose degree is at most the bound that kv_cost_and_bound answers for the matrix: of its
+ * roots those whose score is above this bound. Whoever proposed the polynomial, they are the same.
+ * count, memory: as kv_list_of_multiplicities answers and leaves them for the matrix.
+ * Refusals: 1 unless 2 <= k <= n <= 15; 2 where limit is above KV_LIMIT or N, the number of
+ * monomials of weighted degree at most degree, above KV_MONOMIALS; 3 where matrix_len is not 16n or
+ * coefficients_len is not N; 4 where rows_len is below KV_ROWS * k or scores_len, in numbers, below
+ * KV_ROWS; 5 where an entry of the matrix is above KV_LEVEL, place its index, or a coefficient is
+ * above 15, place 16n + its index, the first one's, the matrix before the coefficients; 7 where the
+ * matrix's cost is above limit; then 2 where degree is above the bound; 10 where kv_check_proposal
+ * answers with a no.
+ */
+struct kv_answer kv_list_of_proposal(size_t n, size_t k, size_t limit, size_t degree,
+                                     const uint8_t *matrix, size_t matrix_len,
+                                     const uint8_t *coefficients, size_t coefficients_len,
+                                     uint8_t *rows, size_t rows_len,
+                                     uint16_t *scores, size_t scores_len);
 
 /*
  * A matrix that is edited is kept as a record of four parts: n; cost, the sum of m(m+1)/2 over its
@@ -400,6 +435,38 @@ struct kv_answer kv_matrix_list_of_plan(size_t n, size_t cost,
                                         const uint16_t *reliabilities, size_t reliabilities_len,
                                         uint8_t *rows, size_t rows_len,
                                         uint16_t *scores, size_t scores_len);
+
+/*
+ * value: as kv_check_proposal answers it for the first 16n entries as the matrix.
+ * Refusals: 1 unless 2 <= k <= n <= 15; 2 where N, the number of monomials of weighted degree at
+ * most degree, is above KV_MONOMIALS; 3 where the record is not rightly held or coefficients_len is
+ * not N; 5 where an entry is above KV_LEVEL, place its index, or a coefficient is above 15, place
+ * 16n + its index, the first one's, the entries before the coefficients.
+ */
+struct kv_answer kv_matrix_check_proposal(size_t n, size_t cost,
+                                          const uint16_t *totals, size_t totals_len,
+                                          const uint8_t *entries, size_t entries_len,
+                                          size_t k, size_t degree,
+                                          const uint8_t *coefficients, size_t coefficients_len);
+
+/*
+ * count, memory: as kv_list_of_proposal answers and leaves them for the first 16n entries as the
+ * matrix.
+ * Refusals: 1 unless 2 <= k <= n <= 15; 2 where limit is above KV_LIMIT or N, the number of
+ * monomials of weighted degree at most degree, above KV_MONOMIALS; 3 where the record is not
+ * rightly held or coefficients_len is not N; 4 where rows_len is below KV_ROWS * k or scores_len,
+ * in numbers, below KV_ROWS; 5 where an entry is above KV_LEVEL, place its index, or a coefficient
+ * is above 15, place 16n + its index, the first one's, the entries before the coefficients; 7 where
+ * cost is above limit; then 2 where degree is above the bound that kv_matrix_cost_and_bound
+ * answers; 10 where kv_matrix_check_proposal answers with a no.
+ */
+struct kv_answer kv_matrix_list_of_proposal(size_t n, size_t cost,
+                                            const uint16_t *totals, size_t totals_len,
+                                            const uint8_t *entries, size_t entries_len,
+                                            size_t k, size_t limit, size_t degree,
+                                            const uint8_t *coefficients, size_t coefficients_len,
+                                            uint8_t *rows, size_t rows_len,
+                                            uint16_t *scores, size_t scores_len);
 
 /*
  * The list has rows[kr + j] as symbol j of the message of row r, and scores[r] as its score. It may

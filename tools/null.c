@@ -50,6 +50,12 @@ static void cost_and_bound(void) { answered(kv_cost_and_bound(N, K, BYTES(0))); 
 
 static void interpolate(void) { answered(kv_interpolate(N, K, KV_LIMIT, BYTES(0), BYTES(1))); }
 
+/* Of degree 0, with the one coefficient 1. */
+static void check_proposal(void) {
+    bytes[1][0] = 1;
+    answered(kv_check_proposal(N, K, 0, BYTES(0), BYTES(1)));
+}
+
 /* Of degree 0, which asks for no room. */
 static void roots(void) {
     bytes[0][0] = 1;
@@ -66,6 +72,11 @@ static void list_of_reliabilities(void) {
 
 static void list_of_plan(void) {
     answered(kv_list_of_plan(N, K, KV_LIMIT, KV_STEPS, NUMBERS(0), BYTES(1), BYTES(2), NUMBERS(3)));
+}
+
+static void list_of_proposal(void) {
+    bytes[1][0] = 1;
+    answered(kv_list_of_proposal(N, K, KV_LIMIT, 0, BYTES(0), BYTES(1), BYTES(2), NUMBERS(3)));
 }
 
 static void matrix_fresh(void) { answered(kv_matrix_fresh(N, NUMBERS(0), BYTES(1))); }
@@ -107,6 +118,17 @@ static void matrix_list_of_plan(void) {
                                     BYTES(3), NUMBERS(4)));
 }
 
+static void matrix_check_proposal(void) {
+    bytes[2][0] = 1;
+    answered(kv_matrix_check_proposal(N, 0, NUMBERS(0), BYTES(1), K, 0, BYTES(2)));
+}
+
+static void matrix_list_of_proposal(void) {
+    bytes[2][0] = 1;
+    answered(kv_matrix_list_of_proposal(N, 0, NUMBERS(0), BYTES(1), K, KV_LIMIT, 0, BYTES(2),
+                                        BYTES(3), NUMBERS(4)));
+}
+
 static void judge(void) { judged(kv_judge(K, BYTES(0), NUMBERS(1), LEAD)); }
 
 static void open_row(void) { judged(kv_open(K, BYTES(0), NUMBERS(1), LEAD)); }
@@ -134,10 +156,12 @@ static const struct entry {
     {"check plan", check_plan, 2, {MATRIX, MATRIX}},
     {"cost and bound", cost_and_bound, 1, {MATRIX}},
     {"interpolation", interpolate, 2, {MATRIX, KV_COEFFICIENTS}},
+    {"check proposal", check_proposal, 2, {MATRIX, 1}},
     {"roots", roots, 2, {1, 0}},
     {"list of multiplicities", list_of_multiplicities, 3, {MATRIX, ROWS, KV_ROWS}},
     {"list of reliabilities", list_of_reliabilities, 3, {MATRIX, ROWS, KV_ROWS}},
     {"list of plan", list_of_plan, 4, {MATRIX, MATRIX, ROWS, KV_ROWS}},
+    {"list of proposal", list_of_proposal, 4, {MATRIX, 1, ROWS, KV_ROWS}},
     {"matrix fresh", matrix_fresh, 2, {KV_POSITIONS, KV_ENTRIES}},
     {"matrix of bytes", matrix_of_bytes, 3, {MATRIX, KV_POSITIONS, KV_ENTRIES}},
     {"matrix set entry", matrix_set_entry, 2, {KV_POSITIONS, KV_ENTRIES}},
@@ -149,6 +173,9 @@ static const struct entry {
     {"matrix check plan", matrix_check_plan, 3, {KV_POSITIONS, KV_ENTRIES, MATRIX}},
     {"matrix list of plan", matrix_list_of_plan, 5,
      {KV_POSITIONS, KV_ENTRIES, MATRIX, ROWS, KV_ROWS}},
+    {"matrix check proposal", matrix_check_proposal, 3, {KV_POSITIONS, KV_ENTRIES, 1}},
+    {"matrix list of proposal", matrix_list_of_proposal, 5,
+     {KV_POSITIONS, KV_ENTRIES, 1, ROWS, KV_ROWS}},
     {"judge", judge, 2, {K, 1}},
     {"open", open_row, 2, {K, 1}},
     {"judge both", judge_both, 4, {K, 1, K, 1}},

@@ -1,7 +1,7 @@
 /*
  * Says how much stack each call of the library needs, by what it overwrites of one that is filled
  * with a pattern, and fails where it is more than include/kv.h says. The matrix costs as much as any
- * may, and is the plan for the reliabilities.
+ * may, and is the plan for the reliabilities; the polynomial that is proposed is its own.
  */
 #include <pthread.h>
 #include <stdio.h>
@@ -54,6 +54,11 @@ static void interpolate(void) {
     answer = kv_interpolate(N, k, KV_LIMIT, matrix, sizeof matrix, coefficients, sizeof coefficients);
 }
 
+static void check_proposal(void) {
+    answer = kv_check_proposal(N, k, polynomial.bound, matrix, sizeof matrix, coefficients,
+                               polynomial.count);
+}
+
 static void roots(void) {
     answer = kv_roots(polynomial.bound, k, coefficients, polynomial.count, rows, sizeof rows);
 }
@@ -71,6 +76,12 @@ static void list_of_reliabilities(void) {
 static void list_of_plan(void) {
     answer = kv_list_of_plan(N, k, KV_LIMIT, KV_STEPS, reliabilities, KV_SYMBOLS * N,
                              matrix, sizeof matrix, rows, sizeof rows, scores, KV_ROWS);
+}
+
+static void list_of_proposal(void) {
+    answer = kv_list_of_proposal(N, k, KV_LIMIT, polynomial.bound, matrix, sizeof matrix,
+                                 coefficients, polynomial.count, rows, sizeof rows, scores,
+                                 KV_ROWS);
 }
 
 static void matrix_fresh(void) {
@@ -119,6 +130,17 @@ static void matrix_list_of_plan(void) {
                                     scores, KV_ROWS);
 }
 
+static void matrix_check_proposal(void) {
+    answer = kv_matrix_check_proposal(N, cost, totals, KV_POSITIONS, entries, KV_ENTRIES, k,
+                                      polynomial.bound, coefficients, polynomial.count);
+}
+
+static void matrix_list_of_proposal(void) {
+    answer = kv_matrix_list_of_proposal(N, cost, totals, KV_POSITIONS, entries, KV_ENTRIES, k,
+                                        KV_LIMIT, polynomial.bound, coefficients, polynomial.count,
+                                        rows, sizeof rows, scores, KV_ROWS);
+}
+
 static void judge(void) {
     answer.number = kv_judge(k, messages, 2 * k, falling, 2, 1).number;
 }
@@ -151,10 +173,12 @@ static const struct entry {
     {"check plan", check_plan, OTHER},
     {"cost and bound", cost_and_bound, OTHER},
     {"interpolation", interpolate, LISTING},
+    {"check proposal", check_proposal, OTHER},
     {"roots", roots, ROOTS},
     {"list of multiplicities", list_of_multiplicities, LISTING},
     {"list of reliabilities", list_of_reliabilities, LISTING},
     {"list of plan", list_of_plan, LISTING},
+    {"list of proposal", list_of_proposal, LISTING},
     {"matrix fresh", matrix_fresh, OTHER},
     {"matrix of bytes", matrix_of_bytes, OTHER},
     {"matrix set entry", matrix_set_entry, OTHER},
@@ -165,6 +189,8 @@ static const struct entry {
     {"matrix list", matrix_list, LISTING},
     {"matrix check plan", matrix_check_plan, OTHER},
     {"matrix list of plan", matrix_list_of_plan, LISTING},
+    {"matrix check proposal", matrix_check_proposal, OTHER},
+    {"matrix list of proposal", matrix_list_of_proposal, LISTING},
     {"judge", judge, OTHER},
     {"open", open_row, OTHER},
     {"judge both", judge_both, OTHER},

@@ -6,6 +6,7 @@ use crate::programs::{Polynomial, PACKED, PLAIN, SECOND};
 use second::bound::{GREATEST_LIMIT, GREATEST_MULTIPLICITY};
 use second::code::{LEAST_SIZE, MOST_POSITIONS};
 use second::plan::{ruled, GREATEST_STEPS};
+use second::proposal::Proposal;
 use second::weights::{GREATEST_LEVEL, LEAST_LEVEL};
 use tags::{random_matrix, within_cost, Random};
 
@@ -23,9 +24,26 @@ fn compare_roots(k: usize, matrix: &[u8], polynomial: &Polynomial) {
     PLAIN.found("roots", matrix, &expected, &(count, plain));
 }
 
+/// Whether a polynomial that was interpolated is a yes, by the plain Rust and the second program:
+/// as it is, and with one coefficient off.
+fn compare_checks(k: usize, matrix: &[u8], polynomial: &Polynomial) {
+    let mut coefficients = polynomial.coefficients[..polynomial.count].to_vec();
+    for added in [0, 1] {
+        coefficients[polynomial.count / 2] ^= added;
+        let proposal = Proposal {
+            degree: polynomial.bound,
+            coefficients: &coefficients,
+        };
+        let expected = proposal.is_yes(k, matrix);
+        let found = baseline::passes(k, polynomial.bound, matrix, &coefficients);
+        PLAIN.found("check", matrix, &expected, &found);
+    }
+}
+
 fn compare(k: usize, matrix: &[u8]) {
     let (polynomial, _) = SECOND.agrees_with(&[PLAIN, PACKED], k, matrix);
     compare_roots(k, matrix, &polynomial);
+    compare_checks(k, matrix, &polynomial);
 }
 
 /// Worn tags and hard words of every level, and entries anywhere up to a random cost.

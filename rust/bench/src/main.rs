@@ -13,6 +13,7 @@ mod packed;
 mod parts;
 mod plans;
 mod programs;
+mod proposals;
 #[allow(unsafe_code)]
 mod shared;
 mod timing;

@@ -4,6 +4,7 @@ use crate::edits;
 use crate::parts::{plain_parts, proved_parts};
 use crate::plans;
 use crate::programs::{Program, PACKED, PLAIN, PROVED};
+use crate::proposals;
 use crate::turns::{in_turns, timed, ROUNDS};
 use crate::workloads::{workloads, Workload, K, N};
 use std::time::Duration;
@@ -67,4 +68,5 @@ pub fn time() {
     }
     edits::print_times(&workloads);
     plans::print_times();
+    proposals::print_times(&workloads);
 }

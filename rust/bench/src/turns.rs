@@ -3,7 +3,7 @@
 use std::hint::black_box;
 use std::time::{Duration, Instant};
 
-/// A multiple of three and of four: of so many calls each is the first as often as the others.
+/// A multiple of two, three and four: of so many calls each is the first as often as the others.
 pub const ROUNDS: usize = 12;
 /// The inputs that are one turn of calls: so many that what ran before the turn hardly counts.
 const TURN: usize = 100;

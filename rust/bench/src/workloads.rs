@@ -1,7 +1,9 @@
 //! The matrices that are timed.
 
 use crate::matrices::{worn_tag, worn_weights, wrong_word};
-use second::bound::{bound, cost_of_entry};
+use second::bound::{bound, cost_of_entry, monomials};
+use second::code::x_of;
+use second::field::{plus, times, SYMBOLS};
 use second::weights::{GREATEST_LEVEL, WHOLE};
 use tags::Random;
 
@@ -73,5 +75,57 @@ pub fn workloads() -> [Workload; 5] {
         worn_tags("worn tags, L 5", 5),
         hard_words("hard words, L 4", 4),
         hard_words("hard words, L 5", 5),
+    ]
+}
+
+/// A matrix, and a polynomial that is proposed for it.
+#[derive(Clone)]
+pub struct Proposed {
+    pub k: usize,
+    pub degree: usize,
+    pub matrix: Vec<u8>,
+    pub coefficients: Vec<u8>,
+}
+
+/// The product of x plus the x of each of the first positions, so many times, by the powers of x.
+fn lines(positions: usize, often: usize) -> Vec<u8> {
+    let points = (0..positions).flat_map(|position| vec![x_of(position); often]);
+    points.fold(vec![1], |product, x| {
+        let above = [&[0], product.as_slice()].concat();
+        let here = [product.as_slice(), &[0]].concat();
+        let pairs = above.iter().zip(&here);
+        pairs.map(|(&a, &b)| plus(a, times(x, b))).collect()
+    })
+}
+
+/// For a matrix of one number throughout: such a product, which passes at its positions.
+fn lines_for_all(k: usize, entry: u8, positions: usize) -> Proposed {
+    let in_x = lines(positions, entry.into());
+    let (v, degree) = (k - 1, in_x.len() - 1);
+    let mut coefficients = vec![0; monomials(v, degree)];
+    for (a, c) in in_x.into_iter().enumerate() {
+        let before = if a > 0 { monomials(v, a - 1) } else { 0 };
+        coefficients[before] = c;
+    }
+    Proposed {
+        k,
+        degree,
+        matrix: vec![entry; SYMBOLS * N],
+        coefficients,
+    }
+}
+
+/// What is tried of such matrices, and how many conditions that is: the greatest matrix, with all
+/// that it asks for and with as many positions as the degree allows; and others with all of it.
+pub fn proposed_for_all() -> [(&'static str, usize, Proposed); 4] {
+    [
+        ("5, k 15, D 75, a yes", 3600, lines_for_all(15, 5, N)),
+        (
+            "5, k 7, D 50, a no at mark 10",
+            2401,
+            lines_for_all(K, 5, 10),
+        ),
+        ("3, k 7, D 45, a yes", 1440, lines_for_all(K, 3, N)),
+        ("1, k 2, D 15, a yes", 240, lines_for_all(2, 1, N)),
     ]
 }

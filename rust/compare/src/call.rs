@@ -13,8 +13,10 @@ pub struct Call {
     pub limit: usize,
     pub steps: usize,
     pub degree: usize,
-    /// Operands, a message, a matrix, a plan or coefficients.
+    /// Operands, a message, a matrix, a plan or the coefficients whose roots are asked for.
     pub symbols: Vec<u8>,
+    /// Those of a polynomial that comes with a matrix.
+    pub coefficients: Vec<u8>,
     pub reliabilities: Vec<u16>,
     /// Lent for what is written.
     pub room: usize,
@@ -45,6 +47,7 @@ impl Call {
             steps: 0,
             degree: 0,
             symbols: Vec::new(),
+            coefficients: Vec::new(),
             reliabilities: Vec::new(),
             room: 0,
             room_for_scores: 0,
@@ -57,6 +60,7 @@ impl Call {
 #[derive(Clone, Debug, PartialEq)]
 pub struct Memory {
     pub symbols: Lent<u8>,
+    pub coefficients: Lent<u8>,
     pub reliabilities: Lent<u16>,
     pub out: Lent<u8>,
     pub scores: Lent<u16>,
@@ -67,6 +71,7 @@ impl Memory {
     pub fn lent_to(call: &Call) -> Self {
         Memory {
             symbols: Lent::bytes(&call.symbols),
+            coefficients: Lent::bytes(&call.coefficients),
             reliabilities: Lent::numbers(&call.reliabilities),
             out: Lent::room(call.room),
             scores: Lent::room_for_scores(call.room_for_scores),

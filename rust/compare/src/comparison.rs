@@ -71,15 +71,18 @@ impl Comparison {
         proved
     }
 
-    /// Ends the run, moreover, unless the refusal is that of the faults which were put in.
+    /// Ends the run, moreover, unless the refusal is that of the faults which were put in, and a
+    /// call without any tells what it is to tell.
     pub fn compare_made(&mut self, made: &Made) {
         let answer = self.compare(&made.call).answer;
-        if answer.refusal() != made.refusal() {
+        let (refusal, faults) = (made.refusal(), made.every_fault());
+        let told = made.value.filter(|_| refusal.is_none());
+        if answer.refusal() != refusal || told.is_some_and(|value| value != answer.value) {
             eprintln!("{} answers {answer:?} to {:?}", self.entry.name, made.call);
-            eprintln!("the faults in it: {:?}", made.faults);
+            eprintln!("the faults in it: {faults:?}; to be told: {told:?}");
             exit(1);
         }
-        self.tally.faults(&made.faults);
+        self.tally.faults(&faults);
     }
 
     /// A call that has no fault, with some more room than it asks for.

@@ -7,7 +7,7 @@ use second::bound::{cost, GREATEST_LIMIT, GREATEST_MULTIPLICITY};
 use second::field::GREATEST_SYMBOL;
 use tags::{random_matrix, Random};
 
-const BAD_SYMBOLS: [u8; 3] = [GREATEST_SYMBOL + 1, 128, u8::MAX];
+pub const BAD_SYMBOLS: [u8; 3] = [GREATEST_SYMBOL + 1, 128, u8::MAX];
 pub const BAD_MULTIPLICITIES: [u8; 2] = [GREATEST_MULTIPLICITY + 1, u8::MAX];
 /// Up to this length a second fault is put into every later place.
 const SHORT: usize = 16;

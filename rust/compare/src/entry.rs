@@ -4,6 +4,8 @@ use crate::call::{Call, Memory, Outcome};
 use crate::faults::{Choice, Input};
 use crate::sizes::Sizes;
 use kv::lent::Answer;
+use std::fmt::Debug;
+use std::process::exit;
 
 #[derive(Clone, Copy)]
 pub enum Program {
@@ -45,5 +47,15 @@ impl Entry {
 
     pub fn outcome(&self, program: Program, call: &Call) -> Outcome {
         self.outcome_in(program, call, Memory::lent_to(call))
+    }
+
+    /// Ends the run unless a call of this entry found what was expected.
+    pub fn found<T: Debug + PartialEq>(&self, call: &Call, found: &T, expected: &T) {
+        if found != expected {
+            eprintln!("{} differs on {call:?}", self.name);
+            eprintln!("found: {found:?}");
+            eprintln!("expected: {expected:?}");
+            exit(1);
+        }
     }
 }

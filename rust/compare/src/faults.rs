@@ -16,9 +16,14 @@ pub struct Made {
     pub call: Call,
     /// Of the input that is to come.
     pub length: usize,
-    /// Of the plan that is to come with it.
+    /// Of the plan, or of the coefficients, that are to come with it.
     pub plan_length: usize,
+    pub coefficients_length: usize,
     pub faults: Vec<Refusal>,
+    /// Those that are tried after all others.
+    pub late: Vec<Refusal>,
+    /// What is to be told where the call is not refused, if that is known.
+    pub value: Option<u16>,
 }
 
 impl Made {
@@ -27,7 +32,10 @@ impl Made {
             call,
             length: 0,
             plan_length: 0,
+            coefficients_length: 0,
             faults: Vec::new(),
+            late: Vec::new(),
+            value: None,
         }
     }
 
@@ -43,7 +51,11 @@ impl Made {
     }
 
     pub fn refusal(&self) -> Option<Refusal> {
-        first_of(&self.faults)
+        first_of(&self.faults).or(first_of(&self.late))
+    }
+
+    pub fn every_fault(&self) -> Vec<Refusal> {
+        [self.faults.as_slice(), &self.late].concat()
     }
 }
 

@@ -1,11 +1,15 @@
-//! The limits of document 02, orders 2 and 7, in its own numbers: what the second program takes for
-//! them is not asked.
+//! The limits of document 02, orders 2, 7 and 8, in its own numbers: what the second program takes
+//! for them is not asked.
 
 use crate::call::Call;
 use crate::edited::{COST_AND_BOUND, INTERPOLATE, LIST};
 use crate::entry::{Entry, Program};
 use crate::lines::{hold, Line};
 use crate::planned::{CHECK_PLAN, LIST_OF_PLAN, MATRIX_CHECK_PLAN, MATRIX_LIST_OF_PLAN, PLAN};
+use crate::planted::monomials;
+use crate::proposed::{
+    CHECK_PROPOSAL, LIST_OF_PROPOSAL, MATRIX_CHECK_PROPOSAL, MATRIX_LIST_OF_PROPOSAL,
+};
 use crate::record::Record;
 use crate::{
     cost_and_bound, interpolation, list_of_multiplicities, list_of_reliabilities, multiplicities,
@@ -20,9 +24,25 @@ const LIMIT: usize = 225;
 const STEPS: usize = 75;
 const COEFFICIENTS: usize = 246;
 const ROWS: usize = 20;
+/// Of a matrix of this cost.
+const BOUND: usize = 49;
+/// N(51) is 252, and N(52) is 261.
+const GREATEST_DEGREE: usize = 51;
+
+/// The fifth power of y + 1, up to a degree.
+fn fifth_power(degree: usize) -> Vec<u8> {
+    let coefficient = |(a, b): (usize, usize)| u8::from(a == 0 && [0, 1, 4, 5].contains(&b));
+    let monomials = monomials(K - 1, degree).into_iter();
+    monomials.map(coefficient).collect()
+}
+
+fn put_degree(call: &mut Call, degree: usize) {
+    call.degree = degree;
+    call.coefficients = fifth_power(degree);
+}
 
 /// Everything at its limit: a word whose entries cost just so much, the steps of a plan that come to
-/// it, and the rooms.
+/// it, a polynomial up to its bound, and the rooms.
 fn at_limits() -> Call {
     let word = [1; N];
     let whole = |&entry: &u8| if entry > 0 { 4096 } else { 0 };
@@ -31,6 +51,8 @@ fn at_limits() -> Call {
         level: LEVEL,
         limit: LIMIT,
         steps: STEPS,
+        degree: BOUND,
+        coefficients: fifth_power(BOUND),
         reliabilities: matrix.iter().map(whole).collect(),
         records: vec![Record::of(N, &matrix)],
         symbols: matrix,
@@ -119,7 +141,53 @@ const OF_LISTED_PLANS: &[&[Change]] = &[
     ROOM_FOR_ROWS,
 ];
 
-const CHANGES: [(&Entry, &[&[Change]]); 13] = [
+const DEGREES: &[Change] = &[
+    ("D 30", |call| put_degree(call, 30), [0, 0]),
+    ("D 48", |call| put_degree(call, BOUND - 1), [0, 0]),
+    ("D 52", |call| put_degree(call, GREATEST_DEGREE + 1), [2, 0]),
+];
+const CHECKED_DEGREES: &[Change] = &[
+    ("D 50", |call| put_degree(call, BOUND + 1), [0, 0]),
+    ("D 51", |call| put_degree(call, GREATEST_DEGREE), [0, 0]),
+];
+const LISTED_DEGREES: &[Change] = &[
+    ("D 50", |call| put_degree(call, BOUND + 1), [2, 0]),
+    ("D 51", |call| put_degree(call, GREATEST_DEGREE), [2, 0]),
+];
+const LISTED_ENTRIES: &[Change] = &[
+    (
+        "an entry of 4, which makes the bound 48",
+        |call| put(call, 1, 4),
+        [2, 0],
+    ),
+    ("an entry of 6", |call| put(call, 1, 6), [5, 1]),
+];
+const COEFFICIENT: &[Change] = &[
+    (
+        "a last coefficient of 15",
+        |call| call.coefficients[233] = 15,
+        [0, 0],
+    ),
+    (
+        "a last coefficient of 16",
+        |call| call.coefficients[233] = 16,
+        [5, 473],
+    ),
+];
+
+const OF_CHECKED_PROPOSALS: &[&[Change]] =
+    &[NOTHING, ENTRIES, DEGREES, CHECKED_DEGREES, COEFFICIENT];
+const OF_LISTED_PROPOSALS: &[&[Change]] = &[
+    NOTHING,
+    LISTED_ENTRIES,
+    DEGREES,
+    LISTED_DEGREES,
+    LIMITS,
+    COSTS,
+    ROOM_FOR_ROWS,
+];
+
+const CHANGES: [(&Entry, &[&[Change]]); 17] = [
     (&multiplicities::ENTRY, &[NOTHING, LEVELS]),
     (&cost_and_bound::ENTRY, &[NOTHING, ENTRIES]),
     (
@@ -145,6 +213,10 @@ const CHANGES: [(&Entry, &[&[Change]]); 13] = [
     (&MATRIX_CHECK_PLAN, &[NOTHING, MORE_STEPS, OTHER_PLANS]),
     (&LIST_OF_PLAN, OF_LISTED_PLANS),
     (&MATRIX_LIST_OF_PLAN, OF_LISTED_PLANS),
+    (&CHECK_PROPOSAL, OF_CHECKED_PROPOSALS),
+    (&MATRIX_CHECK_PROPOSAL, OF_CHECKED_PROPOSALS),
+    (&LIST_OF_PROPOSAL, OF_LISTED_PROPOSALS),
+    (&MATRIX_LIST_OF_PROPOSAL, OF_LISTED_PROPOSALS),
 ];
 
 fn lines(program: Program) -> Vec<Line> {

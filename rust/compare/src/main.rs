@@ -23,6 +23,7 @@ mod lists;
 mod multiplicities;
 mod planned;
 mod planted;
+mod proposed;
 mod record;
 mod roots;
 mod sizes;
@@ -32,7 +33,7 @@ mod tally;
 use std::sync::atomic::{AtomicUsize, Ordering};
 use std::thread;
 
-const COMPARISONS: [fn(); 13] = [
+const COMPARISONS: [fn(); 14] = [
     field::compare,
     encode::compare,
     multiplicities::compare,
@@ -46,6 +47,7 @@ const COMPARISONS: [fn(); 13] = [
     counter::compare,
     edited::compare,
     planned::compare,
+    proposed::compare,
 ];
 
 /// Takes the next comparison, until there is none.

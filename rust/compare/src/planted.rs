@@ -47,6 +47,16 @@ pub fn times_y_plus(f: &[u8], grid: &Grid) -> Grid {
     total
 }
 
+/// The product with x plus a symbol, where there is place for it.
+pub fn times_x_plus(symbol: u8, grid: &Grid) -> Grid {
+    let grown = |in_x: &Vec<u8>| {
+        let shifted = [0].iter().chain(in_x);
+        let pairs = shifted.zip(in_x);
+        pairs.map(|(&a, &b)| plus(a, times(b, symbol))).collect()
+    };
+    grid.iter().map(grown).collect()
+}
+
 pub fn in_order(v: usize, degree: usize, grid: &Grid) -> Vec<u8> {
     let monomials = monomials(v, degree).into_iter();
     monomials.map(|(a, b)| grid[b][a]).collect()

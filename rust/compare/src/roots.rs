@@ -51,12 +51,12 @@ const DEGREE: Choice = Choice {
 };
 
 /// k - 1, or what it looks like.
-fn weight(call: &Call) -> usize {
+pub fn weight(call: &Call) -> usize {
     looks_like(call.k).saturating_sub(1).max(1)
 }
 
 /// The small degree that a great one looks like; a small degree itself.
-fn seeming_degree(call: &Call) -> usize {
+pub fn seeming_degree(call: &Call) -> usize {
     match call.degree < MOST_COEFFICIENTS / 2 {
         true => call.degree,
         false => call.degree % (MOST_POSITIONS + 1),

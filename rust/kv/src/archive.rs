@@ -11,7 +11,7 @@ pub struct Answer {
     pub place: u16,
     /// How many entries were written.
     pub count: u16,
-    /// A symbol, or the steps done of a plan.
+    /// A symbol, the steps done of a plan, or 1 for a yes and 0 for a no.
     pub value: u16,
     /// The cost of a matrix.
     pub cost: u16,
@@ -104,6 +104,11 @@ entries! {
         n: usize, k: usize, limit: usize, matrix: &[u8], out: &mut [u8]
     ) -> Answer;
 
+    /// `value`: 1 where the polynomial is not 0 and passes as the matrix says, 0 where it does not.
+    check_proposal = kv_check_proposal(
+        n: usize, k: usize, degree: usize, matrix: &[u8], coefficients: &[u8]
+    ) -> Answer;
+
     /// `count` of the messages. `out` begins with these, one after the other; it has room for k
     /// times the whole part of degree / (k-1).
     roots = kv_roots(degree: usize, k: usize, coefficients: &[u8], out: &mut [u8]) -> Answer;
@@ -123,6 +128,12 @@ entries! {
     /// As [`list_of_multiplicities`] of the plan, where it is what [`plan`] writes.
     list_of_plan = kv_list_of_plan(
         n: usize, k: usize, limit: usize, steps: usize, reliabilities: &[u16], plan: &[u8],
+        rows: &mut [u8], scores: &mut [u16]
+    ) -> Answer;
+
+    /// As [`list_of_multiplicities`] of the matrix, where [`check_proposal`] answers 1.
+    list_of_proposal = kv_list_of_proposal(
+        n: usize, k: usize, limit: usize, degree: usize, matrix: &[u8], coefficients: &[u8],
         rows: &mut [u8], scores: &mut [u16]
     ) -> Answer;
 
@@ -172,6 +183,16 @@ entries! {
     matrix_list_of_plan = kv_matrix_list_of_plan(
         n: usize, cost: usize, totals: &[u16], entries: &[u8], k: usize, limit: usize,
         steps: usize, reliabilities: &[u16], rows: &mut [u8], scores: &mut [u16]
+    ) -> Answer;
+
+    matrix_check_proposal = kv_matrix_check_proposal(
+        n: usize, cost: usize, totals: &[u16], entries: &[u8], k: usize, degree: usize,
+        coefficients: &[u8]
+    ) -> Answer;
+
+    matrix_list_of_proposal = kv_matrix_list_of_proposal(
+        n: usize, cost: usize, totals: &[u16], entries: &[u8], k: usize, limit: usize,
+        degree: usize, coefficients: &[u8], rows: &mut [u8], scores: &mut [u16]
     ) -> Answer;
 
     /// `value` of the verdict on one list.

@@ -17,9 +17,9 @@
 
 use crate::archive;
 pub use crate::archive::{
-    check_plan, cost_and_bound, encode, interpolate, inverse, judge, list_of_multiplicities,
-    list_of_plan, list_of_reliabilities, matrix_fresh, matrix_of_bytes, multiplicities, open, plan,
-    product, roots, sum, Answer, Judgement,
+    check_plan, check_proposal, cost_and_bound, encode, interpolate, inverse, judge,
+    list_of_multiplicities, list_of_plan, list_of_proposal, list_of_reliabilities, matrix_fresh,
+    matrix_of_bytes, multiplicities, open, plan, product, roots, sum, Answer, Judgement,
 };
 use crate::photograph::Photograph;
 use crate::refusal::Refusal;
@@ -157,6 +157,40 @@ pub fn matrix_list_of_plan(
         limit,
         steps,
         reliabilities,
+        rows,
+        scores,
+    )
+}
+
+/// As [`check_proposal`] of the record's first 16n entries.
+pub fn matrix_check_proposal(
+    a: Record<'_>,
+    k: usize,
+    degree: usize,
+    coefficients: &[u8],
+) -> Answer {
+    archive::matrix_check_proposal(a.n, a.cost, a.totals, a.entries, k, degree, coefficients)
+}
+
+/// As [`list_of_proposal`] of the record's first 16n entries.
+pub fn matrix_list_of_proposal(
+    a: Record<'_>,
+    k: usize,
+    limit: usize,
+    degree: usize,
+    coefficients: &[u8],
+    rows: &mut [u8],
+    scores: &mut [u16],
+) -> Answer {
+    archive::matrix_list_of_proposal(
+        a.n,
+        a.cost,
+        a.totals,
+        a.entries,
+        k,
+        limit,
+        degree,
+        coefficients,
         rows,
         scores,
     )

@@ -27,6 +27,9 @@
 //! A [`plan`] is a matrix that is made of the reliabilities step by step. One that comes from outside
 //! is checked, and listed where it is right.
 //!
+//! A polynomial from outside is checked by [`check_proposal`]. Where it passes through every point
+//! of the matrix, [`list_of_proposal`] makes the matrix's list from it.
+//!
 //! Symbols are 0 to 15, polynomials over bits modulo x⁴ + x + 1; alpha is 2. A matrix or a list of
 //! reliabilities has the entry of position i, symbol b at 16i + b. Whatever numbers and slices come
 //! in, no call panics and every call returns: it answers, or says its [`Refusal`].
@@ -43,6 +46,7 @@ mod matrix;
 mod photograph;
 mod plan;
 mod polynomial;
+mod proposal;
 mod record;
 mod refusal;
 mod settings;
@@ -52,11 +56,14 @@ pub use counter::{judge, judge_both, open, open_both, Verdict};
 pub use limits::{
     COEFFICIENTS, ENTRIES, LEVEL, LIMIT, MONOMIALS, POSITIONS, ROWS, STEPS, SYMBOLS, WHOLE,
 };
-pub use list::{list_of_multiplicities, list_of_plan, list_of_reliabilities, Listed, Row};
+pub use list::{
+    list_of_multiplicities, list_of_plan, list_of_proposal, list_of_reliabilities, Listed, Row,
+};
 pub use matrix::{cost_and_bound, multiplicities, CostAndBound};
 pub use photograph::Photograph;
 pub use plan::{check_plan, plan, Plan};
 pub use polynomial::{interpolate, roots, Polynomial};
+pub use proposal::check_proposal;
 pub use record::Matrix;
 pub use refusal::Refusal;
 pub use settings::{Settings, Sizes};

@@ -17,7 +17,7 @@ pub const LIMIT: usize = 225;
 pub const STEPS: usize = 75;
 /// The most coefficients that an interpolated polynomial has.
 pub const COEFFICIENTS: usize = 246;
-/// The most monomials, each with its coefficient, of a polynomial whose roots are asked for.
+/// The most monomials, each with its coefficient, of a polynomial that comes in.
 pub const MONOMIALS: usize = 256;
 /// The most rows that a list has.
 pub const ROWS: usize = 20;

@@ -162,3 +162,41 @@ pub fn list_of_plan(
         lent::list_of_plan(n, k, limit, steps, reliabilities, plan, rows, scores)
     })
 }
+
+/// The list of a matrix, made from a polynomial from outside that
+/// [`check_proposal`](crate::check_proposal) answers with a yes and whose degree is at most the
+/// matrix's bound: of its roots those whose score is above the bound. It is the list that
+/// [`list_of_multiplicities`] gives, whoever proposed the polynomial.
+///
+/// Refused as [`check_proposal`](crate::check_proposal) is, and with [`Refusal::Setting`] where the
+/// limit is above [`LIMIT`](crate::LIMIT), [`Refusal::Cost`] where the matrix costs more than the
+/// limit, [`Refusal::Setting`] where the degree is above its bound, [`Refusal::Proposal`] where the
+/// check answers with a no.
+///
+/// ```
+/// use kv::{list_of_multiplicities, list_of_proposal, Refusal, Sizes, LIMIT};
+///
+/// let sizes = Sizes { n: 3, k: 2 };
+/// let mut matrix = [0; 48];
+/// for position in 0..3 {
+///     matrix[16 * position + 1] = 1;
+/// }
+/// let ours = list_of_multiplicities(sizes, LIMIT, &matrix)?;
+/// // 1 + y, and x times as much, up to the bound, which is 2.
+/// assert_eq!(list_of_proposal(sizes, LIMIT, 1, &matrix, &[1, 0, 1]), Ok(ours.clone()));
+/// assert_eq!(list_of_proposal(sizes, LIMIT, 2, &matrix, &[0, 1, 0, 0, 1, 0]), Ok(ours));
+/// assert_eq!(list_of_proposal(sizes, LIMIT, 3, &matrix, &[0; 10]), Err(Refusal::Setting));
+/// assert_eq!(list_of_proposal(sizes, LIMIT, 2, &matrix, &[0; 6]), Err(Refusal::Proposal));
+/// # Ok::<(), kv::Refusal>(())
+/// ```
+pub fn list_of_proposal(
+    Sizes { n, k }: Sizes,
+    limit: usize,
+    degree: usize,
+    matrix: &[u8],
+    coefficients: &[u8],
+) -> Result<Listed, Refusal> {
+    listed(k, |rows, scores| {
+        lent::list_of_proposal(n, k, limit, degree, matrix, coefficients, rows, scores)
+    })
+}

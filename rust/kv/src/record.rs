@@ -271,4 +271,62 @@ impl Matrix {
             lent::matrix_list_of_plan(self.lent(), k, limit, steps, reliabilities, rows, scores)
         })
     }
+
+    /// As [`check_proposal`](crate::check_proposal) of the first 16n entries.
+    ///
+    /// Refused with [`Refusal::Sizes`], [`Refusal::Setting`] where more than
+    /// [`MONOMIALS`](crate::MONOMIALS) monomials have such a degree, [`Refusal::Length`] where the
+    /// matrix is not rightly held or the coefficients are not as many as the monomials,
+    /// [`Refusal::Symbol`] where an entry is above [`LEVEL`](crate::LEVEL) or a coefficient above
+    /// 15; the indexes of the coefficients run on after the 16n entries.
+    ///
+    /// ```
+    /// let mut matrix = kv::Matrix::fresh(3)?;
+    /// matrix.set_entry(0, 1, 1)?;
+    /// assert_eq!(matrix.check_proposal(2, 1, &[1, 0, 1]), Ok(true));
+    /// matrix.set_entry(0, 2, 1)?;
+    /// assert_eq!(matrix.check_proposal(2, 1, &[1, 0, 1]), Ok(false));
+    /// assert_eq!(matrix.check_proposal(2, 1, &[1, 0, 16]), Err(kv::Refusal::Symbol(50)));
+    /// # Ok::<(), kv::Refusal>(())
+    /// ```
+    pub fn check_proposal(
+        &self,
+        k: usize,
+        degree: usize,
+        coefficients: &[u8],
+    ) -> Result<bool, Refusal> {
+        let answer = lent::matrix_check_proposal(self.lent(), k, degree, coefficients);
+        Ok(answer.accepted()?.value == 1)
+    }
+
+    /// As [`list_of_proposal`](crate::list_of_proposal) of the first 16n entries.
+    ///
+    /// Refused as [`check_proposal`](Matrix::check_proposal) is, and with [`Refusal::Setting`]
+    /// where the limit is above [`LIMIT`](crate::LIMIT), [`Refusal::Cost`] where the matrix costs
+    /// more than the limit, [`Refusal::Setting`] where the degree is above its bound,
+    /// [`Refusal::Proposal`] where the check answers with a no.
+    ///
+    /// ```
+    /// let mut matrix = kv::Matrix::fresh(3)?;
+    /// for position in 0..3 {
+    ///     matrix.set_entry(position, 1, 1)?;
+    /// }
+    /// let listed = matrix.list_of_proposal(2, kv::LIMIT, 1, &[1, 0, 1])?;
+    /// assert_eq!(listed, matrix.list(2, kv::LIMIT)?);
+    /// let other = matrix.list_of_proposal(2, kv::LIMIT, 1, &[0, 1, 1]);
+    /// assert_eq!(other, Err(kv::Refusal::Proposal));
+    /// # Ok::<(), kv::Refusal>(())
+    /// ```
+    pub fn list_of_proposal(
+        &self,
+        k: usize,
+        limit: usize,
+        degree: usize,
+        coefficients: &[u8],
+    ) -> Result<Listed, Refusal> {
+        listed(k, |rows, scores| {
+            let record = self.lent();
+            lent::matrix_list_of_proposal(record, k, limit, degree, coefficients, rows, scores)
+        })
+    }
 }

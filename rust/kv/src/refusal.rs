@@ -20,7 +20,8 @@ pub enum Refusal {
     /// matrix, or matrices of unequal n are added.
     Sizes,
     /// 2: the level, the limit, the steps, the degree or the lead is not among those that the entry
-    /// takes, or two lists have unequal settings.
+    /// takes, or two lists have unequal settings. Where a list is made from a polynomial from
+    /// outside, a degree above the matrix's bound is tried after 7.
     Setting,
     /// 3: the input has not the length that the sizes ask for, rows are not in list order or repeat a
     /// message, or a [`Matrix`](crate::Matrix) is not rightly held.
@@ -39,6 +40,9 @@ pub enum Refusal {
     Zero,
     /// 9: the plan is not the one for its reliabilities and steps.
     Plan,
+    /// 10: the polynomial from outside is 0, or does not pass through every point of the matrix
+    /// with its multiplicity.
+    Proposal,
     /// Any other number: the archive is of a later version than this crate.
     #[non_exhaustive]
     Unknown {
@@ -63,7 +67,8 @@ impl Refusal {
             7 => Some(Refusal::Cost),
             8 => Some(Refusal::Zero),
             9 => Some(Refusal::Plan),
-            10.. => Some(Refusal::Unknown { number, place }),
+            10 => Some(Refusal::Proposal),
+            11.. => Some(Refusal::Unknown { number, place }),
         }
     }
 
@@ -79,6 +84,7 @@ impl Refusal {
             Refusal::Cost => 7,
             Refusal::Zero => 8,
             Refusal::Plan => 9,
+            Refusal::Proposal => 10,
             Refusal::Unknown { number, .. } => number,
         }
     }
@@ -102,8 +108,8 @@ impl Refusal {
             }
             Refusal::Setting => {
                 "the level is not 1 to 5, the cost limit is above 225, the steps are above 75, the \
-                 degree has more than 256 monomials, the lead is 0, or two lists have unequal \
-                 settings"
+                 degree has more than 256 monomials or is above the matrix's bound, the lead is 0, \
+                 or two lists have unequal settings"
             }
             Refusal::Length => {
                 "an input does not have exactly its number of entries, rows are not in list order \
@@ -115,6 +121,10 @@ impl Refusal {
             Refusal::Cost => "the matrix costs more than the limit",
             Refusal::Zero => "0 has no inverse, or all coefficients are 0",
             Refusal::Plan => "the plan is not the rule's result for its reliabilities and steps",
+            Refusal::Proposal => {
+                "the polynomial is all zeros, or does not pass through every point of the matrix \
+                 with its multiplicity"
+            }
             Refusal::Unknown { .. } => "the reason is not known to this version",
         }
     }

@@ -202,6 +202,70 @@ fn plans_listed() {
     }
 }
 
+fn yes_or_no(answer: Answer, _: &[u8], _: &[u16]) -> bool {
+    [false, true][usize::from(answer.value)]
+}
+
+/// A degree and coefficients.
+type Proposal = (usize, Vec<u8>);
+
+/// What is interpolated, where there is a polynomial, and others.
+fn proposals(right: Result<Polynomial, Refusal>) -> Vec<Proposal> {
+    let right = right.map(|polynomial| (polynomial.bound, polynomial.coefficients));
+    let others = [vec![], vec![0], vec![1], vec![0, 1, 1], vec![255; 6]];
+    let of_degree = |degree| others.clone().map(|coefficients| (degree, coefficients));
+    let others = NUMBERS.into_iter().flat_map(of_degree);
+    right.into_iter().chain(others).collect()
+}
+
+#[test]
+fn proposals_checked() {
+    for (n, k) in pairs() {
+        let sizes = Sizes { n, k };
+        for matrix in inputs(&ENTRIES) {
+            let interpolated = kv::interpolate(sizes, kv::LIMIT, &matrix);
+            for (degree, coefficients) in proposals(interpolated) {
+                let found = lent(
+                    |_, _| lent::check_proposal(n, k, degree, &matrix, &coefficients),
+                    yes_or_no,
+                );
+                assert_eq!(
+                    kv::check_proposal(sizes, degree, &matrix, &coefficients),
+                    found
+                );
+            }
+        }
+    }
+}
+
+fn proposal_listed(sizes: Sizes, limit: usize, matrix: &[u8], proposal: &Proposal) {
+    let (Sizes { n, k }, (degree, coefficients)) = (sizes, proposal);
+    let found = lent(
+        |rows, scores| {
+            lent::list_of_proposal(n, k, limit, *degree, matrix, coefficients, rows, scores)
+        },
+        |answer, bytes, scores| listed(k, answer, bytes, scores),
+    );
+    assert_eq!(
+        kv::list_of_proposal(sizes, limit, *degree, matrix, coefficients),
+        found
+    );
+}
+
+#[test]
+fn proposals_listed() {
+    for (n, k) in pairs() {
+        let sizes = Sizes { n, k };
+        for matrix in inputs(&ENTRIES) {
+            for proposal in proposals(kv::interpolate(sizes, kv::LIMIT, &matrix)) {
+                for limit in NUMBERS {
+                    proposal_listed(sizes, limit, &matrix, &proposal);
+                }
+            }
+        }
+    }
+}
+
 /// What a call comes to that makes a matrix in lent memory.
 fn lent_matrix(
     n: usize,
@@ -369,6 +433,39 @@ fn matrices_planned() {
             let right = plans.flat_map(|plan| Matrix::of_bytes(n, &plan));
             for matrix in right.chain(matrices()) {
                 matrix_planned(&matrix, number, &input);
+            }
+        }
+    }
+}
+
+fn matrix_proposed(matrix: &Matrix, k: usize, (degree, coefficients): Proposal) {
+    let record = lent_whole(matrix);
+    let found = lent(
+        |_, _| lent::matrix_check_proposal(record, k, degree, &coefficients),
+        yes_or_no,
+    );
+    assert_eq!(matrix.check_proposal(k, degree, &coefficients), found);
+    for limit in NUMBERS {
+        let found = lent(
+            |rows, scores| {
+                let coefficients = &coefficients;
+                lent::matrix_list_of_proposal(record, k, limit, degree, coefficients, rows, scores)
+            },
+            |answer, bytes, scores| listed(k, answer, bytes, scores),
+        );
+        assert_eq!(
+            matrix.list_of_proposal(k, limit, degree, &coefficients),
+            found
+        );
+    }
+}
+
+#[test]
+fn matrices_proposed() {
+    for matrix in matrices() {
+        for k in NUMBERS {
+            for proposal in proposals(matrix.interpolate(k, kv::LIMIT)) {
+                matrix_proposed(&matrix, k, proposal);
             }
         }
     }

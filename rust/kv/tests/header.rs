@@ -41,7 +41,7 @@ fn refusals() -> impl Iterator<Item = (String, usize)> {
         };
         answer.refusal().map(|case| in_c("KV_REFUSED_", case))
     };
-    (1..=9).filter_map(move |number| Some((refusal(number)?, number.into())))
+    (1..=10).filter_map(move |number| Some((refusal(number)?, number.into())))
 }
 
 fn verdicts() -> impl Iterator<Item = (String, usize)> {

@@ -38,6 +38,7 @@ fn each_number_has_its_refusal_and_each_refusal_its_number() {
         Refusal::Cost,
         Refusal::Zero,
         Refusal::Plan,
+        Refusal::Proposal,
     ];
     assert_eq!(refused(0, 7), None);
     for (number, refusal) in (1..).zip(known) {
@@ -50,13 +51,13 @@ fn each_number_has_its_refusal_and_each_refusal_its_number() {
 
 #[test]
 fn a_number_that_is_not_known_is_no_other_refusal() {
-    for number in [10, 11, 13, 256, u16::MAX] {
+    for number in [11, 12, 13, 256, u16::MAX] {
         let refusal = refused(number, 7).expect("a refusal");
         assert!(matches!(refusal, Refusal::Unknown { .. }), "{number}");
         assert_eq!((refusal.number(), refusal.place()), (number, 7));
     }
-    assert_ne!(refused(10, 7), refused(11, 7));
-    assert_ne!(refused(10, 7), refused(10, 8));
+    assert_ne!(refused(11, 7), refused(12, 7));
+    assert_ne!(refused(11, 7), refused(11, 8));
 }
 
 #[test]
@@ -82,14 +83,17 @@ fn the_reason_is_told_in_words() {
     assert_eq!(words(8, 0), "0 has no inverse, or all coefficients are 0");
     let plan = "the plan is not the rule's result for its reliabilities and steps";
     assert_eq!(words(9, 0), plan);
-    let unknown = "the reason is not known to this version: refusal 10, at place 4";
-    assert_eq!(words(10, 4), unknown);
+    let proposal = "the polynomial is all zeros, or does not pass through every point of the \
+                    matrix with its multiplicity";
+    assert_eq!(words(10, 0), proposal);
+    let unknown = "the reason is not known to this version: refusal 11, at place 4";
+    assert_eq!(words(11, 4), unknown);
 }
 
 #[test]
 fn no_two_are_told_alike() {
-    let all: BTreeSet<String> = (1..=11).map(|number| words(number, 0)).collect();
-    assert_eq!(all.len(), 11);
+    let all: BTreeSet<String> = (1..=12).map(|number| words(number, 0)).collect();
+    assert_eq!(all.len(), 12);
 }
 
 #[test]

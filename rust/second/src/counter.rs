@@ -2,7 +2,7 @@
 
 use crate::code::{sizes_allowed, MOST_POSITIONS};
 use crate::field::GREATEST_SYMBOL;
-use crate::refusal::{refuse, symbol_above, Refusal};
+use crate::refusal::{refuse, refuse_found, symbol_above, Refusal};
 use crate::weights::{GREATEST_LEVEL, LEAST_LEVEL};
 use std::cmp::Reverse;
 use std::collections::BTreeSet;
@@ -69,7 +69,7 @@ impl List<'_> {
 }
 
 fn refuse_symbols(symbols: &[u8]) -> Result<(), Refusal> {
-    symbol_above(GREATEST_SYMBOL, symbols).map_or(Ok(()), Err)
+    refuse_found(symbol_above(GREATEST_SYMBOL, symbols))
 }
 
 /// Open if there is one row, or if the first score leads the second by at least the lead; Nothing

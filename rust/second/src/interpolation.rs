@@ -7,7 +7,7 @@
 use crate::bound::{bound, cost, GREATEST_LIMIT, GREATEST_MULTIPLICITY};
 use crate::code::{sizes_allowed, x_of};
 use crate::field::{over, SYMBOLS};
-use crate::polynomial::{binomial_is_odd, monomials_in_order, powers, rank, Polynomial, Rank};
+use crate::polynomial::{monomials_in_order, rank, Polynomial, Rank};
 use crate::refusal::{symbol_above, unless_refused, Refusal};
 use crate::weights::entries;
 use crate::Answer;
@@ -34,16 +34,6 @@ fn conditions(matrix: &[u8]) -> Vec<Condition> {
     matrix.iter().enumerate().flat_map(of_entry).collect()
 }
 
-/// What each power, from 0 on, becomes at a point by the Hasse derivative of the given order.
-fn derived_powers(order: usize, point: u8, length: usize) -> Vec<u8> {
-    let powers = powers(point, length);
-    let derived = |e: usize| match binomial_is_odd(e, order) {
-        true => powers[e - order],
-        false => 0,
-    };
-    (0..length).map(derived).collect()
-}
-
 struct Candidate {
     polynomial: Polynomial,
     leading: Rank,
@@ -61,12 +51,8 @@ impl Candidate {
 }
 
 fn derivatives(candidates: &[Candidate], condition: &Condition) -> Vec<u8> {
-    let derivative = |candidate: &Candidate| {
-        let (powers_of_x, powers_of_y) = candidate.polynomial.powers();
-        let of_x = derived_powers(condition.s, condition.x, powers_of_x);
-        let of_y = derived_powers(condition.t, condition.y, powers_of_y);
-        candidate.polynomial.weighed(&of_x, &of_y)
-    };
+    let (order, point) = ((condition.s, condition.t), (condition.x, condition.y));
+    let derivative = |candidate: &Candidate| candidate.polynomial.derivative_at(order, point);
     candidates.iter().map(derivative).collect()
 }
 

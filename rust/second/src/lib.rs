@@ -12,6 +12,7 @@ pub mod list;
 pub mod plan;
 mod polynomial;
 pub mod program;
+pub mod proposal;
 pub mod record;
 mod refusal;
 pub mod roots;

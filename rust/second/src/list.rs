@@ -4,7 +4,8 @@ use crate::bound::{bound, cost, GREATEST_LIMIT, GREATEST_MULTIPLICITY};
 use crate::code::{every_message, sizes_allowed, value_at, x_of, MOST_POSITIONS};
 use crate::field::SYMBOLS;
 use crate::plan::{Stated, GREATEST_STEPS};
-use crate::refusal::{symbol_above, unless_refused, Refusal};
+use crate::proposal::Proposal;
+use crate::refusal::{answered, refuse, refuse_found, symbol_above, unless_refused, Refusal};
 use crate::roots::FEW_SYMBOLS;
 use crate::search::messages_above;
 use crate::weights::{column_above, entries, multiplicity, GREATEST_LEVEL, LEAST_LEVEL};
@@ -36,8 +37,11 @@ fn score(matrix: &[u8], codeword: &[u8]) -> usize {
         .sum()
 }
 
+/// A score and its message.
+type Row = (usize, Vec<u8>);
+
 /// Each message whose score is above the bound, with that score, by falling score and in order.
-fn rows_above(bound: usize, k: usize, matrix: &[u8]) -> Vec<(usize, Vec<u8>)> {
+fn rows_above(bound: usize, k: usize, matrix: &[u8]) -> Vec<Row> {
     let searched: Vec<Coded>;
     let candidates = if k <= FEW_SYMBOLS {
         every_coded(k)
@@ -46,7 +50,13 @@ fn rows_above(bound: usize, k: usize, matrix: &[u8]) -> Vec<(usize, Vec<u8>)> {
         searched = messages.into_iter().map(coded).collect();
         &searched
     };
-    let mut rows: Vec<(usize, Vec<u8>)> = candidates
+    filtered(bound, candidates, matrix)
+}
+
+/// Those of the messages, which stand in order, whose score is above the bound, with that score, by
+/// falling score and in order.
+fn filtered(bound: usize, messages: &[Coded], matrix: &[u8]) -> Vec<Row> {
+    let mut rows: Vec<Row> = messages
         .iter()
         .map(|(message, codeword)| (score(matrix, codeword), message))
         .filter(|&(score, _)| score > bound)
@@ -58,6 +68,10 @@ fn rows_above(bound: usize, k: usize, matrix: &[u8]) -> Vec<(usize, Vec<u8>)> {
 
 fn write_list(k: usize, matrix: &[u8], rows: &mut [u8], scores: &mut [u16]) -> Answer {
     let listed = rows_above(bound(k - 1, cost(matrix)), k, matrix);
+    write_rows(k, &listed, rows, scores)
+}
+
+fn write_rows(k: usize, listed: &[Row], rows: &mut [u8], scores: &mut [u16]) -> Answer {
     for (index, (score, message)) in listed.iter().enumerate() {
         rows[k * index..][..k].copy_from_slice(message);
         scores[index] = *score as u16;
@@ -137,4 +151,41 @@ pub fn list_of_plan(
     unless_refused(&tests, || {
         stated.unless_refused(|_| write_list(k, stated.entries, rows, scores))
     })
+}
+
+/// The roots of a polynomial from outside, filtered by their score.
+fn rows_of_proposal(
+    n: usize,
+    k: usize,
+    limit: usize,
+    matrix: &[u8],
+    proposal: Proposal,
+    has_room: bool,
+) -> Result<Vec<Row>, Refusal> {
+    refuse(!sizes_allowed(n, k), Refusal::Sizes)?;
+    let too_great = limit > GREATEST_LIMIT || proposal.has_too_many(k);
+    refuse(too_great, Refusal::Setting)?;
+    refuse(!proposal.has_lengths(n, k, matrix), Refusal::Length)?;
+    refuse(!has_room, Refusal::Room)?;
+    refuse_found(proposal.symbol_above(matrix))?;
+    refuse(cost(matrix) > limit, Refusal::Cost)?;
+    let bound = bound(k - 1, cost(matrix));
+    refuse(proposal.degree > bound, Refusal::Setting)?;
+    refuse(!proposal.is_yes(k, matrix), Refusal::Proposal)?;
+    let roots: Vec<Coded> = proposal.roots(k).into_iter().map(coded).collect();
+    Ok(filtered(bound, &roots, matrix))
+}
+
+pub fn list_of_proposal(
+    n: usize,
+    k: usize,
+    limit: usize,
+    matrix: &[u8],
+    proposal: Proposal,
+    rows: &mut [u8],
+    scores: &mut [u16],
+) -> Answer {
+    let has_room = !too_little_room(k, rows, scores);
+    let listed = rows_of_proposal(n, k, limit, matrix, proposal, has_room);
+    answered(listed.map(|listed| write_rows(k, &listed, rows, scores)))
 }

@@ -35,6 +35,17 @@ pub fn powers(base: u8, length: usize) -> Vec<u8> {
     all.take(length).collect()
 }
 
+/// What each power, from 0 on, becomes at a point by the Hasse derivative of the given order: its
+/// binomial over the order, counted modulo 2, times the power that is lower by the order.
+fn derived_powers(order: usize, point: u8, length: usize) -> Vec<u8> {
+    let powers = powers(point, length);
+    let derived = |e: usize| match binomial_is_odd(e, order) {
+        true => powers[e - order],
+        false => 0,
+    };
+    (0..length).map(derived).collect()
+}
+
 fn add_times(total: &mut InX, factor: u8, shift: usize, part: &[u8]) {
     if factor == 0 || part.is_empty() {
         return;
@@ -111,7 +122,7 @@ impl Polynomial {
     }
 
     /// The sum of each coefficient times the weights of its powers of x and of y.
-    pub fn weighed(&self, of_x: &[u8], of_y: &[u8]) -> u8 {
+    fn weighed(&self, of_x: &[u8], of_y: &[u8]) -> u8 {
         let sum = |in_x: &InX| {
             let terms = in_x.iter().zip(of_x).map(|(&c, &weight)| times(c, weight));
             terms.fold(0, plus)
@@ -131,6 +142,14 @@ impl Polynomial {
     pub fn value_at(&self, x: u8, y: u8) -> u8 {
         let (powers_of_x, powers_of_y) = self.powers();
         self.weighed(&powers(x, powers_of_x), &powers(y, powers_of_y))
+    }
+
+    /// The Hasse derivative of order s in x and t in y, at a point.
+    pub fn derivative_at(&self, (s, t): (usize, usize), (x, y): (u8, u8)) -> u8 {
+        let (powers_of_x, powers_of_y) = self.powers();
+        let of_x = derived_powers(s, x, powers_of_x);
+        let of_y = derived_powers(t, y, powers_of_y);
+        self.weighed(&of_x, &of_y)
     }
 
     /// Whether Q(x, f(x)) is identically zero.

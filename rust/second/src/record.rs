@@ -6,7 +6,8 @@ use crate::field::SYMBOLS;
 use crate::interpolation;
 use crate::list;
 use crate::plan::{self, Stated, GREATEST_STEPS};
-use crate::refusal::{refuse, unless_refused, Refusal};
+use crate::proposal::{self, Proposal};
+use crate::refusal::{answered, refuse, unless_refused, Refusal};
 use crate::weights::entries;
 use crate::Answer;
 
@@ -111,10 +112,6 @@ fn write(matrix: &[u64], to_totals: &mut [u16], to_entries: &mut [u8]) -> Answer
         cost: cost(matrix) as u16,
         ..Answer::default()
     }
-}
-
-fn answered(result: Result<Answer, Refusal>) -> Answer {
-    result.unwrap_or_else(Refusal::answer)
 }
 
 /// A record made of bytes.
@@ -254,4 +251,38 @@ pub fn list_of_plan(
         let stated = record.stated(steps, reliabilities);
         list::list_of_plan(record.n, k, limit, stated, rows, scores)
     })
+}
+
+/// What of a record and a polynomial from outside is refused before room and symbols are looked at,
+/// where the limit, if there is one, is allowed.
+fn refuse_proposal(
+    record: Record,
+    k: usize,
+    limit_allowed: bool,
+    proposal: Proposal,
+) -> Result<(), Refusal> {
+    refuse(!sizes_allowed(record.n, k), Refusal::Sizes)?;
+    let setting_allowed = limit_allowed && !proposal.has_too_many(k);
+    refuse(!setting_allowed, Refusal::Setting)?;
+    let has_lengths = record.is_right() && proposal.has_right_length(k);
+    refuse(!has_lengths, Refusal::Length)
+}
+
+pub fn check_proposal(record: Record, k: usize, proposal: Proposal) -> Answer {
+    let taken = refuse_proposal(record, k, true, proposal);
+    answered(taken.map(|()| proposal::check_proposal(record.n, k, record.bytes(), proposal)))
+}
+
+pub fn list_of_proposal(
+    record: Record,
+    k: usize,
+    limit: usize,
+    proposal: Proposal,
+    rows: &mut [u8],
+    scores: &mut [u16],
+) -> Answer {
+    let taken = refuse_proposal(record, k, limit <= GREATEST_LIMIT, proposal);
+    answered(taken.map(|()| {
+        list::list_of_proposal(record.n, k, limit, record.bytes(), proposal, rows, scores)
+    }))
 }

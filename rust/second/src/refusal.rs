@@ -13,6 +13,7 @@ pub enum Refusal {
     Cost,
     Zero,
     Plan,
+    Proposal,
 }
 
 impl Refusal {
@@ -27,6 +28,7 @@ impl Refusal {
             Refusal::Cost => 7,
             Refusal::Zero => 8,
             Refusal::Plan => 9,
+            Refusal::Proposal => 10,
         }
     }
 
@@ -62,6 +64,16 @@ pub fn refuse(when: bool, refusal: Refusal) -> Result<(), Refusal> {
         true => Err(refusal),
         false => Ok(()),
     }
+}
+
+/// Ends with the refusal that was found, if any was.
+pub fn refuse_found(found: Option<Refusal>) -> Result<(), Refusal> {
+    found.map_or(Ok(()), Err)
+}
+
+/// The answer of what ends with a refusal, or with what the work answers.
+pub fn answered(result: Result<Answer, Refusal>) -> Answer {
+    result.unwrap_or_else(Refusal::answer)
 }
 
 /// The refusal of the first number above the greatest one allowed.

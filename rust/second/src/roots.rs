@@ -76,7 +76,8 @@ fn from_the_top(q: &Polynomial, j: usize) -> Vec<Vec<u8>> {
         .collect()
 }
 
-fn in_order(q: &Polynomial, k: usize) -> Vec<Vec<u8>> {
+/// All roots, ordered by f_0, then f_1 and so on.
+pub(crate) fn in_order(q: &Polynomial, k: usize) -> Vec<Vec<u8>> {
     if k <= FEW_SYMBOLS {
         return by_trying_all(q, k);
     }
@@ -86,7 +87,7 @@ fn in_order(q: &Polynomial, k: usize) -> Vec<Vec<u8>> {
 }
 
 /// N(D) is above D, which therefore decides where it is great.
-fn too_many_coefficients(v: usize, degree: usize) -> bool {
+pub(crate) fn too_many_coefficients(v: usize, degree: usize) -> bool {
     degree >= MOST_COEFFICIENTS || monomials(v, degree) > MOST_COEFFICIENTS
 }
 

@@ -56,7 +56,7 @@ pub fn read_alike(record: &Record, k: usize, limit: usize) -> usize {
 }
 
 /// Hard words, soft ones and any matrix, of these sizes.
-fn matrices(random: &mut Random, n: usize, k: usize) -> [Vec<u8>; 3] {
+pub fn matrices(random: &mut Random, n: usize, k: usize) -> [Vec<u8>; 3] {
     let word = random_codeword(random, n, k);
     let wrong = random.between(0, (n - k) / 2 + 1);
     let word = with_wrong_marks(random, &word, wrong);

@@ -9,6 +9,7 @@ mod sequences;
 mod single;
 pub mod wrongly_held;
 
+pub use alike::matrices;
 pub use entries::{COST_AND_BOUND, INTERPOLATE, LIST};
 
 pub fn compare() {

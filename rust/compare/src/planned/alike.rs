@@ -27,15 +27,6 @@ const LISTS: [[&Entry; 2]; 2] = [
     [&MATRIX_LIST_OF_PLAN, &LIST],
 ];
 
-fn same<T: PartialEq + std::fmt::Debug>(call: &Call, entry: &Entry, found: &T, expected: &T) {
-    if found != expected {
-        eprintln!("{} differs on {call:?}", entry.name);
-        eprintln!("found: {found:?}");
-        eprintln!("expected: {expected:?}");
-        exit(1);
-    }
-}
-
 /// The call with the plan that is made for it, and the steps done.
 fn with_made_plan(call: &Call) -> (Call, u16) {
     let roomy = Call {
@@ -45,7 +36,7 @@ fn with_made_plan(call: &Call) -> (Call, u16) {
     let Outcome { answer, memory } = PLAN.outcome(Program::Proved, &roomy);
     let plan = memory.out.part().to_vec();
     let raised: u16 = plan.iter().copied().map(u16::from).sum();
-    same(call, &PLAN, &answer.value, &raised);
+    PLAN.found(call, &answer.value, &raised);
     let call = Call {
         records: vec![Record::of(call.n, &plan)],
         symbols: plan,
@@ -64,12 +55,12 @@ fn taken_alike(call: &Call) -> usize {
     };
     for entry in [&CHECK_PLAN, &MATRIX_CHECK_PLAN] {
         let answer = entry.outcome(Program::Proved, &call).answer;
-        same(&call, entry, &answer, &taken);
+        entry.found(&call, &answer, &taken);
     }
     let mut rows = 0;
     for lists in LISTS {
         let [of_plan, of_matrix] = lists.map(|entry| entry.outcome(Program::Proved, &call));
-        same(&call, lists[0], &of_plan, &of_matrix);
+        lists[0].found(&call, &of_plan, &of_matrix);
         rows = of_plan.answer.count;
     }
     rows.into()

@@ -6,7 +6,7 @@ mod entries;
 mod inputs;
 mod lines;
 mod single;
-mod weights;
+pub mod weights;
 
 pub use entries::{CHECK_PLAN, LIST_OF_PLAN, MATRIX_CHECK_PLAN, MATRIX_LIST_OF_PLAN, PLAN};
 
