@@ -15,3 +15,4 @@ pub mod Laws
 pub mod Desk
 pub mod ReadersSums
 pub mod Sequences
+pub mod Proposals

@@ -5,3 +5,4 @@ pub mod Laws
 pub mod Desk
 pub mod ReadersSums
 pub mod Sequences
+pub mod Proposals
