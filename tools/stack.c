@@ -10,7 +10,7 @@
 #include "kv.h"
 
 enum { N = KV_POSITIONS, STACK = 1 << 20, PAGE = 1 << 16, PATTERN = 0xa5 };
-enum { LISTING = 64 << 10, ROOTS = 24 << 10, OTHER = 4 << 10 };
+enum { LISTING = 64 << 10, ROOTS = 24 << 10, PROPOSAL = 10 << 10, OTHER = 4 << 10 };
 
 static uint8_t matrix[KV_SYMBOLS * N], planned[KV_SYMBOLS * N];
 static uint16_t reliabilities[KV_SYMBOLS * N];
@@ -173,7 +173,7 @@ static const struct entry {
     {"check plan", check_plan, OTHER},
     {"cost and bound", cost_and_bound, OTHER},
     {"interpolation", interpolate, LISTING},
-    {"check proposal", check_proposal, OTHER},
+    {"check proposal", check_proposal, PROPOSAL},
     {"roots", roots, ROOTS},
     {"list of multiplicities", list_of_multiplicities, LISTING},
     {"list of reliabilities", list_of_reliabilities, LISTING},
@@ -189,7 +189,7 @@ static const struct entry {
     {"matrix list", matrix_list, LISTING},
     {"matrix check plan", matrix_check_plan, OTHER},
     {"matrix list of plan", matrix_list_of_plan, LISTING},
-    {"matrix check proposal", matrix_check_proposal, OTHER},
+    {"matrix check proposal", matrix_check_proposal, PROPOSAL},
     {"matrix list of proposal", matrix_list_of_proposal, LISTING},
     {"judge", judge, OTHER},
     {"open", open_row, OTHER},
