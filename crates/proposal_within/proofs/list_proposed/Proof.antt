@@ -46,7 +46,7 @@ returns c =
     (withinBound (a .k - 1) (bytes s) (a .degree) ∷ proposed (codeOf s) (a .n) (a .k - 1) (a .degree) (bytes s) (a .coefficients .now) ∷ []) (omega arith)
 
 abbrev entry : tie.After-bound → tie.Start
-entry b = b .before .before .before .before .before .before
+entry b = let cheap-enough = b .before in cheap-enough .before .before .before .before .before
 
 -- The cost of the bytes is within the limit, and the bound is theirs.
 cheap : (b : tie.After-bound) → (let s = entry b in cost (bytes s) ≤ s .args .limit)
