@@ -8,7 +8,6 @@ ghost use Rattle.definitions.specs.Limits.{greatestRows};
 
 pub mod judging;
 pub mod planning;
-pub mod records;
 
 use alphabet::Alphabet;
 use crossing::Answer;

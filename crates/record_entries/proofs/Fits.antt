@@ -7,8 +7,10 @@ use Prim.Native.Nat.{ℕ, _+_, _*_, _-_, _≤_}
 use native.Mathlib.Omega.{arith}
 use borrow.Author.Tests.{ltb-true}
 use lib.ListN.{length, getD, length-set}
+use Rattle.alphabet.proofs.Sizes.{sized}
 use Rattle.alphabet.specs.Codes.{codeOn}
 use Rattle.alphabet.specs.declared.Alphabet.{Alphabet}
+use Rattle.crossing.proofs.Narrow.{refused-narrow, counted-narrow, costed-narrow, planned-narrow, narrow, at-none, at-first, at-bad-column, so-refused, Few, few-narrow, few-places, found-narrow}
 use Rattle.crossing.specs.Crossing.{Narrow}
 use Rattle.definitions.proofs.Bound.{bound-le}
 use Rattle.definitions.proofs.Editing.{position-means, stored-means, length-added, out-of-two, out-of-three}
@@ -24,9 +26,11 @@ use Rattle.definitions.specs.Field.{Code}
 use Rattle.definitions.specs.Held.{Held, places, noEntries, filled, bytesOf, withEntry, withoutColumn, withAdded}
 use Rattle.definitions.specs.Limits.{greatestLevel}
 use Rattle.definitions.specs.Listing.{listOf}
+use Rattle.definitions.specs.Planning.{stepsDone, planned, heldCheckTable, heldCheckAnswer, heldPlanListTable, heldPlanListAnswer}
 use Rattle.definitions.specs.Weights.{cost}
-use Rattle.entries.proofs.Fits.{few-places, counted-narrow, costed-narrow, refused-narrow, narrow, at-none, at-first, found-narrow, so-refused, Few, few-narrow}
 use Rattle.matrix.proofs.Columns.{places-within, cost-small}
+use Rattle.plans.proofs.Planning.{done-within}
+use Rattle.plans.proofs.Taken.{steps-mean}
 
 module _ (w : Alphabet) where
   abbrev C : Code
@@ -115,7 +119,7 @@ module _ (w : Alphabet) where
         or (λ _. so-refused at-none) (λ g. or (λ _. so-refused at-none) (λ t.
         let full = stored-means C h t .full in
         or (λ _. so-refused at-none) (λ _. or (λ e. so-refused (at-first greatestLevel (h .entries) (omega arith) e)) (λ _. or (λ _. so-refused at-none) (λ c.
-        last (found-narrow w (h .n) k G m out answer after (fits .0) (limit-means G g) (cost-means G m c)))))))))
+        last (found-narrow C (h .n) k G m out answer after (fits .0) (limit-means G g) (cost-means G m c)))))))))
 
     pub held-list-narrow : (k G : ℕ) (rows scores : List ℕ) → Few (heldListAnswer C h k G rows scores)
     held-list-narrow k G rows scores =
@@ -125,3 +129,31 @@ module _ (w : Alphabet) where
         let full = stored-means C h t .full in
         or (λ _ _. at-none) (λ _. or (λ _ _. at-none) (λ _. or (λ e _. at-first greatestLevel (h .entries) (omega arith) e) (λ _. or (λ _ _. at-none) (λ _.
         last (λ few. counted-narrow (length (listOf C (h .n) k (bytesOf C h))) (omega arith))))))))))
+
+    pub held-check-narrow : (s : ℕ) (r : List ℕ) → Narrow (heldCheckAnswer C h s r)
+    held-check-narrow s r =
+        let size = sized w in
+        let most = places-within w in
+        let done = done-within r s in
+        narrow (planned 0 (stepsDone r s)) (heldCheckTable C h s r)
+        (or (λ _. at-none) (λ z.
+        let fits = size-means C (h .n) z in
+        or (λ _. at-none) (λ t.
+        let few = steps-mean s t in
+        or (λ _. at-none) (λ _. or (λ _. at-none) (λ l.
+        let full = stored-means C h l .full in
+        or (at-first greatestLevel (h .entries) (omega arith)) (λ _. or (at-bad-column C (h .n) r (omega arith)) (λ _. or (λ _. at-none) (λ _.
+        last (planned-narrow 0 (stepsDone r s) (omega arith) (omega arith))))))))))
+
+    pub held-plan-list-narrow : (k G s : ℕ) (r rows scores : List ℕ) → Few (heldPlanListAnswer C h k G s r rows scores)
+    held-plan-list-narrow k G s r rows scores =
+        let size = sized w in
+        let most = places-within w in
+        few-narrow (length (listOf C (h .n) k (bytesOf C h))) (heldPlanListTable C h k G s r (length rows) (length scores))
+        (or (λ _ _. at-none) (λ z.
+        let fits = sizes-mean C (h .n) k z in
+        or (λ _ _. at-none) (λ _. or (λ _ _. at-none) (λ _. or (λ _ _. at-none) (λ _. or (λ _ _. at-none) (λ l.
+        let full = stored-means C h l .full in
+        or (λ _ _. at-none) (λ _. or (λ _ _. at-none) (λ _. or (λ e _. at-first greatestLevel (h .entries) (omega arith) e) (λ _.
+        or (λ e _. at-bad-column C (h .n) r (omega arith) e) (λ _. or (λ _ _. at-none) (λ _. or (λ _ _. at-none) (λ _.
+        last (λ few. counted-narrow (length (listOf C (h .n) k (bytesOf C h))) (omega arith))))))))))))))
