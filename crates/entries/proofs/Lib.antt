@@ -1,6 +1,4 @@
 pub mod Fits
-pub mod Crossed
-pub mod RecordFits
 pub mod PlanFits
 pub mod ProposalFits
 pub mod Unique

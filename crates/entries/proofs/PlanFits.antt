@@ -1,28 +1,22 @@
 -- Every number that the planner and the list of a plan answer fits sixteen bits.
 -- Assumes nothing.
 use mathlib.Core.List.{List}
-use Prim.Native.Nat.{ℕ, _*_, _<_}
+use Prim.Native.Nat.{ℕ, _*_}
 use native.Mathlib.Omega.{arith}
 use lib.ListN.{length}
 use Rattle.alphabet.proofs.Sizes.{sized}
 use Rattle.alphabet.specs.Codes.{codeOn}
 use Rattle.alphabet.specs.declared.Alphabet.{Alphabet}
+use Rattle.crossing.proofs.Narrow.{counted-narrow, planned-narrow, narrow, at-none, at-first, at-bad-column, Few, few-narrow, few-places}
 use Rattle.crossing.specs.Crossing.{Narrow}
-use Rattle.definitions.proofs.Editing.{stored-means}
 use Rattle.definitions.proofs.Table.{last, or, sizes-mean, size-means, entries-mean}
 use Rattle.definitions.specs.Field.{Code}
-use Rattle.definitions.specs.Held.{Held, bytesOf}
 use Rattle.definitions.specs.Limits.{greatestLevel}
 use Rattle.definitions.specs.Listing.{listOf}
 use Rattle.definitions.specs.Planning.{stepsDone, planned, planTable, planAnswer, checkTable, checkAnswer, planListTable, planListAnswer}
-use Rattle.definitions.specs.Planning.{heldCheckTable, heldCheckAnswer, heldPlanListTable, heldPlanListAnswer}
-use Rattle.entries.proofs.Fits.{few-places, counted-narrow, narrow, at-none, at-first, at-bad-column, Few, few-narrow}
 use Rattle.matrix.proofs.Columns.{places-within}
 use Rattle.plans.proofs.Planning.{done-within}
 use Rattle.plans.proofs.Taken.{steps-mean}
-
-planned-narrow : (n s : ℕ) → n < 65536 → s < 65536 → Narrow (planned n s)
-planned-narrow n s h k = record { place = omega arith; count = h; value = k; cost = omega arith; bound = omega arith }
 
 module _ (w : Alphabet) where
   abbrev C : Code
@@ -71,32 +65,3 @@ module _ (w : Alphabet) where
       or (λ _ _. at-none) (λ _. or (λ _ _. at-none) (λ _. or (λ e _. at-first greatestLevel m (omega arith) e) (λ _.
       or (λ e _. at-bad-column C n r (omega arith) e) (λ _. or (λ _ _. at-none) (λ _. or (λ _ _. at-none) (λ _.
       last (λ few. counted-narrow (length (listOf C n k m)) (omega arith))))))))))))))
-
-  module _ (h : Held) where
-    pub held-check-narrow : (s : ℕ) (r : List ℕ) → Narrow (heldCheckAnswer C h s r)
-    held-check-narrow s r =
-        let size = sized w in
-        let most = places-within w in
-        let done = done-within r s in
-        narrow (planned 0 (stepsDone r s)) (heldCheckTable C h s r)
-        (or (λ _. at-none) (λ z.
-        let fits = size-means C (h .n) z in
-        or (λ _. at-none) (λ t.
-        let few = steps-mean s t in
-        or (λ _. at-none) (λ _. or (λ _. at-none) (λ l.
-        let full = stored-means C h l .full in
-        or (at-first greatestLevel (h .entries) (omega arith)) (λ _. or (at-bad-column C (h .n) r (omega arith)) (λ _. or (λ _. at-none) (λ _.
-        last (planned-narrow 0 (stepsDone r s) (omega arith) (omega arith))))))))))
-
-    pub held-plan-list-narrow : (k G s : ℕ) (r rows scores : List ℕ) → Few (heldPlanListAnswer C h k G s r rows scores)
-    held-plan-list-narrow k G s r rows scores =
-        let size = sized w in
-        let most = places-within w in
-        few-narrow (length (listOf C (h .n) k (bytesOf C h))) (heldPlanListTable C h k G s r (length rows) (length scores))
-        (or (λ _ _. at-none) (λ z.
-        let fits = sizes-mean C (h .n) k z in
-        or (λ _ _. at-none) (λ _. or (λ _ _. at-none) (λ _. or (λ _ _. at-none) (λ _. or (λ _ _. at-none) (λ l.
-        let full = stored-means C h l .full in
-        or (λ _ _. at-none) (λ _. or (λ _ _. at-none) (λ _. or (λ e _. at-first greatestLevel (h .entries) (omega arith) e) (λ _.
-        or (λ e _. at-bad-column C (h .n) r (omega arith) e) (λ _. or (λ _ _. at-none) (λ _. or (λ _ _. at-none) (λ _.
-        last (λ few. counted-narrow (length (listOf C (h .n) k (bytesOf C h))) (omega arith))))))))))))))

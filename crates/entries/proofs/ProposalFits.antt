@@ -1,6 +1,6 @@
 -- Every number that the check of a proposal and its list answer fits sixteen bits.
 -- Assumes nothing.
-use mathlib.Core.Bool.{Bool, true, false, cond}
+use mathlib.Core.Bool.{cond}
 use mathlib.Core.List.{List}
 use Prim.Native.Nat.{ℕ, _*_, _-_}
 use native.Mathlib.Omega.{arith}
@@ -8,24 +8,16 @@ use lib.ListN.{length}
 use Rattle.alphabet.proofs.Sizes.{sized}
 use Rattle.alphabet.specs.Codes.{codeOn}
 use Rattle.alphabet.specs.declared.Alphabet.{Alphabet}
+use Rattle.crossing.proofs.Narrow.{counted-narrow, told-narrow, narrow, at-none, at-first, at-later, Few, few-narrow, few-places}
 use Rattle.crossing.specs.Crossing.{Narrow}
-use Rattle.definitions.proofs.Editing.{stored-means}
 use Rattle.definitions.proofs.Table.{last, or, sizes-mean, degree-means, entries-mean}
 use Rattle.definitions.specs.Answers.{valued}
 use Rattle.definitions.specs.Bound.{count}
 use Rattle.definitions.specs.Field.{Code}
-use Rattle.definitions.specs.Held.{Held, bytesOf}
 use Rattle.definitions.specs.Limits.{greatestLevel}
 use Rattle.definitions.specs.Listing.{listOf}
 use Rattle.definitions.specs.Proposals.{isYes, proposalTable, proposalAnswer, proposalListTable, proposalListAnswer}
-use Rattle.definitions.specs.Proposals.{heldProposalTable, heldProposalAnswer, heldProposalListTable, heldProposalListAnswer}
-use Rattle.entries.proofs.Fits.{few-places, valued-narrow, counted-narrow, narrow, at-none, at-first, at-later, Few, few-narrow}
 use Rattle.matrix.proofs.Columns.{places-within}
-
--- a yes and a no
-told-narrow : (b : Bool) → Narrow (valued (cond b 1 0))
-told-narrow true = valued-narrow 1 (omega arith)
-told-narrow false = valued-narrow 0 (omega arith)
 
 module _ (w : Alphabet) where
   abbrev C : Code
@@ -65,39 +57,3 @@ module _ (w : Alphabet) where
       or (λ _ _. at-none) (λ _. or (λ _ _. at-none) (λ _. or (λ e _. at-first greatestLevel m (omega arith) e) (λ _.
       or (λ e _. at-later (C .symbols * n) (C .symbols - 1) q (omega arith) e) (λ _. or (λ _ _. at-none) (λ _. or (λ _ _. at-none) (λ _. or (λ _ _. at-none) (λ _.
       last (λ few. counted-narrow (length (listOf C n k m)) (omega arith)))))))))))))))
-
-  module _ (h : Held) where
-    pub held-proposal-narrow : (k D : ℕ) (q : List ℕ) → Narrow (heldProposalAnswer C h k D q)
-    held-proposal-narrow k D q =
-        let size = sized w in
-        let most = places-within w in
-        narrow (valued (cond (isYes C (h .n) (k - 1) D (bytesOf C h) q) 1 0)) (heldProposalTable C h k D q)
-        (or (λ _. at-none) (λ z.
-        let fits = sizes-mean C (h .n) k z in
-        let columns = few-places C (h .n) (fits .2) in
-        or (λ _. at-none) (λ d.
-        let few = degree-means (k - 1) D d in
-        or (λ _. at-none) (λ f.
-        let stated = entries-mean (count (k - 1) D) q f in
-        or (λ _. at-none) (λ l.
-        let full = stored-means C h l .full in
-        or (at-first greatestLevel (h .entries) (omega arith)) (λ _. or (at-later (C .symbols * h .n) (C .symbols - 1) q (omega arith)) (λ _.
-        last (told-narrow (isYes C (h .n) (k - 1) D (bytesOf C h) q)))))))))
-
-    pub held-proposal-list-narrow : (k G D : ℕ) (q rows scores : List ℕ) → Few (heldProposalListAnswer C h k G D q rows scores)
-    held-proposal-list-narrow k G D q rows scores =
-        let size = sized w in
-        let most = places-within w in
-        few-narrow (length (listOf C (h .n) k (bytesOf C h))) (heldProposalListTable C h k G D q (length rows) (length scores))
-        (or (λ _ _. at-none) (λ z.
-        let fits = sizes-mean C (h .n) k z in
-        let columns = few-places C (h .n) (fits .2) in
-        or (λ _ _. at-none) (λ _. or (λ _ _. at-none) (λ d.
-        let few = degree-means (k - 1) D d in
-        or (λ _ _. at-none) (λ f.
-        let stated = entries-mean (count (k - 1) D) q f in
-        or (λ _ _. at-none) (λ l.
-        let full = stored-means C h l .full in
-        or (λ _ _. at-none) (λ _. or (λ _ _. at-none) (λ _. or (λ e _. at-first greatestLevel (h .entries) (omega arith) e) (λ _.
-        or (λ e _. at-later (C .symbols * h .n) (C .symbols - 1) q (omega arith) e) (λ _. or (λ _ _. at-none) (λ _. or (λ _ _. at-none) (λ _. or (λ _ _. at-none) (λ _.
-        last (λ few. counted-narrow (length (listOf C (h .n) k (bytesOf C h))) (omega arith)))))))))))))))

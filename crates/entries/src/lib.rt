@@ -9,7 +9,6 @@ ghost use Rattle.definitions.specs.Limits.{greatestRows};
 pub mod judging;
 pub mod planning;
 pub mod proposing;
-pub mod records;
 
 use alphabet::Alphabet;
 use crossing::Answer;

@@ -3,9 +3,8 @@ ghost use mathlib.Core.Path.{_≡_};
 ghost use Prim.Native.Nat.{_≤_};
 ghost use Rattle.alphabet.specs.Codes.{codeOn};
 ghost use Rattle.crossing.specs.Crossing.{answerOf};
-ghost use Rattle.definitions.specs.Held.{held};
 ghost use Rattle.definitions.specs.Limits.{greatestRows};
-ghost use Rattle.definitions.specs.Planning.{planAnswer, planOut, checkAnswer, planListAnswer, planListRows, planListScores, heldCheckAnswer, heldPlanListAnswer, heldPlanListRows, heldPlanListScores};
+ghost use Rattle.definitions.specs.Planning.{planAnswer, planOut, checkAnswer, planListAnswer, planListRows, planListScores};
 use alphabet::Alphabet;
 use crossing::Answer;
 
@@ -58,61 +57,6 @@ pub fn list_of_plan(
         steps,
         reliabilities,
         plan,
-        rows,
-        scores,
-    ))
-}
-
-pub fn matrix_check_plan(
-    alphabet: Alphabet,
-    n: usize,
-    cost: usize,
-    totals: &[u16],
-    entries: &[u8],
-    steps: usize,
-    reliabilities: &[u16],
-) -> Answer
-    ensures { λ r. ⌜ answerOf r ≡ heldCheckAnswer (codeOn alphabet) (held n cost (now (totals .entry)) (now (entries .entry))) steps (now (reliabilities .entry)) ⌝ }
-{
-    crossing::planned(planner::check_plan_of_parts(
-        alphabet,
-        n,
-        cost,
-        totals,
-        entries,
-        steps,
-        reliabilities,
-    ))
-}
-
-pub fn matrix_list_of_plan(
-    alphabet: Alphabet,
-    n: usize,
-    cost: usize,
-    totals: &[u16],
-    entries: &[u8],
-    k: usize,
-    limit: usize,
-    steps: usize,
-    reliabilities: &[u16],
-    rows: &mut [u8],
-    scores: &mut [u16],
-) -> Answer
-    ensures answer { λ r. ⌜ answerOf r ≡ heldPlanListAnswer (codeOn alphabet) (held n cost (now (totals .entry)) (now (entries .entry))) k limit steps (now (reliabilities .entry)) (now (rows .entry)) (now (scores .entry)) ⌝ }
-    ensures row_memory { λ _. ⌜ now (rows .exit) ≡ heldPlanListRows (codeOn alphabet) (held n cost (now (totals .entry)) (now (entries .entry))) k limit steps (now (reliabilities .entry)) (now (rows .entry)) (now (scores .entry)) ⌝ }
-    ensures score_memory { λ _. ⌜ now (scores .exit) ≡ heldPlanListScores (codeOn alphabet) (held n cost (now (totals .entry)) (now (entries .entry))) k limit steps (now (reliabilities .entry)) (now (rows .entry)) (now (scores .entry)) ⌝ }
-    ensures few { λ r. ⌜ answerOf r .count ≤ greatestRows ⌝ }
-{
-    crossing::counted(offers::list_of_plan_of_parts(
-        alphabet,
-        n,
-        cost,
-        totals,
-        entries,
-        k,
-        limit,
-        steps,
-        reliabilities,
         rows,
         scores,
     ))

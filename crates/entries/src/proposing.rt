@@ -3,9 +3,8 @@ ghost use mathlib.Core.Path.{_≡_};
 ghost use Prim.Native.Nat.{_≤_};
 ghost use Rattle.alphabet.specs.Codes.{codeOn};
 ghost use Rattle.crossing.specs.Crossing.{answerOf};
-ghost use Rattle.definitions.specs.Held.{held};
 ghost use Rattle.definitions.specs.Limits.{greatestRows};
-ghost use Rattle.definitions.specs.Proposals.{proposalAnswer, proposalListAnswer, proposalListRows, proposalListScores, heldProposalAnswer, heldProposalListAnswer, heldProposalListRows, heldProposalListScores};
+ghost use Rattle.definitions.specs.Proposals.{proposalAnswer, proposalListAnswer, proposalListRows, proposalListScores};
 use alphabet::Alphabet;
 use crossing::Answer;
 
@@ -45,63 +44,6 @@ pub fn list_of_proposal(
         limit,
         degree,
         matrix,
-        coefficients,
-        rows,
-        scores,
-    ))
-}
-
-pub fn matrix_check_proposal(
-    alphabet: Alphabet,
-    n: usize,
-    cost: usize,
-    totals: &[u16],
-    entries: &[u8],
-    k: usize,
-    degree: usize,
-    coefficients: &[u8],
-) -> Answer
-    ensures { λ r. ⌜ answerOf r ≡ heldProposalAnswer (codeOn alphabet) (held n cost (now (totals .entry)) (now (entries .entry))) k degree (now (coefficients .entry)) ⌝ }
-{
-    crossing::proposed(proposals::check_proposal_of_parts(
-        alphabet,
-        n,
-        cost,
-        totals,
-        entries,
-        k,
-        degree,
-        coefficients,
-    ))
-}
-
-pub fn matrix_list_of_proposal(
-    alphabet: Alphabet,
-    n: usize,
-    cost: usize,
-    totals: &[u16],
-    entries: &[u8],
-    k: usize,
-    limit: usize,
-    degree: usize,
-    coefficients: &[u8],
-    rows: &mut [u8],
-    scores: &mut [u16],
-) -> Answer
-    ensures answer { λ r. ⌜ answerOf r ≡ heldProposalListAnswer (codeOn alphabet) (held n cost (now (totals .entry)) (now (entries .entry))) k limit degree (now (coefficients .entry)) (now (rows .entry)) (now (scores .entry)) ⌝ }
-    ensures row_memory { λ _. ⌜ now (rows .exit) ≡ heldProposalListRows (codeOn alphabet) (held n cost (now (totals .entry)) (now (entries .entry))) k limit degree (now (coefficients .entry)) (now (rows .entry)) (now (scores .entry)) ⌝ }
-    ensures score_memory { λ _. ⌜ now (scores .exit) ≡ heldProposalListScores (codeOn alphabet) (held n cost (now (totals .entry)) (now (entries .entry))) k limit degree (now (coefficients .entry)) (now (rows .entry)) (now (scores .entry)) ⌝ }
-    ensures few { λ r. ⌜ answerOf r .count ≤ greatestRows ⌝ }
-{
-    crossing::counted(proposals::list_of_proposal_of_parts(
-        alphabet,
-        n,
-        cost,
-        totals,
-        entries,
-        k,
-        limit,
-        degree,
         coefficients,
         rows,
         scores,

@@ -69,7 +69,7 @@ pub extern "C" fn kv_matrix_check_plan(
 ) -> Answer
     ensures { λ r. ⌜ answerOf r ≡ heldCheckAnswer sixteen (held n cost (now (totals .entry)) (now (entries .entry))) steps (now (reliabilities .entry)) ⌝ }
 {
-    entries::planning::matrix_check_plan(
+    record_entries::matrix_check_plan(
         Alphabet::Sixteen,
         n,
         cost,
@@ -98,7 +98,7 @@ pub extern "C" fn kv_matrix_list_of_plan(
     ensures score_memory { λ _. ⌜ now (scores .exit) ≡ heldPlanListScores sixteen (held n cost (now (totals .entry)) (now (entries .entry))) k limit steps (now (reliabilities .entry)) (now (rows .entry)) (now (scores .entry)) ⌝ }
     ensures few { λ r. ⌜ answerOf r .count ≤ greatestRows ⌝ }
 {
-    entries::planning::matrix_list_of_plan(
+    record_entries::matrix_list_of_plan(
         Alphabet::Sixteen,
         n,
         cost,

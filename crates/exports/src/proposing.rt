@@ -63,7 +63,7 @@ pub extern "C" fn kv_matrix_check_proposal(
 ) -> Answer
     ensures { λ r. ⌜ answerOf r ≡ heldProposalAnswer sixteen (held n cost (now (totals .entry)) (now (entries .entry))) k degree (now (coefficients .entry)) ⌝ }
 {
-    entries::proposing::matrix_check_proposal(
+    record_entries::matrix_check_proposal(
         Alphabet::Sixteen,
         n,
         cost,
@@ -93,7 +93,7 @@ pub extern "C" fn kv_matrix_list_of_proposal(
     ensures score_memory { λ _. ⌜ now (scores .exit) ≡ heldProposalListScores sixteen (held n cost (now (totals .entry)) (now (entries .entry))) k limit degree (now (coefficients .entry)) (now (rows .entry)) (now (scores .entry)) ⌝ }
     ensures few { λ r. ⌜ answerOf r .count ≤ greatestRows ⌝ }
 {
-    entries::proposing::matrix_list_of_proposal(
+    record_entries::matrix_list_of_proposal(
         Alphabet::Sixteen,
         n,
         cost,

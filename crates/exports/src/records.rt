@@ -15,7 +15,7 @@ pub extern "C" fn kv_matrix_fresh(n: usize, totals: &mut [u16], entries: &mut [u
     ensures total_memory { λ _. ⌜ now (totals .exit) ≡ lentFreshHeld sixteen n (now (totals .entry)) (now (entries .entry)) .totals ⌝ }
     ensures entry_memory { λ _. ⌜ now (entries .exit) ≡ lentFreshHeld sixteen n (now (totals .entry)) (now (entries .entry)) .entries ⌝ }
 {
-    entries::records::matrix_fresh(Alphabet::Sixteen, n, totals, entries)
+    record_entries::matrix_fresh(Alphabet::Sixteen, n, totals, entries)
 }
 
 #[no_mangle]
@@ -29,7 +29,7 @@ pub extern "C" fn kv_matrix_of_bytes(
     ensures total_memory { λ _. ⌜ now (totals .exit) ≡ lentBytesHeld sixteen n (now (bytes .entry)) (now (totals .entry)) (now (entries .entry)) .totals ⌝ }
     ensures entry_memory { λ _. ⌜ now (entries .exit) ≡ lentBytesHeld sixteen n (now (bytes .entry)) (now (totals .entry)) (now (entries .entry)) .entries ⌝ }
 {
-    entries::records::matrix_of_bytes(Alphabet::Sixteen, n, bytes, totals, entries)
+    record_entries::matrix_of_bytes(Alphabet::Sixteen, n, bytes, totals, entries)
 }
 
 #[no_mangle]
@@ -46,7 +46,7 @@ pub extern "C" fn kv_matrix_set_entry(
     ensures total_memory { λ _. ⌜ now (totals .exit) ≡ setHeld sixteen (held n cost (now (totals .entry)) (now (entries .entry))) position symbol entry .totals ⌝ }
     ensures entry_memory { λ _. ⌜ now (entries .exit) ≡ setHeld sixteen (held n cost (now (totals .entry)) (now (entries .entry))) position symbol entry .entries ⌝ }
 {
-    entries::records::matrix_set_entry(
+    record_entries::matrix_set_entry(
         Alphabet::Sixteen,
         n,
         cost,
@@ -70,7 +70,7 @@ pub extern "C" fn kv_matrix_clear_column(
     ensures total_memory { λ _. ⌜ now (totals .exit) ≡ clearHeld sixteen (held n cost (now (totals .entry)) (now (entries .entry))) position .totals ⌝ }
     ensures entry_memory { λ _. ⌜ now (entries .exit) ≡ clearHeld sixteen (held n cost (now (totals .entry)) (now (entries .entry))) position .entries ⌝ }
 {
-    entries::records::matrix_clear_column(Alphabet::Sixteen, n, cost, totals, entries, position)
+    record_entries::matrix_clear_column(Alphabet::Sixteen, n, cost, totals, entries, position)
 }
 
 #[no_mangle]
@@ -88,7 +88,7 @@ pub extern "C" fn kv_matrix_add(
     ensures total_memory { λ _. ⌜ now (totals .exit) ≡ addHeld sixteen (held n cost (now (totals .entry)) (now (entries .entry))) (held «other_n» «other_cost» (now («other_totals» .entry)) (now («other_entries» .entry))) .totals ⌝ }
     ensures entry_memory { λ _. ⌜ now (entries .exit) ≡ addHeld sixteen (held n cost (now (totals .entry)) (now (entries .entry))) (held «other_n» «other_cost» (now («other_totals» .entry)) (now («other_entries» .entry))) .entries ⌝ }
 {
-    entries::records::matrix_add(
+    record_entries::matrix_add(
         Alphabet::Sixteen,
         n,
         cost,
@@ -111,7 +111,7 @@ pub extern "C" fn kv_matrix_cost_and_bound(
 ) -> Answer
     ensures { λ r. ⌜ answerOf r ≡ heldCostAnswer sixteen (held n cost (now (totals .entry)) (now (entries .entry))) k ⌝ }
 {
-    entries::records::matrix_cost_and_bound(Alphabet::Sixteen, n, cost, totals, entries, k)
+    record_entries::matrix_cost_and_bound(Alphabet::Sixteen, n, cost, totals, entries, k)
 }
 
 #[no_mangle]
@@ -126,7 +126,7 @@ pub extern "C" fn kv_matrix_interpolate(
 ) -> Answer
     ensures { λ r. ⌜ HeldInterpolationAnswers sixteen (held n cost (now (totals .entry)) (now (entries .entry))) k limit (now (out .entry)) (answerOf r) (now (out .exit)) ⌝ }
 {
-    entries::records::matrix_interpolate(Alphabet::Sixteen, n, cost, totals, entries, k, limit, out)
+    record_entries::matrix_interpolate(Alphabet::Sixteen, n, cost, totals, entries, k, limit, out)
 }
 
 #[no_mangle]
@@ -145,7 +145,7 @@ pub extern "C" fn kv_matrix_list(
     ensures score_memory { λ _. ⌜ now (scores .exit) ≡ heldListScores sixteen (held n cost (now (totals .entry)) (now (entries .entry))) k limit (now (rows .entry)) (now (scores .entry)) ⌝ }
     ensures few { λ r. ⌜ answerOf r .count ≤ greatestRows ⌝ }
 {
-    entries::records::matrix_list(
+    record_entries::matrix_list(
         Alphabet::Sixteen,
         n,
         cost,

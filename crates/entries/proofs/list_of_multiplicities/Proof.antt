@@ -1,6 +1,6 @@
 -- The list of a matrix is promised to have at most 20 rows, and an entry that is refused is one of
 -- the few of the matrix: the count and the place fit sixteen bits.
-use Rattle.entries.proofs.Crossed.{few-fit, list-crosses}
+use Rattle.crossing.proofs.Crossed.{few-fit, list-crosses}
 use Rattle.entries.proofs.Fits.{list-narrow}
 use borrow.Author.Needs.{needs}
 use Rattle.entries.proofs.list_of_multiplicities.Statement.{statement}

@@ -1,6 +1,6 @@
 -- The list of reliabilities is promised to have at most 20 rows, and their refusal names a
 -- position: the count and the place fit sixteen bits.
-use Rattle.entries.proofs.Crossed.{few-fit, list-crosses}
+use Rattle.crossing.proofs.Crossed.{few-fit, list-crosses}
 use Rattle.entries.proofs.Fits.{read-narrow}
 use borrow.Author.Needs.{needs}
 use Rattle.entries.proofs.list_of_reliabilities.Statement.{statement}

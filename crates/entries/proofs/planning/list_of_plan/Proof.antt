@@ -1,6 +1,6 @@
 -- The list of a plan is promised to have at most 20 rows; a refusal names an entry of the plan or a
 -- position: the count and the place fit sixteen bits.
-use Rattle.entries.proofs.Crossed.{few-fit, list-crosses}
+use Rattle.crossing.proofs.Crossed.{few-fit, list-crosses}
 use Rattle.entries.proofs.PlanFits.{plan-list-narrow}
 use borrow.Author.Needs.{needs}
 use Rattle.entries.proofs.planning.list_of_plan.Statement.{statement}

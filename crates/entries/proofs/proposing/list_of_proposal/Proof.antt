@@ -1,6 +1,6 @@
 -- The list of a proposal is promised to have at most 20 rows; a refusal names an entry of the matrix
 -- or, behind these, a coefficient: the count and the place fit sixteen bits.
-use Rattle.entries.proofs.Crossed.{few-fit, list-crosses}
+use Rattle.crossing.proofs.Crossed.{few-fit, list-crosses}
 use Rattle.entries.proofs.ProposalFits.{proposal-list-narrow}
 use borrow.Author.Needs.{needs}
 use Rattle.entries.proofs.proposing.list_of_proposal.Statement.{statement}

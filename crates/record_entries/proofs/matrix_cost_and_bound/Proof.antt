@@ -3,10 +3,10 @@
 -- bits.
 use mathlib.Core.Path.{_∙_}
 use Rattle.definitions.specs.Held.{held}
-use Rattle.entries.proofs.RecordFits.{held-cost-narrow}
+use Rattle.record_entries.proofs.Fits.{held-cost-narrow}
 use borrow.Author.Needs.{needs}
-use Rattle.entries.proofs.records.matrix_cost_and_bound.Statement.{statement}
-use Rattle.entries.proofs.records.matrix_cost_and_bound.Tie as tie
+use Rattle.record_entries.proofs.matrix_cost_and_bound.Statement.{statement}
+use Rattle.record_entries.proofs.matrix_cost_and_bound.Tie as tie
 
 costed-requires : tie.Need-costed-requires
 costed-requires c κs =

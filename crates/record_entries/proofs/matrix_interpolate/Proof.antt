@@ -2,10 +2,10 @@
 -- and there are at most 246 coefficients; a refusal names a place of the record: all fit sixteen
 -- bits.
 use Rattle.definitions.specs.Held.{held}
-use Rattle.entries.proofs.RecordFits.{held-interpolation-narrow}
+use Rattle.record_entries.proofs.Fits.{held-interpolation-narrow}
 use borrow.Author.Needs.{needs}
-use Rattle.entries.proofs.records.matrix_interpolate.Statement.{statement}
-use Rattle.entries.proofs.records.matrix_interpolate.Tie as tie
+use Rattle.record_entries.proofs.matrix_interpolate.Statement.{statement}
+use Rattle.record_entries.proofs.matrix_interpolate.Tie as tie
 
 abbrev at-call : tie.After-slice-known2 → tie.After-interpolate-parts
 at-call c = c .before .before

@@ -2,10 +2,10 @@
 -- has as many as there are places, or a position: the value and the place fit sixteen bits.
 use mathlib.Core.Path.{_∙_}
 use Rattle.definitions.specs.Held.{held}
-use Rattle.entries.proofs.PlanFits.{held-check-narrow}
+use Rattle.record_entries.proofs.Fits.{held-check-narrow}
 use borrow.Author.Needs.{needs}
-use Rattle.entries.proofs.planning.matrix_check_plan.Statement.{statement}
-use Rattle.entries.proofs.planning.matrix_check_plan.Tie as tie
+use Rattle.record_entries.proofs.matrix_check_plan.Statement.{statement}
+use Rattle.record_entries.proofs.matrix_check_plan.Tie as tie
 
 planned-requires : tie.Need-planned-requires
 planned-requires c κs =

@@ -1,11 +1,11 @@
 -- The list of a proposal for a record is promised to have at most 20 rows; a refusal names an entry of
 -- the record or, behind those of its n, a coefficient: the count and the place fit sixteen bits.
 use Rattle.definitions.specs.Held.{held}
-use Rattle.entries.proofs.Crossed.{few-fit, list-crosses}
-use Rattle.entries.proofs.ProposalFits.{held-proposal-list-narrow}
+use Rattle.crossing.proofs.Crossed.{few-fit, list-crosses}
+use Rattle.record_entries.proofs.Fits.{held-proposal-list-narrow}
 use borrow.Author.Needs.{needs}
-use Rattle.entries.proofs.proposing.matrix_list_of_proposal.Statement.{statement}
-use Rattle.entries.proofs.proposing.matrix_list_of_proposal.Tie as tie
+use Rattle.record_entries.proofs.matrix_list_of_proposal.Statement.{statement}
+use Rattle.record_entries.proofs.matrix_list_of_proposal.Tie as tie
 
 abbrev at-call : tie.After-slice-known4 → tie.After-list-of-proposal-of-parts
 at-call c = c .before .before .before .before

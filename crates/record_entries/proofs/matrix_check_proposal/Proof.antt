@@ -2,10 +2,10 @@
 -- its n, a coefficient: the value and the place fit sixteen bits.
 use mathlib.Core.Path.{_∙_}
 use Rattle.definitions.specs.Held.{held}
-use Rattle.entries.proofs.ProposalFits.{held-proposal-narrow}
+use Rattle.record_entries.proofs.Fits.{held-proposal-narrow}
 use borrow.Author.Needs.{needs}
-use Rattle.entries.proofs.proposing.matrix_check_proposal.Statement.{statement}
-use Rattle.entries.proofs.proposing.matrix_check_proposal.Tie as tie
+use Rattle.record_entries.proofs.matrix_check_proposal.Statement.{statement}
+use Rattle.record_entries.proofs.matrix_check_proposal.Tie as tie
 
 proposed-requires : tie.Need-proposed-requires
 proposed-requires c κs =

@@ -1,10 +1,10 @@
 -- The sum of two records has as many entries as the first, and none above 5 where the call is
 -- accepted: its cost is small. A refusal names a place of a record. Both numbers fit sixteen bits.
 use Rattle.definitions.specs.Held.{held}
-use Rattle.entries.proofs.RecordFits.{add-narrow}
+use Rattle.record_entries.proofs.Fits.{add-narrow}
 use borrow.Author.Needs.{needs}
-use Rattle.entries.proofs.records.matrix_add.Statement.{statement}
-use Rattle.entries.proofs.records.matrix_add.Tie as tie
+use Rattle.record_entries.proofs.matrix_add.Statement.{statement}
+use Rattle.record_entries.proofs.matrix_add.Tie as tie
 
 abbrev at-call : tie.After-slice-known4 → tie.After-add
 at-call c = c .before .before .before .before

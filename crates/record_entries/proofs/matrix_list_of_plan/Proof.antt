@@ -1,11 +1,11 @@
 -- The list of a plan that is held in a record is promised to have at most 20 rows; a refusal names
 -- an entry of the record or a position: the count and the place fit sixteen bits.
 use Rattle.definitions.specs.Held.{held}
-use Rattle.entries.proofs.Crossed.{few-fit, list-crosses}
-use Rattle.entries.proofs.PlanFits.{held-plan-list-narrow}
+use Rattle.crossing.proofs.Crossed.{few-fit, list-crosses}
+use Rattle.record_entries.proofs.Fits.{held-plan-list-narrow}
 use borrow.Author.Needs.{needs}
-use Rattle.entries.proofs.planning.matrix_list_of_plan.Statement.{statement}
-use Rattle.entries.proofs.planning.matrix_list_of_plan.Tie as tie
+use Rattle.record_entries.proofs.matrix_list_of_plan.Statement.{statement}
+use Rattle.record_entries.proofs.matrix_list_of_plan.Tie as tie
 
 abbrev at-call : tie.After-slice-known4 → tie.After-list-of-plan-of-parts
 at-call c = c .before .before .before .before

@@ -3,10 +3,10 @@
 -- Assumes nothing.
 use mathlib.Core.Path.{_≡_, sym, subst}
 use Prim.Native.Nat.{_≤_}
+use Rattle.crossing.proofs.Narrow.{Few}
 use Rattle.crossing.specs.Crossing.{Narrow}
 use Rattle.definitions.specs.Answers.{Answer}
 use Rattle.definitions.specs.Limits.{greatestRows}
-use Rattle.entries.proofs.Fits.{Few}
 
 -- the page's answer, what is left in both memories, and few rows
 abbrev Listed : Answer → Type 0 → Type 0 → Answer → Type 0

@@ -1,11 +1,11 @@
 -- The list of a record is promised to have at most 20 rows, and a refusal names a place of the
 -- record: the count and the place fit sixteen bits.
 use Rattle.definitions.specs.Held.{held}
-use Rattle.entries.proofs.Crossed.{few-fit, list-crosses}
-use Rattle.entries.proofs.RecordFits.{held-list-narrow}
+use Rattle.crossing.proofs.Crossed.{few-fit, list-crosses}
+use Rattle.record_entries.proofs.Fits.{held-list-narrow}
 use borrow.Author.Needs.{needs}
-use Rattle.entries.proofs.records.matrix_list.Statement.{statement}
-use Rattle.entries.proofs.records.matrix_list.Tie as tie
+use Rattle.record_entries.proofs.matrix_list.Statement.{statement}
+use Rattle.record_entries.proofs.matrix_list.Tie as tie
 
 abbrev at-call : tie.After-slice-known4 → tie.After-list-of-parts
 at-call c = c .before .before .before .before

@@ -2,10 +2,10 @@
 -- accepted: its cost is small. A refusal names a place of the record. Both numbers fit sixteen
 -- bits.
 use Rattle.definitions.specs.Held.{held}
-use Rattle.entries.proofs.RecordFits.{set-narrow}
+use Rattle.record_entries.proofs.Fits.{set-narrow}
 use borrow.Author.Needs.{needs}
-use Rattle.entries.proofs.records.matrix_set_entry.Statement.{statement}
-use Rattle.entries.proofs.records.matrix_set_entry.Tie as tie
+use Rattle.record_entries.proofs.matrix_set_entry.Statement.{statement}
+use Rattle.record_entries.proofs.matrix_set_entry.Tie as tie
 
 abbrev at-call : tie.After-slice-known4 → tie.After-set-entry
 at-call c = c .before .before .before .before

@@ -1,9 +1,9 @@
 -- Bytes that are accepted are few and none is above 5, so that the cost is small; a byte that is
 -- refused is one of the few: the cost and the place fit sixteen bits.
-use Rattle.entries.proofs.RecordFits.{bytes-narrow}
+use Rattle.record_entries.proofs.Fits.{bytes-narrow}
 use borrow.Author.Needs.{needs}
-use Rattle.entries.proofs.records.matrix_of_bytes.Statement.{statement}
-use Rattle.entries.proofs.records.matrix_of_bytes.Tie as tie
+use Rattle.record_entries.proofs.matrix_of_bytes.Statement.{statement}
+use Rattle.record_entries.proofs.matrix_of_bytes.Tie as tie
 
 abbrev at-call : tie.After-slice-known4 → tie.After-of-bytes
 at-call c = c .before .before .before .before

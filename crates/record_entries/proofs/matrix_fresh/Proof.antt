@@ -1,8 +1,8 @@
 -- A matrix with no entry costs 0, and no refusal has a place but 0: all fit sixteen bits.
-use Rattle.entries.proofs.RecordFits.{fresh-narrow}
+use Rattle.record_entries.proofs.Fits.{fresh-narrow}
 use borrow.Author.Needs.{needs}
-use Rattle.entries.proofs.records.matrix_fresh.Statement.{statement}
-use Rattle.entries.proofs.records.matrix_fresh.Tie as tie
+use Rattle.record_entries.proofs.matrix_fresh.Statement.{statement}
+use Rattle.record_entries.proofs.matrix_fresh.Tie as tie
 
 abbrev at-call : tie.After-slice-known4 → tie.After-fresh
 at-call c = c .before .before .before .before

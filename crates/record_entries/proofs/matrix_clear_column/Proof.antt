@@ -2,10 +2,10 @@
 -- is accepted: its cost is small. A refusal names a place of the record. Both numbers fit sixteen
 -- bits.
 use Rattle.definitions.specs.Held.{held}
-use Rattle.entries.proofs.RecordFits.{clear-narrow}
+use Rattle.record_entries.proofs.Fits.{clear-narrow}
 use borrow.Author.Needs.{needs}
-use Rattle.entries.proofs.records.matrix_clear_column.Statement.{statement}
-use Rattle.entries.proofs.records.matrix_clear_column.Tie as tie
+use Rattle.record_entries.proofs.matrix_clear_column.Statement.{statement}
+use Rattle.record_entries.proofs.matrix_clear_column.Tie as tie
 
 abbrev at-call : tie.After-slice-known4 → tie.After-clear-column
 at-call c = c .before .before .before .before

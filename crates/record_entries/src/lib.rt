@@ -6,6 +6,8 @@ ghost use Rattle.crossing.specs.Crossing.{answerOf};
 ghost use Rattle.definitions.specs.Editing.{lentFreshHeld, lentFreshAnswer, lentBytesHeld, lentBytesAnswer, setHeld, setAnswer, clearHeld, clearAnswer, addHeld, addAnswer, heldCostAnswer, HeldInterpolationAnswers, heldListAnswer, heldListRows, heldListScores};
 ghost use Rattle.definitions.specs.Held.{held};
 ghost use Rattle.definitions.specs.Limits.{greatestRows};
+ghost use Rattle.definitions.specs.Planning.{heldCheckAnswer, heldPlanListAnswer, heldPlanListRows, heldPlanListScores};
+ghost use Rattle.definitions.specs.Proposals.{heldProposalAnswer, heldProposalListAnswer, heldProposalListRows, heldProposalListScores};
 use alphabet::Alphabet;
 use crossing::Answer;
 
@@ -161,6 +163,118 @@ pub fn matrix_list(
         entries,
         k,
         limit,
+        rows,
+        scores,
+    ))
+}
+
+pub fn matrix_check_plan(
+    alphabet: Alphabet,
+    n: usize,
+    cost: usize,
+    totals: &[u16],
+    entries: &[u8],
+    steps: usize,
+    reliabilities: &[u16],
+) -> Answer
+    ensures { λ r. ⌜ answerOf r ≡ heldCheckAnswer (codeOn alphabet) (held n cost (now (totals .entry)) (now (entries .entry))) steps (now (reliabilities .entry)) ⌝ }
+{
+    crossing::planned(planner::check_plan_of_parts(
+        alphabet,
+        n,
+        cost,
+        totals,
+        entries,
+        steps,
+        reliabilities,
+    ))
+}
+
+pub fn matrix_list_of_plan(
+    alphabet: Alphabet,
+    n: usize,
+    cost: usize,
+    totals: &[u16],
+    entries: &[u8],
+    k: usize,
+    limit: usize,
+    steps: usize,
+    reliabilities: &[u16],
+    rows: &mut [u8],
+    scores: &mut [u16],
+) -> Answer
+    ensures answer { λ r. ⌜ answerOf r ≡ heldPlanListAnswer (codeOn alphabet) (held n cost (now (totals .entry)) (now (entries .entry))) k limit steps (now (reliabilities .entry)) (now (rows .entry)) (now (scores .entry)) ⌝ }
+    ensures row_memory { λ _. ⌜ now (rows .exit) ≡ heldPlanListRows (codeOn alphabet) (held n cost (now (totals .entry)) (now (entries .entry))) k limit steps (now (reliabilities .entry)) (now (rows .entry)) (now (scores .entry)) ⌝ }
+    ensures score_memory { λ _. ⌜ now (scores .exit) ≡ heldPlanListScores (codeOn alphabet) (held n cost (now (totals .entry)) (now (entries .entry))) k limit steps (now (reliabilities .entry)) (now (rows .entry)) (now (scores .entry)) ⌝ }
+    ensures few { λ r. ⌜ answerOf r .count ≤ greatestRows ⌝ }
+{
+    crossing::counted(offers::list_of_plan_of_parts(
+        alphabet,
+        n,
+        cost,
+        totals,
+        entries,
+        k,
+        limit,
+        steps,
+        reliabilities,
+        rows,
+        scores,
+    ))
+}
+
+pub fn matrix_check_proposal(
+    alphabet: Alphabet,
+    n: usize,
+    cost: usize,
+    totals: &[u16],
+    entries: &[u8],
+    k: usize,
+    degree: usize,
+    coefficients: &[u8],
+) -> Answer
+    ensures { λ r. ⌜ answerOf r ≡ heldProposalAnswer (codeOn alphabet) (held n cost (now (totals .entry)) (now (entries .entry))) k degree (now (coefficients .entry)) ⌝ }
+{
+    crossing::proposed(proposals::check_proposal_of_parts(
+        alphabet,
+        n,
+        cost,
+        totals,
+        entries,
+        k,
+        degree,
+        coefficients,
+    ))
+}
+
+pub fn matrix_list_of_proposal(
+    alphabet: Alphabet,
+    n: usize,
+    cost: usize,
+    totals: &[u16],
+    entries: &[u8],
+    k: usize,
+    limit: usize,
+    degree: usize,
+    coefficients: &[u8],
+    rows: &mut [u8],
+    scores: &mut [u16],
+) -> Answer
+    ensures answer { λ r. ⌜ answerOf r ≡ heldProposalListAnswer (codeOn alphabet) (held n cost (now (totals .entry)) (now (entries .entry))) k limit degree (now (coefficients .entry)) (now (rows .entry)) (now (scores .entry)) ⌝ }
+    ensures row_memory { λ _. ⌜ now (rows .exit) ≡ heldProposalListRows (codeOn alphabet) (held n cost (now (totals .entry)) (now (entries .entry))) k limit degree (now (coefficients .entry)) (now (rows .entry)) (now (scores .entry)) ⌝ }
+    ensures score_memory { λ _. ⌜ now (scores .exit) ≡ heldProposalListScores (codeOn alphabet) (held n cost (now (totals .entry)) (now (entries .entry))) k limit degree (now (coefficients .entry)) (now (rows .entry)) (now (scores .entry)) ⌝ }
+    ensures few { λ r. ⌜ answerOf r .count ≤ greatestRows ⌝ }
+{
+    crossing::counted(proposals::list_of_proposal_of_parts(
+        alphabet,
+        n,
+        cost,
+        totals,
+        entries,
+        k,
+        limit,
+        degree,
+        coefficients,
         rows,
         scores,
     ))

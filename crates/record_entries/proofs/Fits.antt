@@ -1,22 +1,24 @@
 -- Every number that an entry on a matrix record answers fits sixteen bits.
 -- Assumes nothing.
-use mathlib.Core.Bool.{true}
+use mathlib.Core.Bool.{true, cond}
 use mathlib.Core.List.{List, [], _∷_}
 use mathlib.Core.Path.{_≡_, sym, _∙_}
 use Prim.Native.Nat.{ℕ, _+_, _*_, _-_, _≤_}
 use native.Mathlib.Omega.{arith}
 use borrow.Author.Tests.{ltb-true}
 use lib.ListN.{length, getD, length-set}
+use Rattle.alphabet.proofs.Sizes.{sized}
 use Rattle.alphabet.specs.Codes.{codeOn}
 use Rattle.alphabet.specs.declared.Alphabet.{Alphabet}
+use Rattle.crossing.proofs.Narrow.{refused-narrow, counted-narrow, costed-narrow, planned-narrow, told-narrow, narrow, at-none, at-first, at-later, at-bad-column, so-refused, Few, few-narrow, few-places, found-narrow}
 use Rattle.crossing.specs.Crossing.{Narrow}
 use Rattle.definitions.proofs.Bound.{bound-le}
 use Rattle.definitions.proofs.Editing.{position-means, stored-means, length-added, out-of-two, out-of-three}
 use Rattle.definitions.proofs.Held.{cost-none, cost-filled, length-cleared, cost-bytes}
 use Rattle.definitions.proofs.Loops.{row-within}
-use Rattle.definitions.proofs.Table.{last, or, whatever, sizes-mean, size-means, limit-means, entries-mean, above-means, cost-means}
-use Rattle.definitions.specs.Answers.{Answer, refused, costed, Interpolated}
-use Rattle.definitions.specs.Bound.{bound}
+use Rattle.definitions.proofs.Table.{last, or, whatever, sizes-mean, size-means, limit-means, degree-means, entries-mean, above-means, cost-means}
+use Rattle.definitions.specs.Answers.{Answer, refused, valued, costed, Interpolated}
+use Rattle.definitions.specs.Bound.{count, bound}
 use Rattle.definitions.specs.Editing.{lowestAbove, inOrOut, lentTable, lentFreshAnswer, lentBytesTable, lentBytesAnswer, setTable, setAnswer}
 use Rattle.definitions.specs.Editing.{clearTable, clearAnswer, addTable, addAnswer, heldCostTable, heldCostAnswer, heldInterpolationTable}
 use Rattle.definitions.specs.Editing.{HeldInterpolationAnswers, heldListTable, heldListAnswer}
@@ -24,9 +26,12 @@ use Rattle.definitions.specs.Field.{Code}
 use Rattle.definitions.specs.Held.{Held, places, noEntries, filled, bytesOf, withEntry, withoutColumn, withAdded}
 use Rattle.definitions.specs.Limits.{greatestLevel}
 use Rattle.definitions.specs.Listing.{listOf}
+use Rattle.definitions.specs.Planning.{stepsDone, planned, heldCheckTable, heldCheckAnswer, heldPlanListTable, heldPlanListAnswer}
+use Rattle.definitions.specs.Proposals.{isYes, heldProposalTable, heldProposalAnswer, heldProposalListTable, heldProposalListAnswer}
 use Rattle.definitions.specs.Weights.{cost}
-use Rattle.entries.proofs.Fits.{few-places, counted-narrow, costed-narrow, refused-narrow, narrow, at-none, at-first, found-narrow, so-refused, Few, few-narrow}
 use Rattle.matrix.proofs.Columns.{places-within, cost-small}
+use Rattle.plans.proofs.Planning.{done-within}
+use Rattle.plans.proofs.Taken.{steps-mean}
 
 module _ (w : Alphabet) where
   abbrev C : Code
@@ -115,7 +120,7 @@ module _ (w : Alphabet) where
         or (λ _. so-refused at-none) (λ g. or (λ _. so-refused at-none) (λ t.
         let full = stored-means C h t .full in
         or (λ _. so-refused at-none) (λ _. or (λ e. so-refused (at-first greatestLevel (h .entries) (omega arith) e)) (λ _. or (λ _. so-refused at-none) (λ c.
-        last (found-narrow w (h .n) k G m out answer after (fits .0) (limit-means G g) (cost-means G m c)))))))))
+        last (found-narrow C (h .n) k G m out answer after (fits .0) (limit-means G g) (cost-means G m c)))))))))
 
     pub held-list-narrow : (k G : ℕ) (rows scores : List ℕ) → Few (heldListAnswer C h k G rows scores)
     held-list-narrow k G rows scores =
@@ -125,3 +130,66 @@ module _ (w : Alphabet) where
         let full = stored-means C h t .full in
         or (λ _ _. at-none) (λ _. or (λ _ _. at-none) (λ _. or (λ e _. at-first greatestLevel (h .entries) (omega arith) e) (λ _. or (λ _ _. at-none) (λ _.
         last (λ few. counted-narrow (length (listOf C (h .n) k (bytesOf C h))) (omega arith))))))))))
+
+    pub held-check-narrow : (s : ℕ) (r : List ℕ) → Narrow (heldCheckAnswer C h s r)
+    held-check-narrow s r =
+        let size = sized w in
+        let most = places-within w in
+        let done = done-within r s in
+        narrow (planned 0 (stepsDone r s)) (heldCheckTable C h s r)
+        (or (λ _. at-none) (λ z.
+        let fits = size-means C (h .n) z in
+        or (λ _. at-none) (λ t.
+        let few = steps-mean s t in
+        or (λ _. at-none) (λ _. or (λ _. at-none) (λ l.
+        let full = stored-means C h l .full in
+        or (at-first greatestLevel (h .entries) (omega arith)) (λ _. or (at-bad-column C (h .n) r (omega arith)) (λ _. or (λ _. at-none) (λ _.
+        last (planned-narrow 0 (stepsDone r s) (omega arith) (omega arith))))))))))
+
+    pub held-plan-list-narrow : (k G s : ℕ) (r rows scores : List ℕ) → Few (heldPlanListAnswer C h k G s r rows scores)
+    held-plan-list-narrow k G s r rows scores =
+        let size = sized w in
+        let most = places-within w in
+        few-narrow (length (listOf C (h .n) k (bytesOf C h))) (heldPlanListTable C h k G s r (length rows) (length scores))
+        (or (λ _ _. at-none) (λ z.
+        let fits = sizes-mean C (h .n) k z in
+        or (λ _ _. at-none) (λ _. or (λ _ _. at-none) (λ _. or (λ _ _. at-none) (λ _. or (λ _ _. at-none) (λ l.
+        let full = stored-means C h l .full in
+        or (λ _ _. at-none) (λ _. or (λ _ _. at-none) (λ _. or (λ e _. at-first greatestLevel (h .entries) (omega arith) e) (λ _.
+        or (λ e _. at-bad-column C (h .n) r (omega arith) e) (λ _. or (λ _ _. at-none) (λ _. or (λ _ _. at-none) (λ _.
+        last (λ few. counted-narrow (length (listOf C (h .n) k (bytesOf C h))) (omega arith))))))))))))))
+
+    pub held-proposal-narrow : (k D : ℕ) (q : List ℕ) → Narrow (heldProposalAnswer C h k D q)
+    held-proposal-narrow k D q =
+        let size = sized w in
+        let most = places-within w in
+        narrow (valued (cond (isYes C (h .n) (k - 1) D (bytesOf C h) q) 1 0)) (heldProposalTable C h k D q)
+        (or (λ _. at-none) (λ z.
+        let fits = sizes-mean C (h .n) k z in
+        let columns = few-places C (h .n) (fits .2) in
+        or (λ _. at-none) (λ d.
+        let few = degree-means (k - 1) D d in
+        or (λ _. at-none) (λ f.
+        let stated = entries-mean (count (k - 1) D) q f in
+        or (λ _. at-none) (λ l.
+        let full = stored-means C h l .full in
+        or (at-first greatestLevel (h .entries) (omega arith)) (λ _. or (at-later (C .symbols * h .n) (C .symbols - 1) q (omega arith)) (λ _.
+        last (told-narrow (isYes C (h .n) (k - 1) D (bytesOf C h) q)))))))))
+
+    pub held-proposal-list-narrow : (k G D : ℕ) (q rows scores : List ℕ) → Few (heldProposalListAnswer C h k G D q rows scores)
+    held-proposal-list-narrow k G D q rows scores =
+        let size = sized w in
+        let most = places-within w in
+        few-narrow (length (listOf C (h .n) k (bytesOf C h))) (heldProposalListTable C h k G D q (length rows) (length scores))
+        (or (λ _ _. at-none) (λ z.
+        let fits = sizes-mean C (h .n) k z in
+        let columns = few-places C (h .n) (fits .2) in
+        or (λ _ _. at-none) (λ _. or (λ _ _. at-none) (λ d.
+        let few = degree-means (k - 1) D d in
+        or (λ _ _. at-none) (λ f.
+        let stated = entries-mean (count (k - 1) D) q f in
+        or (λ _ _. at-none) (λ l.
+        let full = stored-means C h l .full in
+        or (λ _ _. at-none) (λ _. or (λ _ _. at-none) (λ _. or (λ e _. at-first greatestLevel (h .entries) (omega arith) e) (λ _.
+        or (λ e _. at-later (C .symbols * h .n) (C .symbols - 1) q (omega arith) e) (λ _. or (λ _ _. at-none) (λ _. or (λ _ _. at-none) (λ _. or (λ _ _. at-none) (λ _.
+        last (λ few. counted-narrow (length (listOf C (h .n) k (bytesOf C h))) (omega arith)))))))))))))))
