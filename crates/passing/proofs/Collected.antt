@@ -1,14 +1,14 @@
 -- A Hasse derivative, collected by powers of y: the derivatives by x of what stands at each power, times the derivatives of that power.
 -- Assumes nothing.
 use mathlib.Core.Bool.{Bool, true, false, cond}
-use mathlib.Core.List.{List, []}
+use mathlib.Core.List.{List}
 use mathlib.Core.Path.{_≡_, refl, sym, _∙_, ap, ap₂, subst}
 use Prim.Native.Nat.{ℕ, zero, suc, _+_, _/_, _≤_, _<_}
 use native.Mathlib.Decide.{ℕ-discrete}
 use native.Mathlib.Omega.{arith}
 use borrow.Author.Tests.{eq-eqb, ne-eqb}
 use lib.Dec.{eqb}
-use lib.ListN.{length, getD}
+use lib.ListN.{getD}
 use Rattle.algebra.proofs.Carry.{carry-derivative}
 use Rattle.algebra.proofs.Linear.{row, dot-none, dot-suc, dot-equal, carry-dot, hasse-is-dot}
 use Rattle.algebra.proofs.Numbers.{elements}
@@ -16,7 +16,6 @@ use Rattle.algebra.proofs.RingLaws.{plus-zero, zero-plus, times-comm, zero-time
 use Rattle.algebra.proofs.Solutions.{number-entry, number-hasse-at}
 use Rattle.algebra.specs.Dot.{dot}
 use Rattle.algebra.specs.FieldOf.{FieldOf}
-use Rattle.algebra.specs.Grid.{entryOf}
 use Rattle.algebra.specs.Ring.{Ring}
 use Rattle.definitions.proofs.Monomials.{monomials-in-order}
 use Rattle.definitions.specs.Bound.{count}

@@ -2,7 +2,7 @@
 -- Assumes nothing.
 use mathlib.Core.Bool.{Bool}
 use mathlib.Core.List.{List}
-use mathlib.Core.Path.{_≡_, refl, sym, _∙_, ap}
+use mathlib.Core.Path.{_≡_, refl, sym, ap}
 use Prim.Native.Nat.{ℕ, _+_, _-_, _*_, _/_, _≤_, _<_}
 use native.Mathlib.Nat.{mul-suc, mul-le-mul-left}
 use native.Mathlib.Omega.{arith}
@@ -22,7 +22,7 @@ use Rattle.definitions.specs.Proposals.{passesAt, passes}
 use Rattle.definitions.specs.Tools.{every}
 use Rattle.definitions.specs.Weights.{entry}
 use Rattle.passing.proofs.Collected.{parts-hasse}
-use Rattle.passing.specs.Derivatives.{Low, Powers, Parts, derivativeSum, orderPasses, derivativeAt, pointPasses, columnPasses}
+use Rattle.passing.specs.Derivatives.{Low, Powers, Parts, orderPasses, derivativeAt, pointPasses, columnPasses}
 
 module _ (C : Code) where
   -- the orders that begin with s, of a point

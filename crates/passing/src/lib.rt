@@ -1,7 +1,7 @@
 // Whether a polynomial passes through the points of a matrix, for inner use: what is given is within limits already.
 ghost use mathlib.Core.Path.{_≡_};
 ghost use Prim.Native.Nat.{_+_, _*_, _≤_, _<_};
-ghost use lib.ListN.{length, take};
+ghost use lib.ListN.{length};
 ghost use Rattle.alphabet.specs.Codes.{codeOn};
 ghost use Rattle.definitions.specs.Code.{Symbols};
 ghost use Rattle.definitions.specs.Limits.{greatestLevel, greatestCount};
@@ -13,21 +13,22 @@ use refusals::limits::GREATEST_COUNT;
 use refusals::limits::GREATEST_LEVEL;
 use tables::ALPHA;
 
-// Of the derivatives of (c + z)^e, those of (c + z)^(e + 1): times c, and the one of the order before.
-fn moved(
-    alphabet: Alphabet,
-    table: &[u8],
-    row: &[u8; GREATEST_LEVEL],
-    c: u8,
-) -> [u8; GREATEST_LEVEL]
+// The orders of a derivative that the greatest multiplicity asks for.
+const ORDERS: usize = GREATEST_LEVEL;
+
+// A row for each power: there are no more powers than coefficients.
+const POWERS: usize = GREATEST_COUNT;
+
+// From the derivatives of a power at c to those of the next: c times each, and the one of the order before.
+fn moved(alphabet: Alphabet, table: &[u8], row: &[u8; ORDERS], c: u8) -> [u8; ORDERS]
     requires { ⌜ Tabled (codeOn alphabet) (now table) ⌝ }
     requires { ⌜ (c < codeOn alphabet .symbols) × Symbols (codeOn alphabet) (now row) ⌝ }
     ensures { λ r. ⌜ Moved (codeOn alphabet) c (now (row .entry)) r ⌝ }
 {
-    let mut next = [0u8; GREATEST_LEVEL];
+    let mut next = [0u8; ORDERS];
     let mut before = 0u8;
     let mut s = 0;
-    while s < GREATEST_LEVEL {
+    while s < ORDERS {
         next[s] = tables::look(alphabet, table, c, row[s]) ^ before;
         before = row[s];
         s += 1;
@@ -36,18 +37,13 @@ fn moved(
 }
 
 // Row e holds the derivatives of the power e at c, by order.
-fn powers(
-    alphabet: Alphabet,
-    table: &[u8],
-    c: u8,
-    count: usize,
-) -> [[u8; GREATEST_LEVEL]; GREATEST_COUNT]
+fn powers(alphabet: Alphabet, table: &[u8], c: u8, count: usize) -> [[u8; ORDERS]; POWERS]
     requires { ⌜ Tabled (codeOn alphabet) (now table) ⌝ }
     requires { ⌜ (c < codeOn alphabet .symbols) × (count ≤ greatestCount) ⌝ }
     ensures { λ r. ⌜ Powers (codeOn alphabet) c count r ⌝ }
 {
-    let mut rows = [[0u8; GREATEST_LEVEL]; GREATEST_COUNT];
-    let mut row = [0u8; GREATEST_LEVEL];
+    let mut rows = [[0u8; ORDERS]; POWERS];
+    let mut row = [0u8; ORDERS];
     row[0] = 1;
     let mut e = 0;
     while e < count {
@@ -59,19 +55,13 @@ fn powers(
 }
 
 // To each entry of a row, c times that of another is added.
-fn add_multiple(
-    alphabet: Alphabet,
-    table: &[u8],
-    row: &mut [u8; GREATEST_LEVEL],
-    of: &[u8; GREATEST_LEVEL],
-    c: u8,
-)
+fn add_multiple(alphabet: Alphabet, table: &[u8], row: &mut [u8; ORDERS], of: &[u8; ORDERS], c: u8)
     requires { ⌜ Tabled (codeOn alphabet) (now table) ⌝ }
     requires { ⌜ (c < codeOn alphabet .symbols) × Symbols (codeOn alphabet) (now of) × (length (now row) ≡ greatestLevel) ⌝ }
     ensures { λ _. ⌜ Added (codeOn alphabet) c (now (of .entry)) (now (row .entry)) (now (row .exit)) ⌝ }
 {
     let mut s = 0;
-    while s < GREATEST_LEVEL {
+    while s < ORDERS {
         row[s] ^= tables::look(alphabet, table, of[s], c);
         s += 1;
     }
@@ -83,14 +73,14 @@ fn parts(
     table: &[u8],
     coefficients: &[u8],
     v: usize,
-    px: &[[u8; GREATEST_LEVEL]; GREATEST_COUNT],
-) -> [[u8; GREATEST_LEVEL]; GREATEST_COUNT]
+    px: &[[u8; ORDERS]; POWERS],
+) -> [[u8; ORDERS]; POWERS]
     requires { ⌜ Tabled (codeOn alphabet) (now table) ⌝ }
     requires { ⌜ (0 < v) × (length (now coefficients) ≤ greatestCount) ⌝ }
     requires { ⌜ Symbols (codeOn alphabet) (now coefficients) × SymbolRows (codeOn alphabet) (now px) ⌝ }
     ensures { λ r. ⌜ Parts (codeOn alphabet) v (length (now (coefficients .entry))) (now (px .entry)) (now (coefficients .entry)) r ⌝ }
 {
-    let mut rows = [[0u8; GREATEST_LEVEL]; GREATEST_COUNT];
+    let mut rows = [[0u8; ORDERS]; POWERS];
     let mut x = 0;
     let mut y = 0usize;
     let mut degree = 0;
@@ -114,8 +104,8 @@ fn parts(
 fn derivative(
     alphabet: Alphabet,
     table: &[u8],
-    rows: &[[u8; GREATEST_LEVEL]; GREATEST_COUNT],
-    py: &[[u8; GREATEST_LEVEL]; GREATEST_COUNT],
+    rows: &[[u8; ORDERS]; POWERS],
+    py: &[[u8; ORDERS]; POWERS],
     h: usize,
     s: usize,
     t: usize,
@@ -138,8 +128,8 @@ fn derivative(
 fn order_passes(
     alphabet: Alphabet,
     table: &[u8],
-    rows: &[[u8; GREATEST_LEVEL]; GREATEST_COUNT],
-    py: &[[u8; GREATEST_LEVEL]; GREATEST_COUNT],
+    rows: &[[u8; ORDERS]; POWERS],
+    py: &[[u8; ORDERS]; POWERS],
     h: usize,
     s: usize,
     orders: usize,
@@ -163,7 +153,7 @@ fn order_passes(
 fn point_passes(
     alphabet: Alphabet,
     table: &[u8],
-    rows: &[[u8; GREATEST_LEVEL]; GREATEST_COUNT],
+    rows: &[[u8; ORDERS]; POWERS],
     h: usize,
     y: u8,
     m: usize,
@@ -191,7 +181,7 @@ fn point_passes(
 fn column_passes(
     alphabet: Alphabet,
     table: &[u8],
-    rows: &[[u8; GREATEST_LEVEL]; GREATEST_COUNT],
+    rows: &[[u8; ORDERS]; POWERS],
     h: usize,
     entries: &[u8],
     at: usize,

@@ -1,8 +1,8 @@
 -- Each pass adds one product more, of c and an entry of the other row.
 use mathlib.Core.Path.{_≡_, sym, _∙_, ap, ap₂, subst}
-use Prim.Native.Nat.{ℕ, _+_, _-_, _≤_, _<_}
+use Prim.Native.Nat.{ℕ, _+_, _-_, _≤_}
 use native.Mathlib.Omega.{arith}
-use lib.ListN.{length, getD, set}
+use lib.ListN.{getD, set}
 use Rattle.alphabet.specs.Codes.{codeOn}
 use Rattle.blocks.proofs.Blocks.{changed-none, changed-more}
 use Rattle.blocks.specs.Row.{Changed}

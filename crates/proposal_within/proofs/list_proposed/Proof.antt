@@ -2,7 +2,7 @@
 -- bound, so its roots above the bound are all messages above it: that is the list.
 use mathlib.Core.Bool.{true, false}
 use mathlib.Core.List.{List, [], _∷_}
-use mathlib.Core.Path.{_≡_, sym, _∙_, ap, subst}
+use mathlib.Core.Path.{_≡_, sym, _∙_, ap}
 use Prim.Native.Nat.{ℕ, _*_, _-_, _/_, _≤_, _<_}
 use native.Mathlib.Omega.{arith}
 use borrow.Author.Tests.{not-true, not-false}
@@ -14,7 +14,7 @@ use Rattle.definitions.proofs.Powers.{powers-of-y}
 use Rattle.definitions.proofs.Proposals.{yes-means}
 use Rattle.definitions.specs.Bound.{bound}
 use Rattle.definitions.specs.Field.{Code}
-use Rattle.definitions.specs.Limits.{greatestLimit, greatestRows}
+use Rattle.definitions.specs.Limits.{greatestLimit}
 use Rattle.definitions.specs.Proposals.{withinBound, isYes, proposed}
 use Rattle.definitions.specs.Weights.{cost}
 use Rattle.instances.proofs.Codes.{field-on}

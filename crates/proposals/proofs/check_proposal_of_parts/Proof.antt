@@ -1,19 +1,15 @@
 -- The chain tries the lines before the symbols, the stored numbers among them, then those of the
 -- symbols; the matrix stands in front of the record's entries.
 use mathlib.Core.List.{List, [], _++_}
-use mathlib.Core.Path.{_≡_, refl, sym, _∙_}
-use Prim.Native.Nat.{ℕ, _*_, _-_, _≤_}
+use mathlib.Core.Path.{refl, sym, _∙_}
+use Prim.Native.Nat.{_-_}
 use native.Mathlib.Omega.{arith}
-use lib.ListN.{length, getD}
 use Rattle.alphabet.proofs.Sizes.{sized}
 use Rattle.alphabet.specs.Codes.{codeOn}
 use Rattle.definitions.proofs.Held.{Rightly, used-within}
 use Rattle.definitions.proofs.Table.{Accepts}
-use Rattle.definitions.specs.Code.{Symbols}
 use Rattle.definitions.specs.Field.{Code}
-use Rattle.definitions.specs.Held.{Held, held, bytesOf}
-use Rattle.definitions.specs.Limits.{greatestLevel}
-use Rattle.definitions.specs.Proposals.{isYes}
+use Rattle.definitions.specs.Held.{Held, held}
 use Rattle.definitions.specs.Refusals.{Line}
 use Rattle.matrix.proofs.Record.{stored-tried}
 use Rattle.proposals.proofs.Answers.{says-yes, says-no}

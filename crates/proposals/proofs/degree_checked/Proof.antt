@@ -1,6 +1,6 @@
 -- A degree of 256 or more has too many monomials, so it is refused as the line of N(D) says; else both
 -- lines are tried by the count.
-use Prim.Native.Nat.{_-_, _≤_, _<_}
+use Prim.Native.Nat.{_-_, _≤_}
 use native.Mathlib.Omega.{arith}
 use Rattle.proposals.proofs.Lines.{kept-twice, too-many, by-count}
 use Rattle.proposals.specs.Lines.{limited, stated}

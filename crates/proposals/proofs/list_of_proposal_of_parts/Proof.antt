@@ -1,8 +1,8 @@
 -- The chain tries the lines before the symbols, the stored numbers among them, then those of the
 -- symbols; the lines that are left speak of the bytes in front of the record's entries.
 use mathlib.Core.List.{List, [], _++_}
-use mathlib.Core.Path.{_≡_, refl}
-use Prim.Native.Nat.{ℕ, _*_, _≤_}
+use mathlib.Core.Path.{refl}
+use Prim.Native.Nat.{ℕ, _≤_}
 use native.Mathlib.Omega.{arith}
 use lib.ListN.{length, getD}
 use Rattle.alphabet.proofs.Sizes.{sized}

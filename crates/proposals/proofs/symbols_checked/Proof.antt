@@ -1,7 +1,7 @@
 -- The entries' line, then the coefficients': n positions of symbols have few places, so no index is
 -- too large.
-use Prim.Native.Nat.{ℕ, _*_, _+_, _≤_, _<_}
-use mathlib.Core.Path.{_≡_, _∙_, ap}
+use Prim.Native.Nat.{ℕ, _*_, _≤_}
+use mathlib.Core.Path.{_∙_, ap}
 use native.Mathlib.Nat.{mul-le-mul}
 use native.Mathlib.Omega.{arith}
 use Rattle.alphabet.proofs.Sizes.{sized}
