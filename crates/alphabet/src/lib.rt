@@ -1,9 +1,12 @@
 // Which symbols a call is about: those of document 01, or those of document 02, order 13.
+
+#![tactic(auto)]
+
 ghost use Rattle.std.specs.Prelude.{◌≡◌, ◌-◌};
 ghost use Rattle.alphabet.specs.Codes.{code_on, modulus_on};
 ghost use Rattle.definitions.specs.Held.{places};
 
-#[derive(Drop)]
+#[derive(Clone, Copy)]
 pub enum Alphabet {
     Sixteen,
     ThirtyTwo,

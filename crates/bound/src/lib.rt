@@ -1,4 +1,7 @@
 // How many monomials lie up to a weighted degree, and the bound, for inner use: what is given is within limits already.
+
+#![tactic(auto)]
+
 ghost use Rattle.std.specs.Prelude.{◌≡◌, ◌<◌};
 ghost use Rattle.definitions.specs.Bound.{count, bound};
 

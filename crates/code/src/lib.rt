@@ -1,4 +1,7 @@
 // Messages and their codewords.
+
+#![tactic(auto)]
+
 ghost use Rattle.std.specs.Prelude.{◌≡◌};
 ghost use Rattle.alphabet.specs.Codes.{code_on};
 ghost use Rattle.refusals.specs.Counted.{told_counted};

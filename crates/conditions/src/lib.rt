@@ -1,4 +1,7 @@
 // The rows of the Hasse conditions, for inner use: what they are made of is within limits already.
+
+#![tactic(auto)]
+
 ghost use Rattle.std.specs.Prelude.{◌≡◌, ◌+◌, ◌*◌, ◌≤◌, ◌<◌, length};
 ghost use Rattle.std.proofs.lemmas.List.Edits.{sets};
 ghost use Rattle.alphabet.specs.Codes.{code_on};

@@ -1,4 +1,7 @@
 // The counter's part: one list judged, and two judged together. It knows the library's lists by their promises alone.
+
+#![tactic(auto)]
+
 ghost use Rattle.std.specs.Prelude.{◌≡◌, ◌*◌, ◌≤◌, length};
 ghost use Rattle.alphabet.specs.Codes.{code_on};
 ghost use Rattle.counter.specs.Judging.{judged, same_settings, apart, both_judged, judge_answer, both_answer};
@@ -8,7 +11,7 @@ ghost use Rattle.definitions.specs.Answers.{valued};
 use alphabet::Alphabet;
 use refusals::{Checked, Refusal};
 
-#[derive(Drop)]
+#[derive(Clone, Copy)]
 pub enum Verdict {
     Open,
     Ask,
@@ -17,7 +20,7 @@ pub enum Verdict {
 }
 
 // What a list was made with.
-#[derive(Drop)]
+#[derive(Clone, Copy)]
 pub struct Settings {
     pub n: usize,
     pub k: usize,

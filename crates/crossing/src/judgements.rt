@@ -13,7 +13,7 @@ use counter::{Settings, Verdict};
 use refusals::Refusal;
 
 #[repr(C)]
-#[derive(Drop)]
+#[derive(Clone, Copy)]
 pub struct Judgement {
     pub place: u64,
     pub number: u16,

@@ -1,4 +1,7 @@
 // How an answer crosses to C: by value, in one struct.
+
+#![tactic(auto)]
+
 ghost use Rattle.std.specs.Prelude.{◌≡◌};
 ghost use Rattle.crossing.specs.Crossing.{answer_of, Narrow};
 ghost use Rattle.edits.specs.Priced.{told_priced};
@@ -22,7 +25,7 @@ use refusals::{Counted, Refusal};
 use weights::Costed;
 
 #[repr(C)]
-#[derive(Drop)]
+#[derive(Clone, Copy)]
 pub struct Answer {
     pub number: u16,
     pub place: u16,

@@ -1,4 +1,7 @@
 // A matrix that is edited: fresh, an entry set, a column cleared, another matrix added. The stored numbers stay those of the entries.
+
+#![tactic(auto)]
+
 ghost use Rattle.std.specs.Prelude.{◌≡◌};
 ghost use Rattle.definitions.specs.Editing.{fresh_held, fresh_answer, bytes_held, bytes_answer, set_held, set_answer, clear_held, clear_answer, add_held, add_answer};
 ghost use Rattle.definitions.specs.Field.{sixteen};
@@ -13,7 +16,7 @@ use edits::Priced;
 use matrix::{Matrix, PLACES, POSITIONS};
 
 // The outcome, and the record after it: where it is refused the one that went in.
-#[derive(Drop)]
+#[derive(Clone, Copy)]
 pub struct Edited {
     pub outcome: Priced,
     pub matrix: Matrix,

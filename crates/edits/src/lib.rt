@@ -1,4 +1,7 @@
 // The edits of a record that is rightly held: what is left of their tables is whether an entry is above 5.
+
+#![tactic(auto)]
+
 ghost use Rattle.std.specs.Prelude.{true, [], ◌∷◌, ◌≡◌, ◌+◌, ◌*◌, ◌≤◌, ◌<◌, length, set};
 ghost use Rattle.alphabet.specs.Codes.{code_on};
 ghost use Rattle.definitions.specs.Editing.{position, in_or_out};
@@ -13,7 +16,7 @@ use refusals::limits::{GREATEST_ENTRY, GREATEST_LEVEL};
 use refusals::{Checked, Refusal};
 
 // The cost that the record then holds.
-#[derive(Drop)]
+#[derive(Clone, Copy)]
 pub enum Priced {
     Cost(usize),
     Refused(Refusal),

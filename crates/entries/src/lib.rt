@@ -1,4 +1,7 @@
 // The entries, one for each function that C calls, over numbers and slices: its alphabet comes first, and its answer crosses by value.
+
+#![tactic(auto)]
+
 ghost use Rattle.std.specs.Prelude.{◌≡◌, ◌≤◌};
 ghost use Rattle.alphabet.specs.Codes.{code_on};
 ghost use Rattle.crossing.specs.Crossing.{answer_of};

@@ -1,4 +1,7 @@
 // The boundary to C: each entry over numbers and slices, its answer by value in one struct.
+
+#![tactic(auto)]
+
 ghost use Rattle.std.specs.Prelude.{◌≡◌, ◌≤◌};
 ghost use Rattle.crossing.specs.Crossing.{answer_of};
 ghost use Rattle.definitions.specs.Answers.{sum_answer, product_answer, inverse_answer, encode_answer, encode_out, multiplicities_answer, multiplicities_out, cost_answer, InterpolationAnswers, roots_answer, roots_out, list_answer, list_rows, list_scores, read_answer, read_rows, read_scores};

@@ -1,4 +1,7 @@
 // The field of an alphabet: sum, product and inverse, each refusing what is no symbol.
+
+#![tactic(auto)]
+
 ghost use Rattle.std.specs.Prelude.{[], ◌∷◌, ◌≡◌, ◌-◌};
 ghost use Rattle.alphabet.specs.Codes.{code_on};
 ghost use Rattle.definitions.specs.Answers.{sum_answer, product_answer, inverse_answer};
@@ -8,7 +11,7 @@ ghost use Rattle.field.specs.Element.{told_element};
 use alphabet::Alphabet;
 use refusals::{Checked, Refusal};
 
-#[derive(Drop)]
+#[derive(Clone, Copy)]
 pub enum Element {
     Of(u8),
     Refused(Refusal),

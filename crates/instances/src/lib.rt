@@ -1,1 +1,3 @@
 // The codes that carry a field.
+
+#![tactic(auto)]

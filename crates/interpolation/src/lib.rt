@@ -1,4 +1,7 @@
 // Interpolation: the polynomial with the smallest leading monomial.
+
+#![tactic(auto)]
+
 ghost use Rattle.alphabet.specs.Codes.{code_on};
 ghost use Rattle.definitions.specs.Answers.{InterpolationAnswers};
 ghost use Rattle.definitions.specs.Editing.{HeldInterpolationAnswers};
@@ -14,7 +17,7 @@ use matrix::Matrix;
 use refusals::limits::{COEFFICIENT_ROOM, GREATEST_ENTRY, GREATEST_LIMIT};
 use refusals::{Checked, Refusal};
 
-#[derive(Drop)]
+#[derive(Clone, Copy)]
 pub enum Interpolated {
     Of { bound: usize, count: usize },
     Refused(Refusal),

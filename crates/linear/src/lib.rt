@@ -1,1 +1,3 @@
 // The laws of elimination, over any field.
+
+#![tactic(auto)]

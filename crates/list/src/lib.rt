@@ -1,4 +1,7 @@
 // The list: every message whose codeword's score is above the bound, and no other.
+
+#![tactic(auto)]
+
 ghost use Rattle.std.specs.Prelude.{◌≡◌, ◌≤◌};
 ghost use Rattle.alphabet.specs.Codes.{code_on};
 ghost use Rattle.refusals.specs.Counted.{told_counted};

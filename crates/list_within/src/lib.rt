@@ -1,4 +1,7 @@
 // The list of a matrix within limits: interpolation, its y-roots, and those above the bound by falling score.
+
+#![tactic(auto)]
+
 ghost use Rattle.std.specs.Prelude.{[], ◌∷◌, ◌≡◌, ◌*◌, ◌≤◌, ◌<◌, length, take};
 ghost use Rattle.alphabet.specs.Codes.{code_on};
 ghost use Rattle.definitions.specs.Limits.{greatest_limit, greatest_rows};

@@ -1,4 +1,7 @@
 // What the masks of an order leave of a row, for inner use: what they are given is within limits already.
+
+#![tactic(auto)]
+
 ghost use Rattle.std.specs.Prelude.{◌≡◌, ◌*◌, ◌≤◌};
 ghost use Rattle.masks.specs.Masks.{mask_byte, KeptBlock, kept_row};
 ghost use Rattle.blocks.specs.Row.{width, block, ZeroFrom};

@@ -1,4 +1,7 @@
 // A multiplicity matrix: the record that holds its cost and the total of each column, and the columns that the list call opens it into.
+
+#![tactic(auto)]
+
 ghost use Rattle.std.specs.Prelude.{◌≡◌, ◌+◌, ◌*◌, ◌≤◌, ◌<◌, length, drop};
 ghost use Rattle.alphabet.specs.Codes.{code_on, most_places};
 ghost use Rattle.definitions.specs.Held.{held, places, totals_of, totals_right, rightly};
@@ -13,7 +16,7 @@ pub const POSITIONS: usize = 15;
 
 pub const PLACES: usize = 16 * POSITIONS;
 
-#[derive(Drop)]
+#[derive(Clone, Copy)]
 pub struct Matrix {
     pub n: usize,
     pub cost: usize,

@@ -1,4 +1,7 @@
 // Lists of bytes: copied into lent memory, cleared, tested for zeros, and compared.
+
+#![tactic(auto)]
+
 ghost use Rattle.std.specs.Prelude.{◌≡◌, ◌+◌, ◌≤◌, length, replicate};
 ghost use Rattle.definitions.specs.Polynomial.{is_zero};
 ghost use Rattle.memory.specs.Laid.{laid};

@@ -1,4 +1,7 @@
 // The first monomials: their powers, and their values at a point; for inner use: what it is given is within limits already.
+
+#![tactic(auto)]
+
 ghost use Rattle.std.specs.Prelude.{◌≡◌, ◌≤◌, ◌<◌};
 ghost use Rattle.alphabet.specs.Codes.{code_on};
 ghost use Rattle.definitions.specs.Code.{Symbols};

@@ -1,4 +1,7 @@
 // Numbers as the machine holds them: those of sixteen bits from bytes, low byte first; and casts, each with what it keeps.
+
+#![tactic(auto)]
+
 ghost use Rattle.std.specs.Prelude.{◌++◌, ◌≡◌, ◌+◌, ◌*◌, ◌≤◌, ◌<◌, length, drop};
 ghost use Rattle.numbers.specs.Numbers.{numbers_of};
 

@@ -1,4 +1,7 @@
 // The row that the counter opens, handed back where it lies.
+
+#![tactic(auto)]
+
 ghost use Rattle.std.specs.Prelude.{◌≡◌};
 ghost use Rattle.alphabet.specs.Codes.{code_on};
 ghost use Rattle.opening.specs.Handing.{part_at, opened, both_opened};

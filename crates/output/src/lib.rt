@@ -1,4 +1,7 @@
 // From the program's input to its output.
+
+#![tactic(auto)]
+
 ghost use Rattle.std.specs.Prelude.{◌++◌, ◌≡◌, ◌*◌, ◌≤◌, length};
 ghost use Rattle.alphabet.specs.Codes.{code_on};
 ghost use Rattle.definitions.specs.Limits.{greatest_rows};

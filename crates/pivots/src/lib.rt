@@ -1,4 +1,7 @@
 // A step of the elimination: a pivot row scaled and brought up, and its column cleared in the rows below; for inner use: what it is given is within limits already.
+
+#![tactic(auto)]
+
 ghost use Rattle.std.specs.Prelude.{◌≢◌, ◌≡◌, ◌+◌, ◌*◌, ◌/◌, ◌≤◌, ◌<◌, length};
 ghost use Rattle.alphabet.specs.Codes.{code_on};
 ghost use Rattle.algebra.specs.Grid.{entry_of};

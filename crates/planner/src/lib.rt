@@ -1,4 +1,7 @@
 // A planner for multiplicities, and the check of a plan that comes from outside.
+
+#![tactic(auto)]
+
 ghost use Rattle.std.specs.Prelude.{◌≡◌};
 ghost use Rattle.alphabet.specs.Codes.{code_on};
 ghost use Rattle.definitions.specs.Field.{sixteen};
@@ -14,7 +17,7 @@ use matrix::Matrix;
 use refusals::limits::GREATEST_ENTRY;
 use refusals::{Checked, Refusal};
 
-#[derive(Drop)]
+#[derive(Clone, Copy)]
 pub enum Planned {
     Of { count: usize, steps: usize },
     Refused(Refusal),

@@ -1,4 +1,7 @@
 // The polynomial of a matrix, for inner use: what is given is within limits already.
+
+#![tactic(auto)]
+
 ghost use Rattle.std.specs.Prelude.{◌*◌, ◌≤◌, ◌<◌, length, ◌≡◌};
 ghost use Rattle.alphabet.specs.Codes.{code_on};
 ghost use Rattle.definitions.specs.Limits.{greatest_limit, coefficient_room};
@@ -19,7 +22,7 @@ const MIDDLE_ROWS: usize = 6 * BLOCK;
 const UPPER_ROWS: usize = 10 * BLOCK;
 
 // Of a polynomial: the bound of its matrix, how many coefficients that has, and the place of its leading monomial.
-#[derive(Drop)]
+#[derive(Clone, Copy)]
 pub struct AtBound {
     pub bound: usize,
     pub count: usize,

@@ -1,4 +1,7 @@
 // A proposal within limits: whether it is a yes, and the list that is made from it.
+
+#![tactic(auto)]
+
 ghost use Rattle.std.specs.Prelude.{◌≡◌, ◌*◌, ◌-◌, length, take};
 ghost use Rattle.alphabet.specs.Codes.{code_on};
 ghost use Rattle.definitions.specs.Proposals.{is_yes};

@@ -1,4 +1,7 @@
 // A polynomial that somebody else proposes: its check, and the list that is made from it.
+
+#![tactic(auto)]
+
 ghost use Rattle.std.specs.Prelude.{◌≡◌, ◌*◌, ◌-◌, ◌≤◌, length};
 ghost use Rattle.alphabet.specs.Codes.{code_on};
 ghost use Rattle.definitions.specs.Field.{sixteen};
@@ -17,7 +20,7 @@ use matrix::Matrix;
 use refusals::limits::{GREATEST_COUNT, GREATEST_ENTRY, GREATEST_LIMIT, GREATEST_ROWS};
 use refusals::{Checked, Counted, Refusal};
 
-#[derive(Drop)]
+#[derive(Clone, Copy)]
 pub enum Proposed {
     Yes,
     No,

@@ -1,5 +1,8 @@
 // Reads n, k, L, G and the reliabilities from standard input, and writes the list or the refusal to standard output.
 // Where one of them fails, a sentence on standard error says so.
+
+#![tactic(auto)]
+
 use alphabet::Alphabet;
 use libc::{STDERR_FILENO, STDIN_FILENO, STDOUT_FILENO};
 use streams::Moved;

@@ -1,4 +1,7 @@
 // The entries of a matrix record: n and cost are numbers, totals and entries lent memory that an edit writes in place.
+
+#![tactic(auto)]
+
 ghost use Rattle.std.specs.Prelude.{◌≡◌, ◌≤◌};
 ghost use Rattle.alphabet.specs.Codes.{code_on};
 ghost use Rattle.crossing.specs.Crossing.{answer_of};

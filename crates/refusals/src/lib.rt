@@ -1,4 +1,7 @@
 // Refusals, and the checks that give them: an entry chains its checks as its table has its lines, and the first that is given is the refusal.
+
+#![tactic(auto)]
+
 ghost use Rattle.std.specs.Prelude.{not, ◌&&◌, ◌≡◌, ◌+◌, ◌*◌, ◌^◌, ◌<◌, eqb, leb, length};
 ghost use Rattle.alphabet.specs.Codes.{code_on};
 ghost use Rattle.definitions.specs.Planning.{steps};
@@ -12,7 +15,7 @@ use alphabet::Alphabet;
 use limits::{GREATEST_LEVEL, GREATEST_STEPS};
 
 // The lines of the table.
-#[derive(Drop)]
+#[derive(Clone, Copy)]
 pub enum Refusal {
     Sizes,
     Setting,
@@ -27,14 +30,14 @@ pub enum Refusal {
 }
 
 // The answer of an entry that writes: how much it wrote.
-#[derive(Drop)]
+#[derive(Clone, Copy)]
 pub enum Counted {
     Count(usize),
     Refused(Refusal),
 }
 
 // What the lines so far give.
-#[derive(Drop)]
+#[derive(Clone, Copy)]
 pub enum Checked {
     Passed,
     Refused(Refusal),

@@ -1,4 +1,7 @@
 // The reliabilities of each position: summed, and checked against 4,096.
+
+#![tactic(auto)]
+
 ghost use Rattle.std.specs.Prelude.{◌≡◌, ◌+◌, ◌*◌, ◌≤◌, ◌<◌, length};
 ghost use Rattle.alphabet.specs.Codes.{code_on};
 ghost use Rattle.definitions.specs.Refusals.{bad_column, columns};

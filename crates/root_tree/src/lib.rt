@@ -1,1 +1,3 @@
 // The search for y-roots: definitions and laws only.
+
+#![tactic(auto)]

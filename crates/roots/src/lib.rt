@@ -1,4 +1,7 @@
 // The y-roots of a polynomial: all messages f with Q(x, f(x)) identically zero.
+
+#![tactic(auto)]
+
 ghost use Rattle.std.specs.Prelude.{◌≡◌};
 ghost use Rattle.alphabet.specs.Codes.{code_on};
 ghost use Rattle.refusals.specs.Counted.{told_counted};

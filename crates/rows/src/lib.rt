@@ -1,4 +1,7 @@
 // Lists of rows that come in: their shape, their order and their messages.
+
+#![tactic(auto)]
+
 ghost use Rattle.std.specs.Prelude.{◌≡◌, ◌+◌, ◌*◌, ◌≤◌, ◌<◌, length};
 ghost use Rattle.definitions.specs.Listing.{row_at};
 ghost use Rattle.definitions.specs.Tools.{every};

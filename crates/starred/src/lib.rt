@@ -1,1 +1,3 @@
 // The worked lines of document 01, shown of the definitions.
+
+#![tactic(auto)]

@@ -1,4 +1,7 @@
 // Algorithm 1: the best place, a step, and the plan of so many.
+
+#![tactic(auto)]
+
 ghost use Rattle.std.specs.Prelude.{◌≡◌, ◌<◌, length, replicate};
 ghost use Rattle.alphabet.specs.Codes.{code_on};
 ghost use Rattle.definitions.specs.Planning.{best, stops, step, plan, steps_done};

@@ -1,4 +1,7 @@
 // Bytes read and written by calls of the system. A call that is interrupted is made again, and one that fails is told.
+
+#![tactic(auto)]
+
 ghost use Rattle.streams.specs.Moved.{Within};
 
 use libc::EINTR;
@@ -7,7 +10,7 @@ use libc::EINTR;
 const TRIES: u64 = 18446744073709551615;
 
 // So many bytes were moved, or a call failed.
-#[derive(Drop)]
+#[derive(Clone, Copy)]
 pub enum Moved {
     Bytes(usize),
     Failed,

@@ -1,4 +1,7 @@
 // A polynomial in x and y as an array, the coefficient of x^a y^b at a * h + b: one level of the search.
+
+#![tactic(auto)]
+
 ghost use Rattle.std.specs.Prelude.{◌++◌, ◌≡◌, ◌+◌, ◌-◌, ◌*◌, ◌≤◌, ◌<◌, length, take, drop};
 ghost use Rattle.alphabet.specs.Codes.{code_on};
 ghost use Rattle.definitions.specs.Code.{Symbols};

@@ -1,4 +1,7 @@
 // The tables of all products and inverses of either alphabet, each tested once, and their readers: what they are given is within limits already.
+
+#![tactic(auto)]
+
 ghost use Rattle.std.specs.Prelude.{◌≡◌, ◌<◌};
 ghost use Rattle.alphabet.specs.Codes.{code_on};
 ghost use Rattle.tables.specs.Table.{Tabled, Inverses};

@@ -1,4 +1,7 @@
 // Numbers and rows as text: text is put in memory at a place, and the place where it ends is answered.
+
+#![tactic(auto)]
+
 ghost use Rattle.std.specs.Prelude.{◌≡◌, ◌+◌, ◌*◌, ◌≤◌, ◌<◌, length};
 ghost use Rattle.alphabet.specs.Codes.{code_on};
 ghost use Rattle.definitions.specs.Limits.{greatest_rows};

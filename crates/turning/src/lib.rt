@@ -1,4 +1,7 @@
 // A matrix that is lent as bytes, turned into a record: the bytes, zeros behind them, their totals and their cost.
+
+#![tactic(auto)]
+
 ghost use Rattle.std.specs.Prelude.{◌≡◌, ◌≤◌, length, take};
 ghost use Rattle.alphabet.specs.Codes.{code_on, most_places};
 ghost use Rattle.definitions.specs.Held.{places, totals_of, filled};

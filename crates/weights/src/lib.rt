@@ -1,4 +1,7 @@
 // Weights to multiplicities, and a matrix's cost and bound.
+
+#![tactic(auto)]
+
 ghost use Rattle.std.specs.Prelude.{◌≡◌};
 ghost use Rattle.alphabet.specs.Codes.{code_on};
 ghost use Rattle.refusals.specs.Counted.{told_counted};
@@ -16,7 +19,7 @@ use matrix::Matrix;
 use refusals::limits::GREATEST_ENTRY;
 use refusals::{Checked, Counted, Refusal};
 
-#[derive(Drop)]
+#[derive(Clone, Copy)]
 pub enum Costed {
     Of { cost: usize, bound: usize },
     Refused(Refusal),

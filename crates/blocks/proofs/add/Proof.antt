@@ -11,37 +11,35 @@ use Rattle.blocks.proofs.add.Statement.{statement}
 use Rattle.blocks.proofs.add.Tie as tie
 
 -- The first i entries from `at` on have the block's added, and all others are as they were.
-abbrev invariant-loop : tie.invariant-loop
+abbrev invariant-loop : tie.invariant-loop-i
 invariant-loop row₀ at part i₀ row i = (i ≤ block) × Changed at i (λ k. sum_of (get_or row₀ k 0) (get_or part (k - at) 0)) row₀ row
 
-abbrev decreases-loop : tie.decreases-loop
+abbrev decreases-loop : tie.decreases-loop-i
 decreases-loop row₀ at part i₀ row i = block - i
 
 -- the sum that comes to entry k
 abbrev sums : tie.Start invariant-loop decreases-loop → ℕ → ℕ
 sums s k = let a = s.args in sum_of (get_or a.row.now k 0) (get_or a.part.now (k - a.at) 0)
 
-loop-holds : tie.Need-loop-init invariant-loop decreases-loop
+loop-holds : tie.Need-loop-i-init invariant-loop decreases-loop
 loop-holds s = (omega arith, changed_none s.args.at (sums s) s.args.row.now)
 
-loop-again : tie.Need-loop-preserved invariant-loop decreases-loop
+loop-again : tie.Need-loop-i-preserved invariant-loop decreases-loop
 unfolding sum_of
 loop-again c =
-    let l = c.before.before.before in
-    let a = l.before.args in
-    let h : a.at + l.loop.i < length a.row.now = omega arith in
-    let e : l.loop.i ≡ a.at + l.loop.i - a.at = omega arith in
-    let d = l.loop.invariant.1 in
-    let is_sum = ap₂ sum_of (d.patched.after (a.at + l.loop.i) (omega arith)) (ap (λ (k : ℕ). get_or a.part.now k 0) e) in
-    (omega arith, changed_more a.at l.loop.i _ (sums l.before) a.row.now l.loop.row h d is_sum)
+    let a = c.args in
+    let h : a.at + c.loop-i.i < length a.row.now = omega arith in
+    let e : c.loop-i.i ≡ a.at + c.loop-i.i - a.at = omega arith in
+    let d = c.loop-i.invariant.1 in
+    let is_sum = ap₂ sum_of (d.patched.after (a.at + c.loop-i.i) (omega arith)) (ap (λ (k : ℕ). get_or a.part.now k 0) e) in
+    (omega arith, changed_more a.at c.loop-i.i _ (sums c.before.before.before.before.before.before) a.row.now c.loop-i.row h d is_sum)
 
 -- The loop has ended at i = block, so the whole block is added.
 returns : tie.Need-returns invariant-loop decreases-loop
 returns c =
-    let l = c.before in
-    let a = l.before.args in
-    let e : l.loop.i ≡ block = omega arith in
-    subst (λ (n : ℕ). Changed a.at n (sums l.before) a.row.now l.loop.row) e l.loop.invariant.1
+    let a = c.args in
+    let e : c.loop-i.i ≡ block = omega arith in
+    subst (λ (n : ℕ). Changed a.at n (sums c.before.before) a.row.now c.loop-i.row) e c.loop-i.invariant.1
 
 pub add_spec : {M : Type 1} → statement M
 add_spec =

@@ -11,39 +11,36 @@ use Rattle.blocks.proofs.doubled.Statement.{statement}
 use Rattle.blocks.proofs.doubled.Tie as tie
 
 -- The first i entries of times are twice those of the block.
-abbrev invariant-loop : tie.invariant-loop
+abbrev invariant-loop : tie.invariant-loop-i
 invariant-loop alphabet a times₀ i₀ times i = (i ≤ block) × (length times ≡ block) × Front i (λ (k : ℕ). (code_on alphabet).times 2 (get_or a k 0)) times
 
-abbrev decreases-loop : tie.decreases-loop
+abbrev decreases-loop : tie.decreases-loop-i
 decreases-loop alphabet a times₀ i₀ times i = block - i
 
-loop-holds : tie.Need-loop-init invariant-loop decreases-loop
+loop-holds : tie.Need-loop-i-init invariant-loop decreases-loop
 loop-holds c = (omega arith, refl, front_none (λ k. (code_on c.args.alphabet).times 2 (get_or c.args.a.now k 0)) (replicate block 0))
 
 twice-requires : tie.Need-twice-requires invariant-loop decreases-loop
 twice-requires c κs =
-    let l = c.before.before in
-    l.before.requires l.loop.i (omega arith)
+    c.requires c.loop-i.i (omega arith)
 
-loop-again : tie.Need-loop-preserved invariant-loop decreases-loop
+loop-again : tie.Need-loop-i-preserved invariant-loop decreases-loop
 loop-again c =
-    let l = c.before.before.before in
-    let a = l.before.args in
-    let h : l.loop.i < length l.loop.times = omega arith in (
+    let a = c.args in
+    let h : c.loop-i.i < length c.loop-i.times = omega arith in (
       omega arith,
-      length-set l.loop.times l.loop.i _ ∙ l.loop.invariant.1,
-      front_more l.loop.i _ (λ k. (code_on a.alphabet).times 2 (get_or a.a.now k 0)) l.loop.times h l.loop.invariant.2 c.twice.ensures,
+      length-set c.loop-i.times c.loop-i.i _ ∙ c.loop-i.invariant.1,
+      front_more c.loop-i.i _ (λ k. (code_on a.alphabet).times 2 (get_or a.a.now k 0)) c.loop-i.times h c.loop-i.invariant.2 c.twice.ensures,
     )
 
 -- The loop has ended at i = block, so every entry is doubled.
 returns : tie.Need-returns invariant-loop decreases-loop
 returns c =
-    let l = c.before in
-    let e : l.loop.i ≡ block = omega arith in
-    rw e at l.loop.invariant.2
+    let e : c.loop-i.i ≡ block = omega arith in
+    rw e at c.loop-i.invariant.2
 
-pub doubled-spec : {M : Type 1} → statement M
-doubled-spec =
+pub doubled_spec : {M : Type 1} → statement M
+doubled_spec =
     tie.close
     (tie.spec
     invariant-loop

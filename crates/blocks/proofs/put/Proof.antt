@@ -10,35 +10,33 @@ use Rattle.blocks.proofs.put.Statement.{statement}
 use Rattle.blocks.proofs.put.Tie as tie
 
 -- The first i entries from `at` on are the block's, and all others are as they were.
-abbrev invariant-loop : tie.invariant-loop
+abbrev invariant-loop : tie.invariant-loop-i
 invariant-loop row₀ at part i₀ row i = (i ≤ block) × Changed at i (λ k. get_or part (k - at) 0) row₀ row
 
-abbrev decreases-loop : tie.decreases-loop
+abbrev decreases-loop : tie.decreases-loop-i
 decreases-loop row₀ at part i₀ row i = block - i
 
 -- the entry of the block that comes to entry k
 abbrev entries : tie.Start invariant-loop decreases-loop → ℕ → ℕ
 entries s k = get_or s.args.part.now (k - s.args.at) 0
 
-loop-holds : tie.Need-loop-init invariant-loop decreases-loop
+loop-holds : tie.Need-loop-i-init invariant-loop decreases-loop
 loop-holds s = (omega arith, changed_none s.args.at (entries s) s.args.row.now)
 
-loop-again : tie.Need-loop-preserved invariant-loop decreases-loop
+loop-again : tie.Need-loop-i-preserved invariant-loop decreases-loop
 loop-again c =
-    let l = c.before.before in
-    let a = l.before.args in
-    let h : a.at + l.loop.i < length a.row.now = omega arith in
-    let e : l.loop.i ≡ a.at + l.loop.i - a.at = omega arith in
+    let a = c.args in
+    let h : a.at + c.loop-i.i < length a.row.now = omega arith in
+    let e : c.loop-i.i ≡ a.at + c.loop-i.i - a.at = omega arith in
     let is-entry = ap (λ (k : ℕ). get_or a.part.now k 0) e in
-    (omega arith, changed_more a.at l.loop.i _ (entries l.before) a.row.now l.loop.row h l.loop.invariant.1 is-entry)
+    (omega arith, changed_more a.at c.loop-i.i _ (entries c.before.before.before.before.before) a.row.now c.loop-i.row h c.loop-i.invariant.1 is-entry)
 
 -- The loop has ended at i = block, so the whole block is put.
 returns : tie.Need-returns invariant-loop decreases-loop
 returns c =
-    let l = c.before in
-    let a = l.before.args in
-    let e : l.loop.i ≡ block = omega arith in
-    subst (λ (n : ℕ). Changed a.at n (entries l.before) a.row.now l.loop.row) e l.loop.invariant.1
+    let a = c.args in
+    let e : c.loop-i.i ≡ block = omega arith in
+    subst (λ (n : ℕ). Changed a.at n (entries c.before.before) a.row.now c.loop-i.row) e c.loop-i.invariant.1
 
 pub put_spec : {M : Type 1} → statement M
 put_spec =

@@ -11,42 +11,38 @@ use Rattle.blocks.proofs.scaled.Statement.{statement}
 use Rattle.blocks.proofs.scaled.Tie as tie
 
 -- The first i entries of times are u times those of the block.
-abbrev invariant-loop : tie.invariant-loop
+abbrev invariant-loop : tie.invariant-loop-i
 invariant-loop alphabet table a u times₀ i₀ times i = (i ≤ block) × (length times ≡ block) × Front i (λ (k : ℕ). (code_on alphabet).times u (get_or a k 0)) times
 
-abbrev decreases-loop : tie.decreases-loop
+abbrev decreases-loop : tie.decreases-loop-i
 decreases-loop alphabet table a u times₀ i₀ times i = block - i
 
-loop-holds : tie.Need-loop-init invariant-loop decreases-loop
+loop-holds : tie.Need-loop-i-init invariant-loop decreases-loop
 loop-holds c =
-    let a = c.before.args in
+    let a = c.args in
     (omega arith, refl, front_none (λ k. (code_on a.alphabet).times a.u (get_or a.a.now k 0)) (replicate block 0))
 
 look-requires : tie.Need-look-requires invariant-loop decreases-loop
 look-requires c κs =
-    let l = c.before.before in
-    let s = l.before.before in
-    (s.requires.0, (s.requires.1.0, s.requires.1.1 l.loop.i (omega arith)))
+    (c.requires.0, (c.requires.1.0, c.requires.1.1 c.loop-i.i (omega arith)))
 
-loop-again : tie.Need-loop-preserved invariant-loop decreases-loop
+loop-again : tie.Need-loop-i-preserved invariant-loop decreases-loop
 loop-again c =
-    let l = c.before.before.before in
-    let a = l.before.before.args in
-    let h : l.loop.i < length l.loop.times = omega arith in (
+    let a = c.args in
+    let h : c.loop-i.i < length c.loop-i.times = omega arith in (
       omega arith,
-      length-set l.loop.times l.loop.i _ ∙ l.loop.invariant.1,
-      front_more l.loop.i _ (λ k. (code_on a.alphabet).times a.u (get_or a.a.now k 0)) l.loop.times h l.loop.invariant.2 c.look.ensures,
+      length-set c.loop-i.times c.loop-i.i _ ∙ c.loop-i.invariant.1,
+      front_more c.loop-i.i _ (λ k. (code_on a.alphabet).times a.u (get_or a.a.now k 0)) c.loop-i.times h c.loop-i.invariant.2 c.look.ensures,
     )
 
 -- The loop has ended at i = block, so every product is there.
 returns : tie.Need-returns invariant-loop decreases-loop
 returns c =
-    let l = c.before in
-    let e : l.loop.i ≡ block = omega arith in
-    rw e at l.loop.invariant.2
+    let e : c.loop-i.i ≡ block = omega arith in
+    rw e at c.loop-i.invariant.2
 
-pub scaled-spec : {M : Type 1} → statement M
-scaled-spec =
+pub scaled_spec : {M : Type 1} → statement M
+scaled_spec =
     tie.close
     (tie.spec
     invariant-loop

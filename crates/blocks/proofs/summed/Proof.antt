@@ -11,37 +11,35 @@ use Rattle.blocks.proofs.summed.Statement.{statement}
 use Rattle.blocks.proofs.summed.Tie as tie
 
 -- The first i entries of sum are the sums of the entries of both blocks.
-abbrev invariant-loop : tie.invariant-loop
+abbrev invariant-loop : tie.invariant-loop-i
 invariant-loop a b sum₀ i₀ sum i = (i ≤ block) × (length sum ≡ block) × Front i (λ (k : ℕ). sum_of (get_or a k 0) (get_or b k 0)) sum
 
-abbrev decreases-loop : tie.decreases-loop
+abbrev decreases-loop : tie.decreases-loop-i
 decreases-loop a b sum₀ i₀ sum i = block - i
 
-loop-holds : tie.Need-loop-init invariant-loop decreases-loop
+loop-holds : tie.Need-loop-i-init invariant-loop decreases-loop
 loop-holds c =
     let a = c.args in
     (omega arith, refl, front_none (λ k. sum_of (get_or a.a.now k 0) (get_or a.b.now k 0)) (replicate block 0))
 
-loop-again : tie.Need-loop-preserved invariant-loop decreases-loop
+loop-again : tie.Need-loop-i-preserved invariant-loop decreases-loop
 unfolding sum_of
 loop-again c =
-    let l = c.before.before.before in
-    let a = l.before.args in
-    let h : l.loop.i < length l.loop.sum = omega arith in (
+    let a = c.args in
+    let h : c.loop-i.i < length c.loop-i.sum = omega arith in (
       omega arith,
-      length-set l.loop.sum l.loop.i _ ∙ l.loop.invariant.1,
-      front_more l.loop.i _ (λ k. sum_of (get_or a.a.now k 0) (get_or a.b.now k 0)) l.loop.sum h l.loop.invariant.2 refl,
+      length-set c.loop-i.sum c.loop-i.i _ ∙ c.loop-i.invariant.1,
+      front_more c.loop-i.i _ (λ k. sum_of (get_or a.a.now k 0) (get_or a.b.now k 0)) c.loop-i.sum h c.loop-i.invariant.2 refl,
     )
 
 -- The loop has ended at i = block, so every sum is there.
 returns : tie.Need-returns invariant-loop decreases-loop
 returns c =
-    let l = c.before in
-    let e : l.loop.i ≡ block = omega arith in
-    rw e at l.loop.invariant.2
+    let e : c.loop-i.i ≡ block = omega arith in
+    rw e at c.loop-i.invariant.2
 
-pub summed-spec : {M : Type 1} → statement M
-summed-spec =
+pub summed_spec : {M : Type 1} → statement M
+summed_spec =
     tie.close
     (tie.spec
     invariant-loop

@@ -12,27 +12,27 @@ use Rattle.blocks.proofs.twice.Statement.{statement}
 use Rattle.blocks.proofs.twice.Tie as tie
 
 -- The double has room in a byte.
-mul-double : tie.Need-overflow-mul-double
+mul-double : tie.Need-overflow_mul-double
 mul-double c = let most = (sized c.args.alphabet).most in omega arith
 
 -- No bit leaves: the double is the product.
-returns : tie.Need-returns
+returns : tie.Need-returns-then-double-greatest_symbol
 returns c =
-    let a = c.before.before.args in
+    let a = c.args in
     let w = width_of a.alphabet in
     let e = w.1 in
-    let g = c.before.greatest-symbol.ensures in
+    let g = c.greatest_symbol.ensures in
     let least = (sized a.alphabet).least in
     twice_low (width_on a.alphabet) (modulus_on a.alphabet) (positions_on a.alphabet) w.0 a.x (omega arith)
 
 -- A bit leaves: the product is the double with the modulus added.
-returns-2 : tie.Need-returns-2
+returns-2 : tie.Need-returns
 unfolding sum_of
 returns-2 c =
-    let a = c.before.before.before.args in
+    let a = c.args in
     let w = width_of a.alphabet in
     let e = w.1 in
-    let g = c.before.before.greatest-symbol.ensures in
+    let g = c.greatest_symbol.ensures in
     let least = (sized a.alphabet).least in
     ap (λ (m : ℕ). sum_of (a.x * 2) m) c.modulus.ensures
     ∙ twice_high (width_on a.alphabet) (modulus_on a.alphabet) (positions_on a.alphabet) w.0 a.x (omega arith)

@@ -7,54 +7,53 @@ use Rattle.bound.proofs.bound.Statement.{statement}
 use Rattle.bound.proofs.bound.Tie as tie
 
 -- The number m is at least 1, at most one above the cost, and m (m - 1) is at most the quotient.
-abbrev invariant-loop : tie.invariant-loop
+abbrev invariant-loop : tie.invariant-loop-m
 invariant-loop v cost most m₀ m = (1 ≤ m) × (m ≤ suc cost) × (m * (m - 1) ≤ most)
 
-abbrev decreases-loop : tie.decreases-loop
+abbrev decreases-loop : tie.decreases-loop-m
 decreases-loop v cost most m₀ m = suc cost - m
 
 -- In the loop the next number is within the quotient, too.
-next-within : (c : tie.In-loop invariant-loop decreases-loop)
-    → (let m = c.before.loop.m in
-    let a = c.before.before.args in
+next-within : (c : tie.In-loop-m invariant-loop decreases-loop)
+    → (let m = c.loop-m.m in
+    let a = c.args in
     (m + 1 ≤ suc a.cost) × ((m + 1) * (m + 1 - 1) ≤ 2 * a.cost / a.v))
-next-within c = let s = c.before.before in number_next s.args.v s.args.cost c.before.loop.m s.requires.0 (omega arith)
+next-within c = number_next c.args.v c.args.cost c.loop-m.m c.requires.0 (omega arith)
 
 -- Behind the loop v m (m - 1) is at most twice the cost.
-stops-within : (c : tie.After-loop invariant-loop decreases-loop)
-    → (let m = c.before.loop.m in let a = c.before.before.args in a.v * (m * (m - 1)) ≤ 2 * a.cost)
-stops-within c = let s = c.before.before in number_within s.args.v s.args.cost c.before.loop.m s.requires.0 c.before.loop.invariant.2
+stops-within : (c : tie.After-loop-m invariant-loop decreases-loop)
+    → (let m = c.loop-m.m in let a = c.args in a.v * (m * (m - 1)) ≤ 2 * a.cost)
+stops-within c = number_within c.args.v c.args.cost c.loop-m.m c.requires.0 c.loop-m.invariant.2
 
-loop-holds : tie.Need-loop-init invariant-loop decreases-loop
+loop-holds : tie.Need-loop-m-init invariant-loop decreases-loop
 loop-holds c = (omega arith, omega arith, omega arith)
 
-mul-loop : tie.Need-overflow-mul-loop invariant-loop decreases-loop
+mul-loop : tie.Need-overflow_mul-m invariant-loop decreases-loop
 mul-loop c = product_fits _ _ (omega arith) (omega arith)
 
-loop-less : tie.Need-loop-smaller invariant-loop decreases-loop
+loop-less : tie.Need-loop-m-smaller invariant-loop decreases-loop
 loop-less c = let next = next-within c in omega arith
 
-loop-again : tie.Need-loop-preserved invariant-loop decreases-loop
+loop-again : tie.Need-loop-m-preserved invariant-loop decreases-loop
 loop-again c = let next = next-within c in (omega arith, next.0, next.1)
 
-mul-result-2 : tie.Need-overflow-mul-result-2 invariant-loop decreases-loop
+mul-result-2 : tie.Need-overflow_mul-result-2 invariant-loop decreases-loop
 mul-result-2 c = product_fits _ _ (omega arith) (omega arith)
 
-mul-result-3 : tie.Need-overflow-mul-result-3 invariant-loop decreases-loop
+mul-result-3 : tie.Need-overflow_mul-result-3 invariant-loop decreases-loop
 mul-result-3 c = let within = stops-within c in omega arith
 
-add-result : tie.Need-overflow-add-result invariant-loop decreases-loop
+add-result : tie.Need-overflow_add-result invariant-loop decreases-loop
 add-result c = let within = stops-within c in omega arith
 
 -- The loop has ended: m is within the quotient and the next number is past it, so m is the largest.
 returns : tie.Need-returns invariant-loop decreases-loop
 returns c =
-    let l = c.before in
-    let a = l.before.args in
-    number_found a.v a.cost l.loop.m l.before.requires.0 l.loop.invariant.2 (omega arith)
+    let a = c.args in
+    number_found a.v a.cost c.loop-m.m c.requires.0 c.loop-m.invariant.2 (omega arith)
 
-pub bound-spec : {M : Type 1} → statement M
-bound-spec =
+pub bound_spec : {M : Type 1} → statement M
+bound_spec =
     tie.close
     (tie.spec
     invariant-loop

@@ -29,136 +29,120 @@ use Rattle.conditions.proofs.matrix_rows.Tie as tie
 
 -- The rows of the first i positions stand in front, next is the place after them, and a is the point
 -- of position i; px is a row that may be filled with its powers.
-abbrev invariant-loop : tie.invariant-loop
+abbrev invariant-loop : tie.invariant-loop-i
 invariant-loop alphabet rows₀ table matrix v d blocks positions es px₀ next₀ a₀ i₀ rows px next a i =
     (i ≤ (code_on alphabet).positions) × (length rows ≡ length rows₀) × (a ≡ point (code_on alphabet) i) × (next ≡ 0 + length (flat_map (column_at (code_on alphabet) v d blocks matrix) (below i)))
     × (rows ≡ sets rows₀ 0 (flat_map (column_at (code_on alphabet) v d blocks matrix) (below i))) × ZeroFrom (d + 1) px
 
-abbrev decreases-loop : tie.decreases-loop
+abbrev decreases-loop : tie.decreases-loop-i
 decreases-loop alphabet rows₀ table matrix v d blocks positions es px₀ next₀ a₀ i₀ rows px next a i = (code_on alphabet).positions - i
 
 -- the rows of a position
 abbrev rows_of : tie.Start invariant-loop decreases-loop → ℕ → List (List ℕ)
 rows_of s = let a = s.args in column_at (code_on a.alphabet) a.v a.d a.blocks a.matrix.now
 
-loop-holds : tie.Need-loop-init invariant-loop decreases-loop
+loop-holds : tie.Need-loop-i-init invariant-loop decreases-loop
 loop-holds c =
-    let s = c.before.before.before in
-    let a = s.args in
+    let a = c.args in
     let o = a.rows.now in
     let first = sym (power_zero (numbers (code_on a.alphabet)) 2) in
-    (omega arith, refl, first, none_counted (rows_of s) o 0, joined_none (rows_of s) o 0, zeros_from (a.d + 1))
+    (omega arith, refl, first, none_counted (rows_of c.before.before.before) o 0, joined_none (rows_of c.before.before.before) o 0, zeros_from (a.d + 1))
 
-abbrev entry : tie.At-loop invariant-loop decreases-loop → tie.Start invariant-loop decreases-loop
+abbrev entry : tie.At-loop-i invariant-loop decreases-loop → tie.Start invariant-loop decreases-loop
 entry l = l.before.before.before.before
 
-abbrev code_at : tie.At-loop invariant-loop decreases-loop → Code
-code_at l = code_on (entry l).args.alphabet
+abbrev code_at : tie.At-loop-i invariant-loop decreases-loop → Code
+code_at l = code_on l.args.alphabet
 
 -- The point is a symbol.
-symbol : (l : tie.At-loop invariant-loop decreases-loop) → l.loop.a < (code_at l).symbols
-symbol l = subst (λ (x : ℕ). x < (code_at l).symbols) (sym l.loop.invariant.2) (point_symbol (code_at l) (field_on (entry l).args.alphabet) l.loop.i)
+symbol : (l : tie.At-loop-i invariant-loop decreases-loop) → l.loop-i.a < (code_at l).symbols
+symbol l = subst (λ (x : ℕ). x < (code_at l).symbols) (sym l.loop-i.invariant.2) (point_symbol (code_at l) (field_on l.args.alphabet) l.loop-i.i)
 
 powers-requires : tie.Need-powers-requires invariant-loop decreases-loop
 powers-requires c κs =
-    let l = c.before.before in
-    ((entry l).requires.0, (symbol l, omega arith, l.loop.invariant.5))
+    (c.requires.0, (symbol c.before.before, omega arith, c.loop-i.invariant.5))
 
-abbrev at-loop : tie.After-powers invariant-loop decreases-loop → tie.At-loop invariant-loop decreases-loop
+abbrev at-loop : tie.After-powers invariant-loop decreases-loop → tie.At-loop-i invariant-loop decreases-loop
 at-loop p = p.before.before.before
 
 -- the row of powers as it is filled
 abbrev filledRow : tie.After-powers invariant-loop decreases-loop → List ℕ
-filledRow p = p.powers.new.1.1.1.1.0
+filledRow p = p.powers.new.row
 
 -- The row is filled with the powers of the position's point.
 of-x : (p : tie.After-powers invariant-loop decreases-loop)
-    → (let l = at-loop p in filledRow p ≡ powers_row (code_at l) ((entry l).args.d + 1) (point (code_at l) l.loop.i))
-of-x p = let l = at-loop p in p.powers.ensures ∙ ap (powers_row (code_at l) ((entry l).args.d + 1)) l.loop.inv.2
+    → (filledRow p ≡ powers_row (code_at p.before.before.before) (p.args.d + 1) (point (code_at p.before.before.before) p.loop-i.i))
+of-x p = p.powers.ensures ∙ ap (powers_row (code_at p.before.before.before) (p.args.d + 1)) p.loop-i.invariant.2
 
 -- the rows of the position, of a row of powers and of the exponents
-abbrev rows_by : tie.At-loop invariant-loop decreases-loop → List ℕ → List (List ℕ) → List (List ℕ)
-rows_by l px es = let a = (entry l).args in masked_column (code_at l) px (a.d / a.v + 1) a.blocks es (get_or a.matrix.now l.loop.i [])
+abbrev rows_by : tie.At-loop-i invariant-loop decreases-loop → List ℕ → List (List ℕ) → List (List ℕ)
+rows_by l px es = let a = l.args in masked_column (code_at l) px (a.d / a.v + 1) a.blocks es (get_or a.matrix.now l.loop-i.i [])
 
 -- What is put are the rows of the position.
 is-column : (p : tie.After-powers invariant-loop decreases-loop)
-    → (let l = at-loop p in rows_by l (filledRow p) l.before.exponents.result ≡ rows_of (entry l) l.loop.i)
-is-column p = let l = at-loop p in ap₂ (rows_by l) (of-x p) l.before.exponents.ensures
+    → (rows_by p.before.before.before (filledRow p) p.exponents-es.result ≡ rows_of p.before.before.before.before.before.before.before p.loop-i.i)
+is-column p = ap₂ (rows_by p.before.before.before) (of-x p) p.exponents-es.ensures
 
 -- The powers of y fit into a row.
 few : (s : tie.Start invariant-loop decreases-loop) → s.args.d / s.args.v + 1 ≤ width
 few s = let q = div-le_self s.args.d s.args.v in omega arith
 
-abbrev at-powers : tie.After-es invariant-loop decreases-loop → tie.After-powers invariant-loop decreases-loop
-at-powers e = e.before.before.before
+add-column-rows : tie.Need-overflow_add-d-in-loop-i invariant-loop decreases-loop
+add-column-rows c = let h = few c.before.before.before.before.before.before.before.before.before.before in omega arith
 
-add-column-rows : tie.Need-overflow-add-column-rows invariant-loop decreases-loop
-add-column-rows c = let h = few (entry (at-loop (at-powers c.before))) in omega arith
+mul-column-rows : tie.Need-offset_bounds-matrix-i invariant-loop decreases-loop
+mul-column-rows c = let z = sized c.args.alphabet in omega arith
 
-mul-column-rows : tie.Need-overflow-mul-column-rows invariant-loop decreases-loop
-mul-column-rows c = let z = sized (entry (at-loop (at-powers c))).args.alphabet in omega arith
+index-1-column-rows : tie.Need-bounds-matrix-i invariant-loop decreases-loop
+index-1-column-rows c = let z = sized c.args.alphabet in omega arith
 
-index-1-column-rows : tie.Need-bounds-1-column-rows invariant-loop decreases-loop
-index-1-column-rows c = let z = sized (entry (at-loop (at-powers c))).args.alphabet in omega arith
-
-column-rows-requires : tie.Need-column-rows-requires invariant-loop decreases-loop
+column-rows-requires : tie.Need-column_rows-next-requires invariant-loop decreases-loop
 column-rows-requires c κs =
-    let p = at-powers c.before in
-    let l = at-loop p in
-    let s = entry l in
-    let a = s.args in
-    let C = code_at l in
+    let a = c.args in
+    let C = code_at c.before.before.before.before.before.before in
     let F = field_on a.alphabet in
-    let fits = joined_room (rows_of s) C.positions l.loop.i (omega arith) in
-    let put = flat_map (rows_of s) (below l.loop.i) in
-    let clear = clear_behind a.rows.now l.loop.rows put 0 (a.blocks * block) l.loop.next s.pre.1.1.1 l.loop.inv.4 l.loop.inv.3 in
-    let room : l.loop.next + length (rows_of s l.loop.i) ≤ length l.loop.rows = omega arith in
-    let symbols = subst (Symbols C) (sym (of-x p)) (powers_symbols C F (a.d + 1) (point C l.loop.i) (point_symbol C F l.loop.i)) in
-    let places = subst Places (sym l.before.exponents.ensures) (exponents_places a.v (omega arith) (a.blocks * block) (omega arith)) in
-    let room-put = subst (λ (rows : List (List ℕ)). l.loop.next + length rows ≤ length l.loop.rows) (sym (is-column p)) room in
-    (s.pre.0, ((symbols, places), ((few s, omega arith), (room-put, clear))))
+    let fits = joined_room (rows_of c.before.before.before.before.before.before.before.before.before.before) C.positions c.loop-i.i (omega arith) in
+    let put = flat_map (rows_of c.before.before.before.before.before.before.before.before.before.before) (below c.loop-i.i) in
+    let clear = clear_behind a.rows.now c.loop-i.rows put 0 (a.blocks * block) c.loop-i.next c.requires.1.1.1 c.loop-i.invariant.4 c.loop-i.invariant.3 in
+    let room : c.loop-i.next + length (rows_of c.before.before.before.before.before.before.before.before.before.before c.loop-i.i) ≤ length c.loop-i.rows = omega arith in
+    let symbols = subst (Symbols C) (sym (of-x c.before.before.before)) (powers_symbols C F (a.d + 1) (point C c.loop-i.i) (point_symbol C F c.loop-i.i)) in
+    let places = subst Places (sym c.exponents-es.ensures) (exponents_places a.v (omega arith) (a.blocks * block) (omega arith)) in
+    let room-put = subst (λ (rows : List (List ℕ)). c.loop-i.next + length rows ≤ length c.loop-i.rows) (sym (is-column c.before.before.before)) room in
+    (c.requires.0, ((symbols, places), ((few c.before.before.before.before.before.before.before.before.before.before, omega arith), (room-put, clear))))
 
-abbrev powers-of : tie.After-column-rows invariant-loop decreases-loop → tie.After-powers invariant-loop decreases-loop
-powers-of m = at-powers m.before.before
-
-look-requires : tie.Need-look-requires invariant-loop decreases-loop
+look-requires : tie.Need-look-a-requires invariant-loop decreases-loop
 look-requires c κs =
-    let l = at-loop (powers-of c.before) in
+    let l = at-loop c.before.before.before.before.before in
     let z = (sized (entry l).args.alphabet).least in
-    ((entry l).pre.0, (omega arith, symbol l))
+    ((entry l).requires.0, (omega arith, symbol l))
 
-loop-again : tie.Need-loop-preserved invariant-loop decreases-loop
+loop-again : tie.Need-loop-i-preserved invariant-loop decreases-loop
 loop-again c =
-    let m = c.before.before in
-    let p = powers-of m in
-    let l = at-loop p in
-    let s = entry l in
-    let a = s.args in
+    let a = c.args in
     let o = a.rows.now in
-    let C = code_at l in
-    let i = l.loop.i in
-    let row : a.d + 1 ≤ width = (let h = s.pre.1.0 in omega arith) in (
+    let C = code_at c.before.before.before.before.before.before.before.before.before in
+    let i = c.loop-i.i in
+    let row : a.d + 1 ≤ width = (let h = c.requires.1.0 in omega arith) in (
       omega arith,
       search rules,
-      c.look.ensures ∙ ap (C.times 2) l.loop.inv.2 ∙ sym (power_suc (numbers C) 2 i) ∙ ap (point C) (sym (add-one i)),
-      m.column-rows.ensures.0 ∙ ap (λ (rows : List (List ℕ)). l.loop.next + length rows) (is-column p)
-          ∙ count_more (rows_of s) o 0 i l.loop.next l.loop.inv.3,
-      joined_more (rows_of s) o 0 l.loop.rows m.column-rows.new.1.0 i l.loop.next l.loop.inv.4 l.loop.inv.3
-          (m.column-rows.ensures.1 ∙ ap (sets l.loop.rows l.loop.next) (is-column p)),
-      subst (ZeroFrom (a.d + 1)) (sym (of-x p)) (filled_zeros (power (numbers C) (point C i)) (a.d + 1) row),
+      c.look-a.ensures ∙ ap (C.times 2) c.loop-i.invariant.2 ∙ sym (power_suc (numbers C) 2 i) ∙ ap (point C) (sym (add-one i)),
+      c.column_rows-next.ensures.0 ∙ ap (λ (rows : List (List ℕ)). c.loop-i.next + length rows) (is-column c.before.before.before.before.before.before)
+          ∙ count_more (rows_of c.before.before.before.before.before.before.before.before.before.before.before.before.before) o 0 i c.loop-i.next c.loop-i.invariant.3,
+      joined_more (rows_of c.before.before.before.before.before.before.before.before.before.before.before.before.before) o 0 c.loop-i.rows c.column_rows-next.new.rows i c.loop-i.next c.loop-i.invariant.4 c.loop-i.invariant.3
+          (c.column_rows-next.ensures.1 ∙ ap (sets c.loop-i.rows c.loop-i.next) (is-column c.before.before.before.before.before.before)),
+      subst (ZeroFrom (a.d + 1)) (sym (of-x c.before.before.before.before.before.before)) (filled_zeros (power (numbers C) (point C i)) (a.d + 1) row),
     )
 
 -- The loop has ended behind the last position, so the rows of the whole matrix are put.
 returns : tie.Need-returns invariant-loop decreases-loop
 returns c =
-    let l = c.before in
-    let a = (entry l).args in
-    let e : l.loop.i ≡ (code_at l).positions = omega arith in
-    let n : l.loop.next ≡ 0 + length (masked_rows (code_at l) a.v a.d a.blocks a.matrix.now) = rw e at l.loop.invariant.3 in
-    (omega arith, rw e at l.loop.invariant.4)
+    let a = c.args in
+    let e : c.loop-i.i ≡ (code_at c.before).positions = omega arith in
+    let n : c.loop-i.next ≡ 0 + length (masked_rows (code_at c.before) a.v a.d a.blocks a.matrix.now) = rw e at c.loop-i.invariant.3 in
+    (omega arith, rw e at c.loop-i.invariant.4)
 
-pub matrix-rows-spec : {M : Type 1} → statement M
-matrix-rows-spec =
+pub matrix_rows_spec : {M : Type 1} → statement M
+matrix_rows_spec =
     tie.close
     (tie.spec
     invariant-loop

@@ -15,11 +15,11 @@ use Rattle.conditions.proofs.order_rows.Statement.{statement}
 use Rattle.conditions.proofs.order_rows.Tie as tie
 
 -- The rows of the orders below t by y stand from `at` on, and next is the place after them.
-abbrev invariant-loop : tie.invariant-loop
+abbrev invariant-loop : tie.invariant-loop-t
 invariant-loop rows₀ at row ys b m blocks next₀ t₀ rows next t =
     (t ≤ m) × (length rows ≡ length rows₀) × (next ≡ at + t) × (rows ≡ sets rows₀ at (kept_order blocks row ys b t))
 
-abbrev decreases-loop : tie.decreases-loop
+abbrev decreases-loop : tie.decreases-loop-t
 decreases-loop rows₀ at row ys b m blocks next₀ t₀ rows next t = m - t
 
 -- what the bits asked for leave of the row, of order t by y
@@ -30,43 +30,37 @@ row_by s asked t = let a = s.args in kept_row a.blocks a.row.now a.ys.now asked 
 abbrev row_of : tie.Start invariant-loop decreases-loop → ℕ → List ℕ
 row_of s t = row_by s (asked_at s.args.b t) t
 
-loop-holds : tie.Need-loop-init invariant-loop decreases-loop
+loop-holds : tie.Need-loop-t-init invariant-loop decreases-loop
 loop-holds s = (omega arith, refl, omega arith, rows_none (row_of s) s.args.rows.now s.args.at)
 
 keep-requires : tie.Need-keep-requires invariant-loop decreases-loop
 keep-requires c κs =
-    let l = c.before.before.before in
-    let s = l.before in
-    let a = s.args in
-    let put = kept_order a.blocks a.row.now a.ys.now a.b l.loop.t in
-    let size = length_map_below (row_of s) l.loop.t in
-    let clear = clear_behind a.rows.now l.loop.rows put a.at (a.blocks * block) l.loop.next s.requires.2 l.loop.invariant.3 (omega arith) in
-    (s.requires.1, clear l.loop.next (omega arith) (omega arith))
+    let a = c.args in
+    let put = kept_order a.blocks a.row.now a.ys.now a.b c.loop-t.t in
+    let size = length_map_below (row_of c.before.before.before.before) c.loop-t.t in
+    let clear = clear_behind a.rows.now c.loop-t.rows put a.at (a.blocks * block) c.loop-t.next c.requires.2 c.loop-t.invariant.3 (omega arith) in
+    (c.requires.1, clear c.loop-t.next (omega arith) (omega arith))
 
-loop-again : tie.Need-loop-preserved invariant-loop decreases-loop
+loop-again : tie.Need-loop-t-preserved invariant-loop decreases-loop
 loop-again c =
-    let asked = c.before.before in
-    let l = asked.before.before in
-    let s = l.before in
-    let t = l.loop.t in
-    let kept = c.keep.new.1.1.1.1.1.0 in
-    let is_row = c.keep.ensures ∙ ap (λ (asked : ℕ). row_by s asked t) asked.asked-at.ensures in (
+    let t = c.loop-t.t in
+    let kept = c.keep.new.out in
+    let is_row = c.keep.ensures ∙ ap (λ (c.before.before : ℕ). row_by c.before.before.before.before.before c.before.before t) c.asked_at.ensures in (
       omega arith,
-      length-set l.loop.rows l.loop.next kept ∙ l.loop.invariant.1,
+      length-set c.loop-t.rows c.loop-t.next kept ∙ c.loop-t.invariant.1,
       omega arith,
-      ap (λ (n : ℕ). set l.loop.rows n kept) l.loop.invariant.2
-          ∙ rows_more (row_of s) s.args.rows.now s.args.at l.loop.rows t kept l.loop.invariant.3 is_row,
+      ap (λ (n : ℕ). set c.loop-t.rows n kept) c.loop-t.invariant.2
+          ∙ rows_more (row_of c.before.before.before.before.before) c.args.rows.now c.args.at c.loop-t.rows t kept c.loop-t.invariant.3 is_row,
     )
 
 -- The loop has ended at t = m, so the rows of all orders below m are put.
 returns : tie.Need-returns invariant-loop decreases-loop
 returns c =
-    let l = c.before in
-    let e : l.loop.t ≡ l.before.args.m = omega arith in
-    (omega arith, rw e at l.loop.invariant.3)
+    let e : c.loop-t.t ≡ c.args.m = omega arith in
+    (omega arith, rw e at c.loop-t.invariant.3)
 
-pub order-rows-spec : {M : Type 1} → statement M
-order-rows-spec =
+pub order_rows_spec : {M : Type 1} → statement M
+order_rows_spec =
     tie.close
     (tie.spec
     invariant-loop

@@ -20,80 +20,71 @@ use Rattle.conditions.proofs.orders_rows.Tie as tie
 
 -- The rows of the orders below s by x stand from `at` on, next is the place after them, and part is a
 -- row that may be filled.
-abbrev invariant-loop : tie.invariant-loop
+abbrev invariant-loop : tie.invariant-loop-s
 invariant-loop rows₀ at row es b m blocks part₀ next₀ s₀ rows part next s =
     (s ≤ m) × (length rows ≡ length rows₀) × (next ≡ at + length (flat_map (order_at blocks row es b m) (below s)))
     × (rows ≡ sets rows₀ at (flat_map (order_at blocks row es b m) (below s))) × ZeroFrom (blocks * block) part
 
-abbrev decreases-loop : tie.decreases-loop
+abbrev decreases-loop : tie.decreases-loop-s
 decreases-loop rows₀ at row es b m blocks part₀ next₀ s₀ rows part next s = m - s
 
 -- the rows of an order by x
 abbrev rows_of : tie.Start invariant-loop decreases-loop → ℕ → List (List ℕ)
 rows_of s = let a = s.args in order_at a.blocks a.row.now a.es.now a.b a.m
 
-loop-holds : tie.Need-loop-init invariant-loop decreases-loop
+loop-holds : tie.Need-loop-s-init invariant-loop decreases-loop
 loop-holds s =
     let a = s.args in
     let o = a.rows.now in
     (omega arith, refl, none_counted (rows_of s) o a.at, joined_none (rows_of s) o a.at, zeros_from (a.blocks * block))
 
-abbrev at-loop : tie.After-keep invariant-loop decreases-loop → tie.At-loop invariant-loop decreases-loop
-at-loop k = k.before.before.before.before
-
 -- The order of the pass has as many rows as orders by y are left.
-size : (l : tie.At-loop invariant-loop decreases-loop) → length (rows_of l.before l.loop.s) ≡ l.before.args.m - l.loop.s
-size l = let a = l.before.args in length_order_at a.blocks a.row.now a.es.now a.b a.m l.loop.s
+size : (l : tie.At-loop-s invariant-loop decreases-loop) → length (rows_of l.before l.loop-s.s) ≡ l.args.m - l.loop-s.s
+size l = let a = l.args in length_order_at a.blocks a.row.now a.es.now a.b a.m l.loop-s.s
 
-order-rows-requires : tie.Need-order-rows-requires invariant-loop decreases-loop
+order-rows-requires : tie.Need-order_rows-next-requires invariant-loop decreases-loop
 order-rows-requires c κs =
-    let l = at-loop c.before.before.before in
-    let s = l.before in
-    let a = s.args in
-    let fits = joined_room (rows_of s) a.m l.loop.s (omega arith) in
-    let many = size l in
-    let put = flat_map (rows_of s) (below l.loop.s) in
-    (omega arith, s.pre.1, clear_behind a.rows.now l.loop.rows put a.at (a.blocks * block) l.loop.next s.pre.2 l.loop.inv.3 l.loop.inv.2)
+    let a = c.args in
+    let fits = joined_room (rows_of c.before.before.before.before.before.before) a.m c.loop-s.s (omega arith) in
+    let many = size c.before.before.before.before.before in
+    let put = flat_map (rows_of c.before.before.before.before.before.before) (below c.loop-s.s) in
+    (omega arith, c.requires.1, clear_behind a.rows.now c.loop-s.rows put a.at (a.blocks * block) c.loop-s.next c.requires.2 c.loop-s.invariant.3 c.loop-s.invariant.2)
 
 -- the rows of the orders by y that are left, of what is kept of the row
-abbrev rowsWith : tie.At-loop invariant-loop decreases-loop → List ℕ → List (List ℕ)
-rowsWith l part = let a = l.before.args in kept_order a.blocks part (get_or a.es.now 1 []) a.b (a.m - l.loop.s)
+abbrev rowsWith : tie.At-loop-s invariant-loop decreases-loop → List ℕ → List (List ℕ)
+rowsWith l part = let a = l.args in kept_order a.blocks part (get_or a.es.now 1 []) a.b (a.m - l.loop-s.s)
 
-loop-again : tie.Need-loop-preserved invariant-loop decreases-loop
+loop-again : tie.Need-loop-s-preserved invariant-loop decreases-loop
 loop-again c =
-    let o = c.before.order-rows in
-    let k = c.before.before.before.before.before in
-    let l = at-loop k in
-    let s = l.before in
-    let a = s.args in
-    let many = size l in
-    let more = count_more (rows_of s) a.rows.now a.at l.loop.s l.loop.next l.loop.inv.2 in
+    let o = c.order_rows-next in
+    let a = c.args in
+    let many = size c.before.before.before.before.before.before.before in
+    let more = count_more (rows_of c.before.before.before.before.before.before.before.before) a.rows.now a.at c.loop-s.s c.loop-s.next c.loop-s.invariant.2 in
     let next = o.ensures.0 in
-    let kept = kept_entry a.row.now (get_or a.es.now 0 []) l.loop.s l.loop.s in (
+    let kept = kept_entry a.row.now (get_or a.es.now 0 []) c.loop-s.s c.loop-s.s in (
       omega arith,
       search rules,
       omega arith,
-      joined_more (rows_of s) a.rows.now a.at l.loop.rows o.new.0 l.loop.s l.loop.next l.loop.inv.3 l.loop.inv.2
-          (o.ensures.1 ∙ ap (λ (part : List ℕ). sets l.loop.rows l.loop.next (rowsWith l part)) k.keep.ensures),
-      subst (ZeroFrom (a.blocks * block)) (sym k.keep.ensures) (filled_zeros kept (a.blocks * block) s.pre.1),
+      joined_more (rows_of c.before.before.before.before.before.before.before.before) a.rows.now a.at c.loop-s.rows o.new.0 c.loop-s.s c.loop-s.next c.loop-s.invariant.3 c.loop-s.invariant.2
+          (o.ensures.1 ∙ ap (λ (part : List ℕ). sets c.loop-s.rows c.loop-s.next (rowsWith c.before.before.before.before.before.before.before part)) c.keep.ensures),
+      subst (ZeroFrom (a.blocks * block)) (sym c.keep.ensures) (filled_zeros kept (a.blocks * block) c.requires.1),
     )
 
 -- The loop has ended at s = m, so the rows of all orders are put.
 returns : tie.Need-returns invariant-loop decreases-loop
 returns c =
-    let l = c.before in
-    let e : l.loop.s ≡ l.before.args.m = omega arith in
-    (rw e at l.loop.invariant.2, rw e at l.loop.invariant.3)
+    let e : c.loop-s.s ≡ c.args.m = omega arith in
+    (rw e at c.loop-s.invariant.2, rw e at c.loop-s.invariant.3)
 
-pub orders-rows-spec : {M : Type 1} → statement M
-orders-rows-spec =
+pub orders_rows_spec : {M : Type 1} → statement M
+orders_rows_spec =
     tie.close
     (tie.spec
     invariant-loop
     decreases-loop
     loop-holds
     (λ c. search rules)
-    (λ c κs. let l = c.before.before.before in (l.before.requires.1, l.loop.invariant.4))
+    (λ c κs. let l = c.before.before.before in (l.before.requires.1, l.loop-s.invariant.4))
     (λ c. search rules)
     (λ c. search rules)
     order-rows-requires

@@ -32,63 +32,54 @@ abbrev rows_of : tie.Start → List ℕ → List (List ℕ)
 rows_of s row = let a = s.args in kept_orders a.blocks row a.es.now a.b a.m
 
 -- The multiplicity is 0: the point has no order, so no row is put.
-returns : tie.Need-returns
+returns : tie.Need-returns-then-m-eq0
 returns c =
-    let s = c.before.before in
-    let a = s.args in
-    let none = orders_none a.blocks (valuesBy s (powersOf s)) a.es.now a.b a.m c.if1.true in
+    let a = c.args in
+    let none = orders_none a.blocks (valuesBy c.before.before (powersOf c.before.before)) a.es.now a.b a.m c.if-m-eq0.true in
     (omega (arith, ap length none), ap (sets a.rows.now a.at) (sym none))
 
 powers-requires : tie.Need-powers-requires
 powers-requires c κs =
-    let s = c.before.before.before.before in
-    let h = base_symbol (code_on s.args.alphabet) (field_on s.args.alphabet) s.args.b (omega arith) in
-    let e = c.before.base-at.ensures in
-    (s.requires.0, (omega arith, omega arith, zeros_from s.args.n))
+    let h = base_symbol (code_on c.args.alphabet) (field_on c.args.alphabet) c.args.b (omega arith) in
+    let e = c.base_at.ensures in
+    (c.requires.0, (omega arith, omega arith, zeros_from c.args.n))
 
 abbrev entry : tie.After-powers → tie.Start
 entry p = p.before.before.before.before.before
 
 -- The row is filled with the powers of y.
-of-y : (p : tie.After-powers) → p.powers.new.1.1.1.1.0 ≡ powersOf (entry p)
-of-y p = let a = (entry p).args in p.powers.ensures ∙ ap (powers_row (code_on a.alphabet) a.n) p.before.before.base-at.ensures
+of-y : (p : tie.After-powers) → p.powers.new.row ≡ powersOf p.before.before.before.before.before
+of-y p = let a = p.args in p.powers.ensures ∙ ap (powers_row (code_on a.alphabet) a.n) p.base_at.ensures
 
 values-requires : tie.Need-values-requires
 values-requires c κs =
-    let p = c.before.before in
-    let s = entry p in
-    let a = s.args in
+    let a = c.args in
     let C = code_on a.alphabet in
     let F = field_on a.alphabet in
     let y = powers_symbols C F a.n (base_at a.b) (base_symbol C F a.b (omega arith)) in
-    (s.pre.0, ((s.pre.1.0.0, subst (Symbols C) (sym (of-y p)) y), (s.pre.1.0.1, omega arith, zeros_from (a.blocks * block))))
-
-abbrev at-powers : tie.After-values → tie.After-powers
-at-powers v = v.before.before.before
+    (c.requires.0, ((c.requires.1.0.0, subst (Symbols C) (sym (of-y c.before.before)) y), (c.requires.1.0.1, omega arith, zeros_from (a.blocks * block))))
 
 -- The row is filled with the values at the point.
-at-point : (v : tie.After-values) → (let s = entry (at-powers v) in v.values.new.1.1.1.1.1.1.0 ≡ valuesBy s (powersOf s))
-at-point v = v.values.ensures ∙ ap (valuesBy (entry (at-powers v))) (of-y (at-powers v))
+at-point : (v : tie.After-values) → (let s = entry v.before.before.before in v.values.new.row ≡ valuesBy s (powersOf s))
+at-point v = v.values.ensures ∙ ap (valuesBy v.before.before.before.before.before.before.before.before) (of-y v.before.before.before)
 
-orders-rows-requires : tie.Need-orders-rows-requires
+orders-rows-requires : tie.Need-orders_rows-requires
 orders-rows-requires c κs =
-    let v = c.before.before in
-    let s = entry (at-powers v) in
+    let s = entry c.before.before.before.before.before in
     let a = s.args in
-    let room = s.pre.1.1.1 in
-    (subst (λ (row : List ℕ). a.at + length (rows_of s row) ≤ length a.rows.now) (sym (at-point v)) room.0, omega arith, room.1)
+    let room = s.requires.1.1.1 in
+    (subst (λ (row : List ℕ). a.at + length (rows_of s row) ≤ length a.rows.now) (sym (at-point c.before.before)) room.0, omega arith, room.1)
 
 -- The rows of the orders are put, of the row of values: they are the rows of the point.
-returns-2 : tie.Need-returns-2
+returns-2 : tie.Need-returns
 returns-2 c =
-    let o = c.before.orders-rows in
-    let v = c.before.before.before.before in
-    let s = entry (at-powers v) in
+    let o = c.orders_rows in
+    let s = entry c.before.before.before.before.before.before.before in
     let a = s.args in
-    (o.ensures.0 ∙ ap (λ (row : List ℕ). a.at + length (rows_of s row)) (at-point v), o.ensures.1 ∙ ap (λ (row : List ℕ). sets a.rows.now a.at (rows_of s row)) (at-point v))
+    (o.ensures.0 ∙ ap (λ (row : List ℕ). a.at + length (rows_of s row)) (at-point c.before.before.before.before), o.ensures.1 ∙ ap (λ (row : List ℕ). sets a.rows.now a.at (rows_of s row)) (at-point c.before.before.before.before))
 
-pub point-rows-spec : {M : Type 1} → statement M
-point-rows-spec =
+pub point_rows_spec : {M : Type 1} → statement M
+point_rows_spec =
     tie.close
     (tie.spec
     returns

@@ -11,28 +11,21 @@ use Rattle.rows.specs.Rows.{same}
 use Rattle.counter.proofs.apart.Statement.{statement}
 use Rattle.counter.proofs.apart.Tie as tie
 
-abbrev at-first-test : tie.Else2 → tie.Else1
-at-first-test c = c.before
-
-abbrev entry : tie.Else2 → tie.Start
-entry c = (at-first-test c).before.before.before.before.before
-
 -- The first list has no rows, so the page's first test fails.
-returns : tie.Need-returns
-returns c = rw (eq-eqb _ _ c.if1.true)
+returns : tie.Need-returns-then-scores-eq0
+returns c = rw (eq-eqb _ _ c.if-scores-eq0.true)
 
 -- The first list has rows and the second has none, so the page's second test fails.
-returns-2 : tie.Need-returns-2
-returns-2 c = rw (ne_eqb _ _ c.before.if1.false, eq-eqb _ _ c.if2.true)
+returns-2 : tie.Need-returns-then-other_scores-eq0
+returns-2 c = rw (ne_eqb _ _ c.if-scores-eq0.false, eq-eqb _ _ c.if-other_scores-eq0.true)
 
 -- Both lists have rows: the first row of each is there.
-first_fits : (c : tie.Else2)
-    → (let a = (entry c).args in (a.k * 0 + a.k ≤ length a.rows.now) × (a.k * 0 + a.k ≤ length a.others.now))
+first_fits : (c : tie.Else-other_scores-eq0)
+    → (let a = c.args in (a.k * 0 + a.k ≤ length a.rows.now) × (a.k * 0 + a.k ≤ length a.others.now))
 first_fits c =
-    let s = entry c in
-    let a = s.args in (
-      row_fits a.k (length a.scores.now) 0 (length a.rows.now) s.pre.0 (omega arith),
-      row_fits a.k (length a.other-scores.now) 0 (length a.others.now) s.pre.1 (omega arith),
+    let a = c.args in (
+      row_fits a.k (length a.scores.now) 0 (length a.rows.now) c.requires.0 (omega arith),
+      row_fits a.k (length a.other-scores.now) 0 (length a.others.now) c.requires.1 (omega arith),
     )
 
 row-requires : tie.Need-row-requires
@@ -44,22 +37,17 @@ row-requires-2 c κs = (first_fits c.before).1
 -- Both rows have k symbols, so `same` may compare them.
 same-requires : tie.Need-same-requires
 same-requires c κs =
-    let at_row = c.before in
-    let past-tests = at_row.before in
-    let a = (entry past-tests).args in
-    let fits = first_fits past-tests in
-    ap length at_row.row.ensures.0 ∙ row_length a.k a.rows.now 0 fits.0
-    ∙ sym (ap length c.row2.ensures.0 ∙ row_length a.k a.others.now 0 fits.1)
+    let a = c.args in
+    let fits = first_fits c.before.before in
+    ap length c.row.ensures.0 ∙ row_length a.k a.rows.now 0 fits.0
+    ∙ sym (ap length c.row-2.ensures.0 ∙ row_length a.k a.others.now 0 fits.1)
 
 -- Both lists have rows: they are apart where their first rows are not the same, as `same` tells.
-returns-3 : tie.Need-returns-3
+returns-3 : tie.Need-returns
 returns-3 c =
-    let at-row2 = c.before in
-    let at_row = at-row2.before in
-    let past-tests = at_row.before in
-    rw (ne_eqb _ _ (at-first-test past-tests).if1.false, ne_eqb _ _ past-tests.if2.false)
-    (ap not (c.same.ensures ∙ ap₂ same at_row.row.ensures.0 at-row2.row2.ensures.0))
+    rw (ne_eqb _ _ c.if-scores-eq0.false, ne_eqb _ _ c.if-other_scores-eq0.false)
+    (ap not (c.same.ensures ∙ ap₂ same c.row.ensures.0 c.row-2.ensures.0))
 
-pub apart-spec : {M : Type 1} → statement M
-apart-spec =
+pub apart_spec : {M : Type 1} → statement M
+apart_spec =
     tie.close (tie.spec returns returns-2 row-requires row-requires-2 same-requires returns-3)

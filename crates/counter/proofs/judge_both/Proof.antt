@@ -18,44 +18,27 @@ use Rattle.rows.specs.Rows.{list_line}
 use Rattle.counter.proofs.judge_both.Statement.{statement}
 use Rattle.counter.proofs.judge_both.Tie as tie
 
-abbrev at-levels : tie.After-or2 → tie.After-level
-at-levels c = c.before.before.before.before
-
-abbrev entry : tie.After-or2 → tie.Start
-entry c =
-    let at-sizes = (at-levels c).before.before in
-    at-sizes.before.before.before.before.before
-
--- where the lists' checks begin
-abbrev at-settled : tie.After-symbols-of-after → tie.After-or2
-at-settled c = c.before.before.before.before
-
--- The first six checks try the six lines before the lists.
-settled : (c : tie.After-or2) → (let a = (entry c).args in Came (settled_table (code_on a.alphabet) a.first a.second a.lead) [] (told_checked c.or2.result))
+-- The c.before.before.before.before six checks try the six lines before the lists.
+settled : (c : tie.After-or-settled) → (let a = c.args in Came (settled_table (code_on a.alphabet) a.first a.second a.lead) [] (told_checked c.or-settled.result))
 settled c =
-    let same = c.before in
-    let lead = same.before in
-    let second = lead.before in
-    let first = at-levels c in
-    let too = first.before in
-    start ▸ too.before.sizes.ensures ▸ too.sizes-too.ensures ▸ first.level.ensures ▸ second.level2.ensures ▸ lead.or.ensures
-    ▸ (c.or2.ensures ∙ ap (λ (b : Bool). or_line (told_checked lead.or.result) (line 2 (not b))) same.same-settings.ensures)
+    start ▸ c.sizes.ensures ▸ c.sizes_too.ensures ▸ c.level.ensures ▸ c.level-2.ensures ▸ c.or.ensures
+    ▸ (c.or-settled.ensures ∙ ap (λ (b : Bool). or_line (told_checked c.or.result) (line 2 (not b))) c.same_settings.ensures)
 
-list-checked-requires : tie.Need-list-checked-requires
+list-checked-requires : tie.Need-list_checked-one-requires
 list-checked-requires c κs passed =
-    let a = (entry c).args in
+    let a = c.args in
     first_sized (code_on a.alphabet) a.first a.second a.lead (accepted (settled c) passed)
 
-list-checked-requires-2 : tie.Need-list-checked-requires-2
+list-checked-requires-2 : tie.Need-list_checked-requires
 list-checked-requires-2 c κs passed =
-    let a = (entry c.before).args in
+    let a = c.args in
     let C = code_on a.alphabet in
     let line = list_line a.first.k a.rows.now a.scores.now in
-    let through = accepted (further (line ∷ []) (settled c.before) ▸ c.list-checked.ensures) passed in
+    let through = accepted (further (line ∷ []) (settled c.before) ▸ c.list_checked-one.ensures) passed in
     second_sized C a.first a.second a.lead (accepts_front (settled_table C a.first a.second a.lead) (line ∷ []) through)
 
-symbols-of-after-requires : tie.Need-symbols-of-after-requires
-symbols-of-after-requires c κs = let g = (entry c.before.before.before).well-formed in omega arith
+symbols-of-after-requires : tie.Need-symbols_of_after-checked-requires
+symbols-of-after-requires c κs = let g = c.well_formed in omega arith
 
 -- the table's lines about the lists
 abbrev lists : tie.Start → List Line
@@ -66,43 +49,37 @@ lists s =
     ∷ symbols C a.rows.now ∷ runs_on (length a.rows.now) (symbols C a.others.now) ∷ []
 
 -- All ten checks try the ten lines of the table.
-came : (c : tie.After-symbols-of-after)
-    → (let a = (entry (at-settled c)).args in
+came : (c : tie.After-symbols_of_after-checked)
+    → (let a = c.args in
     Came (both_table (code_on a.alphabet) a.first a.rows.now a.scores.now a.second a.others.now a.other-scores.now a.lead) []
-    (told_checked c.symbols-of-after.result))
+    (told_checked c.symbols_of_after-checked.result))
 came c =
-    let symbols-of-first = c.before in
-    let second = symbols-of-first.before in
-    let first = second.before in
-    further (lists (entry (at-settled c))) (settled (at-settled c))
-    ▸ first.list-checked.ensures ▸ second.list-checked2.ensures ▸ symbols-of-first.symbols-of.ensures ▸ c.symbols-of-after.ensures
+    further (lists c.before.before.before.before.before.before.before.before.before.before.before.before.before.before.before) (settled c.before.before.before.before)
+    ▸ c.list_checked-one.ensures ▸ c.list_checked.ensures ▸ c.symbols_of.ensures ▸ c.symbols_of_after-checked.ensures
 
 -- The chain ended in a refusal: it is the refusal of the table's first line that fails.
-returns : tie.Need-returns
-returns c = answers (came c.before.before.before) [] _ c.before.checked.given.1
+returns : tie.Need-returns-in-Refused
+returns c = answers (came c.before) [] _ c.in-Refused.is
 
 -- A call that passed all checks has k symbols for each score in both lists.
-both-judged-requires : tie.Need-both-judged-requires
+both-judged-requires : tie.Need-both_judged-requires
 both-judged-requires c κs =
-    let at-symbols = c.before.before in
-    let a = (entry (at-settled at-symbols)).args in
-    let through = accepted (came at-symbols) c.enum_told.given.1 in
+    let a = c.args in
+    let through = accepted (came c.before) c.in_default.is in
     let full = both_full (code_on a.alphabet) a.first a.second a.rows.now a.scores.now a.others.now a.other-scores.now a.lead through in
     (omega arith, omega arith)
 
 -- The chain let the call pass, so no line of the table fails, and the answer is the verdict on both
 -- lists.
-returns-2 : tie.Need-returns-2
+returns-2 : tie.Need-returns
 returns-2 c =
-    let passed = c.before in
-    let at-symbols = passed.before.before in
-    let a = (entry (at-settled at-symbols)).args in
-    c.both-judged.ensures
-    ∙ goes_on (came at-symbols) [] refused
-    (valued (both_judged a.first.k a.lead a.rows.now a.scores.now a.others.now a.other-scores.now)) passed.enum_told.given.1
+    let a = c.args in
+    c.both_judged.ensures
+    ∙ goes_on (came c.before.before) [] refused
+    (valued (both_judged a.first.k a.lead a.rows.now a.scores.now a.others.now a.other-scores.now)) c.in_default.is
 
-pub judge-both-spec : {M : Type 1} → statement M
-judge-both-spec =
+pub judge_both_spec : {M : Type 1} → statement M
+judge_both_spec =
     tie.close
     (tie.spec
     (λ c κs. search rules)

@@ -9,34 +9,30 @@ use Rattle.crossing.proofs.costed.Tie as tie
 use Rattle.crossing.specs.Crossing.{Narrow}
 
 -- the cost and the bound of the case fit
-fits : (c : tie.After-c) → Narrow (costed c.c.given.0.0 c.c.given.0.1.0)
-fits c = rw c.c.given.1 at c.before.before.requires
+fits : (c : tie.In-Of-2) → Narrow (costed c.in-Of.cost c.in-Of.bound)
+fits c = rw c.in-Of.is at c.requires
 
 narrow-requires : tie.Need-narrow-requires
-narrow-requires c κs = (fits c.before).cost
+narrow-requires c κs = (fits c).cost
 
-narrow-requires-2 : tie.Need-narrow-requires-2
-narrow-requires-2 c κs = (fits c.before.before).bound
+narrow-requires-2 : tie.Need-narrow-requires-in-Of
+narrow-requires-2 c κs = (fits c.before).bound
 
 refused-requires : tie.Need-refused-requires
 refused-requires c κs =
-    let at-case = c.before in
-    rw at-case.c2.given.1 at at-case.before.before.requires
+    rw c.in-Refused.is at c.requires
 
--- A cost and its bound: both cross as they are, in their own fields.
-returns : tie.Need-returns
+-- A c.before.before and its c.before: both cross as they are, in their own fields.
+returns : tie.Need-returns-in-Of
 returns c =
-    let bound = c.before in
-    let cost = bound.before in
-    let at-case = cost.before.before in
-    c.accepted.ensures ∙ ap₂ costed cost.narrow.ensures bound.narrow2.ensures ∙ sym (ap told_costed at-case.c.given.1)
+    c.accepted.ensures ∙ ap₂ costed c.narrow.ensures c.narrow-in-Of.ensures ∙ sym (ap told_costed c.in-Of.is)
 
 -- A refusal: its number and place cross as they are.
-returns-2 : tie.Need-returns-2
-returns-2 c = let at-case = c.before.before in c.refused.ensures ∙ sym (ap told_costed at-case.c2.given.1)
+returns-2 : tie.Need-returns-in-Refused
+returns-2 c = c.refused.ensures ∙ sym (ap told_costed c.in-Refused.is)
 
-pub costed-spec : {M : Type 1} → statement M
-costed-spec =
+pub costed_spec : {M : Type 1} → statement M
+costed_spec =
     tie.close
     (tie.spec
     (λ c. search rules)

@@ -9,24 +9,20 @@ use Rattle.crossing.proofs.counted.Tie as tie
 
 narrow-requires : tie.Need-narrow-requires
 narrow-requires c κs =
-    let at-case = c.before in
-    (rw at-case.c.given.1 at at-case.before.before.requires).count
+    (rw c.in-Count.is at c.requires).count
 
 refused-requires : tie.Need-refused-requires
 refused-requires c κs =
-    let at-case = c.before in
-    rw at-case.c2.given.1 at at-case.before.before.requires
+    rw c.in-Refused.is at c.requires
 
--- A count: it crosses as it is, in its own field.
-returns : tie.Need-returns
+-- A c.before: it crosses as it is, in its own field.
+returns : tie.Need-returns-in-Count
 returns c =
-    let count = c.before in
-    let at-case = count.before.before in
-    c.accepted.ensures ∙ ap counted count.narrow.ensures ∙ sym (ap told_counted at-case.c.given.1)
+    c.accepted.ensures ∙ ap counted c.narrow.ensures ∙ sym (ap told_counted c.in-Count.is)
 
 -- A refusal: its number and place cross as they are.
-returns-2 : tie.Need-returns-2
-returns-2 c = let at-case = c.before.before in c.refused.ensures ∙ sym (ap told_counted at-case.c2.given.1)
+returns-2 : tie.Need-returns-in-Refused
+returns-2 c = c.refused.ensures ∙ sym (ap told_counted c.in-Refused.is)
 
 pub counted_spec : {M : Type 1} → statement M
 counted_spec =

@@ -8,19 +8,18 @@ use Rattle.crossing.proofs.element.Tie as tie
 
 refused-requires : tie.Need-refused-requires
 refused-requires c κs =
-    let at-case = c.before in
-    rw at-case.e2.given.1 at at-case.before.before.requires
+    rw c.in-Refused.is at c.requires
 
 -- A symbol: it crosses as it is, as the value.
-returns : tie.Need-returns
-returns c = let at-case = c.before.before in c.accepted.ensures ∙ sym (ap told_element at-case.e.given.1)
+returns : tie.Need-returns-in-Of
+returns c = c.accepted.ensures ∙ sym (ap told_element c.in-Of.is)
 
 -- A refusal: its number and place cross as they are.
-returns-2 : tie.Need-returns-2
-returns-2 c = let at-case = c.before.before in c.refused.ensures ∙ sym (ap told_element at-case.e2.given.1)
+returns-2 : tie.Need-returns-in-Refused
+returns-2 c = c.refused.ensures ∙ sym (ap told_element c.in-Refused.is)
 
-pub element-spec : {M : Type 1} → statement M
-element-spec =
+pub element_spec : {M : Type 1} → statement M
+element_spec =
     tie.close
     (tie.spec
     (λ c. search rules)

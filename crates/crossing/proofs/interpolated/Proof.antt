@@ -9,34 +9,30 @@ use Rattle.crossing.proofs.interpolated.Tie as tie
 use Rattle.crossing.specs.Crossing.{Narrow}
 
 -- the bound and the count of the case fit
-fits : (c : tie.After-i) → Narrow (interpolated c.i.given.0.0 c.i.given.0.1.0)
-fits c = rw c.i.given.1 at c.before.before.requires
+fits : (c : tie.In-Of-2) → Narrow (interpolated c.in-Of.bound c.in-Of.count)
+fits c = rw c.in-Of.is at c.requires
 
 narrow-requires : tie.Need-narrow-requires
-narrow-requires c κs = (fits c.before).count
+narrow-requires c κs = (fits c).count
 
-narrow-requires-2 : tie.Need-narrow-requires-2
-narrow-requires-2 c κs = (fits c.before.before).bound
+narrow-requires-2 : tie.Need-narrow-requires-in-Of
+narrow-requires-2 c κs = (fits c.before).bound
 
 refused-requires : tie.Need-refused-requires
 refused-requires c κs =
-    let at-case = c.before in
-    rw at-case.i2.given.1 at at-case.before.before.requires
+    rw c.in-Refused.is at c.requires
 
--- A polynomial was written: its bound and the count of its coefficients cross as they are.
-returns : tie.Need-returns
+-- A polynomial was written: its c.before and the c.before.before of its coefficients cross as they are.
+returns : tie.Need-returns-in-Of
 returns c =
-    let bound = c.before in
-    let count = bound.before in
-    let at-case = count.before.before in
-    c.accepted.ensures ∙ ap₂ interpolated bound.narrow2.ensures count.narrow.ensures ∙ sym (ap told_interpolated at-case.i.given.1)
+    c.accepted.ensures ∙ ap₂ interpolated c.narrow-in-Of.ensures c.narrow.ensures ∙ sym (ap told_interpolated c.in-Of.is)
 
 -- A refusal: its number and place cross as they are.
-returns-2 : tie.Need-returns-2
-returns-2 c = let at-case = c.before.before in c.refused.ensures ∙ sym (ap told_interpolated at-case.i2.given.1)
+returns-2 : tie.Need-returns-in-Refused
+returns-2 c = c.refused.ensures ∙ sym (ap told_interpolated c.in-Refused.is)
 
-pub interpolated-spec : {M : Type 1} → statement M
-interpolated-spec =
+pub interpolated_spec : {M : Type 1} → statement M
+interpolated_spec =
     tie.close
     (tie.spec
     (λ c. search rules)

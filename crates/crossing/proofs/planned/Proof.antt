@@ -9,34 +9,30 @@ use Rattle.crossing.proofs.planned.Tie as tie
 use Rattle.crossing.specs.Crossing.{Narrow}
 
 -- the count and the steps of the case fit
-fits : (c : tie.After-p) → Narrow (planned c.p.given.0.0 c.p.given.0.1.0)
-fits c = rw c.p.given.1 at c.before.before.requires
+fits : (c : tie.In-Of-2) → Narrow (planned c.in-Of.count c.in-Of.steps)
+fits c = rw c.in-Of.is at c.requires
 
 narrow-requires : tie.Need-narrow-requires
-narrow-requires c κs = (fits c.before).count
+narrow-requires c κs = (fits c).count
 
-narrow-requires-2 : tie.Need-narrow-requires-2
-narrow-requires-2 c κs = (fits c.before.before).value
+narrow-requires-2 : tie.Need-narrow-requires-in-Of
+narrow-requires-2 c κs = (fits c.before).value
 
 refused-requires : tie.Need-refused-requires
 refused-requires c κs =
-    let at-case = c.before in
-    rw at-case.p2.given.1 at at-case.before.before.requires
+    rw c.in-Refused.is at c.requires
 
--- A plan was made or accepted: the count of its bytes and its steps, as the value, cross as they
+-- A plan was made or accepted: the c.before.before of its bytes and its steps, as the c.before, cross as they
 -- are.
-returns : tie.Need-returns
+returns : tie.Need-returns-in-Of
 returns c =
-    let value = c.before in
-    let count = value.before in
-    let at-case = count.before.before in
-    c.accepted.ensures ∙ ap₂ planned count.narrow.ensures value.narrow2.ensures ∙ sym (ap told_planned at-case.p.given.1)
+    c.accepted.ensures ∙ ap₂ planned c.narrow.ensures c.narrow-in-Of.ensures ∙ sym (ap told_planned c.in-Of.is)
 
 -- A refusal: its number and place cross as they are.
-returns-2 : tie.Need-returns-2
-returns-2 c = let at-case = c.before.before in c.refused.ensures ∙ sym (ap told_planned at-case.p2.given.1)
+returns-2 : tie.Need-returns-in-Refused
+returns-2 c = c.refused.ensures ∙ sym (ap told_planned c.in-Refused.is)
 
-pub planned-spec : {M : Type 1} → statement M
-planned-spec =
+pub planned_spec : {M : Type 1} → statement M
+planned_spec =
     tie.close
     (tie.spec (λ c. search rules) narrow-requires narrow-requires-2 (λ c κs. search rules) (λ c. search rules) refused-requires returns returns-2)

@@ -10,25 +10,21 @@ use Rattle.crossing.proofs.priced.Tie as tie
 
 narrow-requires : tie.Need-narrow-requires
 narrow-requires c κs =
-    let at-case = c.before in
-    (rw at-case.p.given.1 at at-case.before.before.requires).cost
+    (rw c.in-Cost.is at c.requires).cost
 
 refused-requires : tie.Need-refused-requires
 refused-requires c κs =
-    let at-case = c.before in
-    rw at-case.p2.given.1 at at-case.before.before.requires
+    rw c.in-Refused.is at c.requires
 
--- The cost that the record then holds: it crosses as it is, with the bound 0.
-returns : tie.Need-returns
+-- The c.before that the record then holds: it crosses as it is, with the bound 0.
+returns : tie.Need-returns-in-Cost
 returns c =
-    let cost = c.before in
-    let at-case = cost.before.before in
-    c.accepted.ensures ∙ ap (λ (x : ℕ). costed x 0) cost.narrow.ensures ∙ sym (ap told_priced at-case.p.given.1)
+    c.accepted.ensures ∙ ap (λ (x : ℕ). costed x 0) c.narrow.ensures ∙ sym (ap told_priced c.in-Cost.is)
 
 -- A refusal: its number and place cross as they are.
-returns-2 : tie.Need-returns-2
-returns-2 c = let at-case = c.before.before in c.refused.ensures ∙ sym (ap told_priced at-case.p2.given.1)
+returns-2 : tie.Need-returns-in-Refused
+returns-2 c = c.refused.ensures ∙ sym (ap told_priced c.in-Refused.is)
 
-pub priced-spec : {M : Type 1} → statement M
-priced-spec =
+pub priced_spec : {M : Type 1} → statement M
+priced_spec =
     tie.close (tie.spec (λ c. search rules) narrow-requires (λ c κs. search rules) (λ c. search rules) refused-requires returns returns-2)

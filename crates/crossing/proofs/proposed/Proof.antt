@@ -7,23 +7,22 @@ use Rattle.crossing.proofs.proposed.Tie as tie
 
 refused-requires : tie.Need-refused-requires
 refused-requires c κs =
-    let at-case = c.before in
-    rw at-case.p.given.1 at at-case.before.before.requires
+    rw c.in-Refused.is at c.requires
 
 -- A yes crosses as 1.
-returns : tie.Need-returns
-returns c = let t = c.before in c.accepted.ensures ∙ sym (ap told_proposed t.enum_told.given.1)
+returns : tie.Need-returns-in-Yes
+returns c = c.accepted.ensures ∙ sym (ap told_proposed c.in-Yes.is)
 
 -- A no crosses as 0.
-returns-2 : tie.Need-returns-2
-returns-2 c = let t = c.before in c.accepted2.ensures ∙ sym (ap told_proposed t.enum-told2.given.1)
+returns-2 : tie.Need-returns-in-No
+returns-2 c = c.accepted-in-No.ensures ∙ sym (ap told_proposed c.in-No.is)
 
 -- A refusal: its number and place cross as they are.
-returns-3 : tie.Need-returns-3
-returns-3 c = let at-case = c.before.before in c.refused.ensures ∙ sym (ap told_proposed at-case.p.given.1)
+returns-3 : tie.Need-returns-in-Refused
+returns-3 c = c.refused.ensures ∙ sym (ap told_proposed c.in-Refused.is)
 
-pub proposed-spec : {M : Type 1} → statement M
-proposed-spec =
+pub proposed_spec : {M : Type 1} → statement M
+proposed_spec =
     tie.close
     (tie.spec
     (λ c. search rules)

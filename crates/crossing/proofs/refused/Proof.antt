@@ -7,18 +7,15 @@ use borrow.Author.Rules.{rules}
 use Rattle.crossing.proofs.refused.Statement.{statement}
 use Rattle.crossing.proofs.refused.Tie as tie
 
--- The only end: number and place went through `narrow`, which keeps what fits, and so they are
+-- The only end: c.before.before.before and c.before went through `narrow`, which keeps what fits, and so they are
 -- those that the refusal tells.
 returns : tie.Need-returns
 returns c =
-    let place = c.before in
-    let narrowed = place.before in
-    let number = narrowed.before in
-    ap₂ refused (narrowed.narrow.ensures ∙ number.number.ensures.0) (c.narrow2.ensures ∙ place.place.ensures)
-    ∙ sym (told_is number.before.args.r)
+    ap₂ refused (c.narrow.ensures ∙ c.number.ensures.0) (c.narrow-2.ensures ∙ c.place.ensures)
+    ∙ sym (told_is c.args.r)
 
-pub refused-spec : {M : Type 1} → statement M
-refused-spec =
+pub refused_spec : {M : Type 1} → statement M
+refused_spec =
     tie.close
     (tie.spec
     (λ c κs. search rules)

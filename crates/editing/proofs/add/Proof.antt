@@ -10,18 +10,14 @@ use Rattle.matrix.specs.Record.{held_by}
 use Rattle.editing.proofs.add.Statement.{statement}
 use Rattle.editing.proofs.add.Tie as tie
 
-abbrev entry : tie.After-add → tie.Start
-entry c = let taken_apart = c.before.before.before.before.before in taken_apart.before.before.before.before
-
 -- The only end: what `recorded` puts together of the outcome and the parts is the promised record.
 returns : tie.Need-returns
 returns c =
-    let edit = c.before.before.before in
-    let a = (entry edit).args in
+    let a = c.args in
     let m = held_by a.first in
     let o = held_by a.second in
     let sum = held_of sixteen m.n (with_added m.entries o.entries) in
-    record_promised m sum edit.add.result _ _ (add_table sixteen m o) refl c.recorded.ensures edit.add.ensures
+    record_promised m sum c.add-outcome.result _ _ (add_table sixteen m o) refl c.recorded.ensures c.add-outcome.ensures
 
 pub add_spec : {M : Type 1} → statement M
 add_spec = tie.close (tie.spec (λ c. search rules) (λ c. search rules) (λ c. search rules) (λ c. search rules) (λ c κs. search rules) (λ c κs. search rules) returns)

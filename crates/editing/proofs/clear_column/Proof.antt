@@ -10,18 +10,14 @@ use Rattle.matrix.specs.Record.{held_by}
 use Rattle.editing.proofs.clear_column.Statement.{statement}
 use Rattle.editing.proofs.clear_column.Tie as tie
 
-abbrev entry : tie.After-clear-column → tie.Start
-entry c = c.before.before.before.before.before
-
 -- The only end: what `recorded` puts together of the outcome and the parts is the promised record.
 returns : tie.Need-returns
 returns c =
-    let edit = c.before.before.before in
-    let a = (entry edit).args in
+    let a = c.args in
     let m = held_by a.m in
     let cleared = held_of sixteen m.n (without_column sixteen m.entries a.position) in
     let table = clear_table sixteen m a.position in
-    record_promised m cleared edit.clear_column.result _ _ table refl c.recorded.ensures edit.clear_column.ensures
+    record_promised m cleared c.clear_column-outcome.result _ _ table refl c.recorded.ensures c.clear_column-outcome.ensures
 
-pub clear-column-spec : {M : Type 1} → statement M
-clear-column-spec = tie.close (tie.spec (λ c. search rules) (λ c. search rules) (λ c κs. search rules) (λ c κs. search rules) returns)
+pub clear_column_spec : {M : Type 1} → statement M
+clear_column_spec = tie.close (tie.spec (λ c. search rules) (λ c. search rules) (λ c κs. search rules) (λ c κs. search rules) returns)

@@ -9,17 +9,13 @@ use Rattle.editing.proofs.After.{made_promised}
 use Rattle.editing.proofs.fresh.Statement.{statement}
 use Rattle.editing.proofs.fresh.Tie as tie
 
-abbrev entry : tie.After-fresh → tie.Start
-entry c = c.before.before.before
-
 -- The only end: what `recorded` puts together is the fresh record, or the all-zero one.
 returns : tie.Need-returns
 returns c =
-    let edit = c.before.before.before in
-    let a = (entry edit).args in
+    let a = c.args in
     let n = a.n in
     let none = held_of sixteen n (no_entries sixteen) in
-    made_promised sixteen n none refl edit.fresh.result _ _ (fresh_table sixteen n) refl _ refl c.recorded.ensures edit.fresh.ensures
+    made_promised sixteen n none refl c.fresh-outcome.result _ _ (fresh_table sixteen n) refl _ refl c.recorded.ensures c.fresh-outcome.ensures
 
-pub fresh-spec : {M : Type 1} → statement M
-fresh-spec = tie.close (tie.spec (λ c. search rules) (λ c. search rules) (λ c κs. search rules) (λ c κs. search rules) returns)
+pub fresh_spec : {M : Type 1} → statement M
+fresh_spec = tie.close (tie.spec (λ c. search rules) (λ c. search rules) (λ c κs. search rules) (λ c κs. search rules) returns)

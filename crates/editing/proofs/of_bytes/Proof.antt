@@ -9,18 +9,14 @@ use Rattle.editing.proofs.After.{made_promised}
 use Rattle.editing.proofs.of_bytes.Statement.{statement}
 use Rattle.editing.proofs.of_bytes.Tie as tie
 
-abbrev entry : tie.After-of-bytes → tie.Start
-entry c = c.before.before.before.before
-
 -- The only end: what `recorded` puts together is the record of the bytes, or the all-zero one.
 returns : tie.Need-returns
 returns c =
-    let edit = c.before.before.before in
-    let a = (entry edit).args in
+    let a = c.args in
     let n = a.n in
     let bytes = a.bytes.now in
     let laid = held_of sixteen n (filled sixteen bytes) in
-    made_promised sixteen n laid refl edit.of_bytes.result _ _ (bytes_table sixteen n bytes) refl _ refl c.recorded.ensures edit.of_bytes.ensures
+    made_promised sixteen n laid refl c.of_bytes-outcome.result _ _ (bytes_table sixteen n bytes) refl _ refl c.recorded.ensures c.of_bytes-outcome.ensures
 
-pub of-bytes-spec : {M : Type 1} → statement M
-of-bytes-spec = tie.close (tie.spec (λ c. search rules) (λ c. search rules) (λ c κs. search rules) (λ c κs. search rules) returns)
+pub of_bytes_spec : {M : Type 1} → statement M
+of_bytes_spec = tie.close (tie.spec (λ c. search rules) (λ c. search rules) (λ c κs. search rules) (λ c κs. search rules) returns)

@@ -12,18 +12,16 @@ abbrev after : tie.Start → Priced → Held
 after s o = let a = s.args in record_after o a.old-n a.old-cost a.n a.totals a.entries
 
 -- A cost: the record has the new n, and the cost that is answered.
-returns : tie.Need-returns
+returns : tie.Need-returns-in-Cost
 returns c =
-    let at-case = c.before in
-    let is-cost = at-case.outcome.given.1 in
-    (sym is-cost, sym (ap (after at-case.before.before) is-cost))
+    let is-cost = c.in-Cost.is in
+    (sym is-cost, sym (ap (after c.before) is-cost))
 
 -- A refusal: the record has the n and the cost that it had.
-returns-2 : tie.Need-returns-2
+returns-2 : tie.Need-returns-in-Refused
 returns-2 c =
-    let at-case = c.before in
-    let is-refused = at-case.outcome2.given.1 in
-    (sym is-refused, sym (ap (after at-case.before.before) is-refused))
+    let is-refused = c.in-Refused.is in
+    (sym is-refused, sym (ap (after c.before) is-refused))
 
-pub recorded-spec : {M : Type 1} → statement M
-recorded-spec = tie.close (tie.spec (λ c. search rules) (λ c. search rules) returns returns-2)
+pub recorded_spec : {M : Type 1} → statement M
+recorded_spec = tie.close (tie.spec (λ c. search rules) (λ c. search rules) returns returns-2)

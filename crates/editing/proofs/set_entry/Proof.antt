@@ -10,18 +10,17 @@ use Rattle.matrix.specs.Record.{held_by}
 use Rattle.editing.proofs.set_entry.Statement.{statement}
 use Rattle.editing.proofs.set_entry.Tie as tie
 
-abbrev entry : tie.After-set-entry → tie.Start
+abbrev entry : tie.After-set_entry-outcome → tie.Start
 entry c = c.before.before.before.before.before
 
 -- The only end: what `recorded` puts together of the outcome and the parts is the promised record.
 returns : tie.Need-returns
 returns c =
-    let edit = c.before.before.before in
-    let a = (entry edit).args in
+    let a = c.args in
     let m = held_by a.m in
     let set = held_of sixteen m.n (with_entry sixteen m.entries a.position a.symbol a.entry) in
     let table = set_table sixteen m a.position a.symbol a.entry in
-    record_promised m set edit.set_entry.result _ _ table refl c.recorded.ensures edit.set_entry.ensures
+    record_promised m set c.set_entry-outcome.result _ _ table refl c.recorded.ensures c.set_entry-outcome.ensures
 
-pub set-entry-spec : {M : Type 1} → statement M
-set-entry-spec = tie.close (tie.spec (λ c. search rules) (λ c. search rules) (λ c κs. search rules) (λ c κs. search rules) returns)
+pub set_entry_spec : {M : Type 1} → statement M
+set_entry_spec = tie.close (tie.spec (λ c. search rules) (λ c. search rules) (λ c κs. search rules) (λ c κs. search rules) returns)

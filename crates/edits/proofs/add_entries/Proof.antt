@@ -11,52 +11,48 @@ use Rattle.edits.proofs.add_entries.Statement.{statement}
 use Rattle.edits.proofs.add_entries.Tie as tie
 
 -- The first j entries are the sums, and behind them the entries are as they were.
-abbrev invariant-loop : tie.invariant-loop
+abbrev invariant-loop : tie.invariant-loop-j
 invariant-loop entries₀ others j₀ entries j =
     (j ≤ length entries₀) × (length entries ≡ length entries₀) × (entries ≡ map (λ (t : ℕ). get_or entries₀ t 0 + get_or others t 0) (below j) ++ drop j entries₀)
 
-abbrev decreases-loop : tie.decreases-loop
+abbrev decreases-loop : tie.decreases-loop-j
 decreases-loop entries₀ others j₀ entries j = length entries₀ - j
 
 -- the sum at each place
 abbrev summed : tie.Start invariant-loop decreases-loop → ℕ → ℕ
 summed s = λ (t : ℕ). get_or s.args.entries.now t 0 + get_or s.args.others.now t 0
 
-loop-holds : tie.Need-loop-init invariant-loop decreases-loop
+loop-holds : tie.Need-loop-j-init invariant-loop decreases-loop
 loop-holds c = (omega arith, refl, map_none (summed c) c.args.entries.now)
 
 -- the entry at j is the old one
-untouched : (l : tie.At-loop invariant-loop decreases-loop) → get_or l.loop.entries l.loop.j 0 ≡ get_or l.before.args.entries.now l.loop.j 0
-untouched l = place_untouched (summed l.before) l.before.args.entries.now l.loop.entries l.loop.j l.loop.invariant.2
+untouched : (l : tie.At-loop-j invariant-loop decreases-loop) → get_or l.loop-j.entries l.loop-j.j 0 ≡ get_or l.args.entries.now l.loop-j.j 0
+untouched l = place_untouched (summed l.before) l.args.entries.now l.loop-j.entries l.loop-j.j l.loop-j.invariant.2
 
-add-entries : tie.Need-overflow-add-entries invariant-loop decreases-loop
+add-entries : tie.Need-overflow_add-entries invariant-loop decreases-loop
 add-entries c =
-    let l = c.before.before.before in
-    let same = untouched l in
-    let low = l.before.requires.1 l.loop.j (omega arith) in
+    let same = untouched c.before.before.before in
+    let low = c.requires.1 c.loop-j.j (omega arith) in
     omega arith
 
-loop-again : tie.Need-loop-preserved invariant-loop decreases-loop
+loop-again : tie.Need-loop-j-preserved invariant-loop decreases-loop
 loop-again c =
-    let l = c.before.before.before in
-    let s = l.before in
-    let a = s.args in
-    let same = untouched l in (
+    let a = c.args in
+    let same = untouched c.before.before.before in (
       omega arith,
-      length-set l.loop.entries l.loop.j _ ∙ l.loop.invariant.1,
-      map_more (summed s) a.entries.now l.loop.entries l.loop.j _ (omega arith) l.loop.invariant.2
-          (ap (λ (x : ℕ). x + get_or a.others.now l.loop.j 0) same),
+      length-set c.loop-j.entries c.loop-j.j _ ∙ c.loop-j.invariant.1,
+      map_more (summed c.before.before.before.before) a.entries.now c.loop-j.entries c.loop-j.j _ (omega arith) c.loop-j.invariant.2
+          (ap (λ (x : ℕ). x + get_or a.others.now c.loop-j.j 0) same),
     )
 
 -- The loop has ended at j = length, so all entries are the sums.
 returns : tie.Need-returns invariant-loop decreases-loop
 returns c =
-    let l = c.before in
-    let e = l.before.args.entries.now in
-    map_whole (summed l.before) e l.loop.entries l.loop.j (length e) (omega arith) refl l.loop.invariant.2
+    let e = c.args.entries.now in
+    map_whole (summed c.before.before) e c.loop-j.entries c.loop-j.j (length e) (omega arith) refl c.loop-j.invariant.2
 
-pub add-entries-spec : {M : Type 1} → statement M
-add-entries-spec =
+pub add_entries_spec : {M : Type 1} → statement M
+add_entries_spec =
     tie.close
     (tie.spec
     invariant-loop

@@ -37,63 +37,49 @@ right s = rightly_means (code s) (handed s) s.requires.0
 abbrev lending : tie.After-lowest-sum-arg → tie.Start
 lending c = c.before.before.before.before
 
-lowest-sum-requires : tie.Need-lowest-sum-requires
-lowest-sum-requires c κs = let s = lending c in let e = (right s).full in let o = s.pre.1 in omega arith
+lowest-sum-requires : tie.Need-lowest_sum-bad-requires
+lowest-sum-requires c κs = let e = (right c.before.before.before).full in let o = c.requires.1 in omega arith
 
-abbrev entry : tie.After-lowest-sum → tie.Start
+abbrev entry : tie.After-lowest_sum-bad → tie.Start
 entry b = lending b.before
 
-lowest : (b : tie.After-lowest-sum) → (let s = entry b in b.lowest-sum.result ≡ lowest_above (code s) (three s))
-lowest b = let s = entry b in b.lowest-sum.ensures (code s) (right s).full
+lowest : (b : tie.After-lowest_sum-bad) → (b.lowest_sum-bad.result ≡ lowest_above (code b.before.before.before.before) (three b.before.before.before.before))
+lowest b = b.lowest_sum-bad.ensures (code b.before.before.before.before) (right b.before.before.before.before).full
 
 -- An entry is above 5: the lowest of them is refused, and the record is as it was.
-returns : tie.Need-returns
+returns : tie.Need-returns-then-bad-entries
 returns c =
-    let b = c.before in
-    let s = entry b in
-    above_refused (code s) (three s) (handed s) (held_of (code s) s.args.n (sum s)) b.lowest-sum.result (lowest b)
-    (let f = (right s).full in omega arith)
+    above_refused (code c.before.before.before.before.before) (three c.before.before.before.before.before) (handed c.before.before.before.before.before) (held_of (code c.before.before.before.before.before) c.args.n (sum c.before.before.before.before.before)) c.lowest_sum-bad.result (lowest c.before)
+    (let f = (right c.before.before.before.before.before).full in omega arith)
 
 -- no entry is above 5
-passed : (c : tie.Else1) → (let s = entry c.before in (in_or_out (code s) (three s)).given ≡ false)
+passed : (c : tie.Else-bad-entries) → ((in_or_out (code c.before.before.before.before.before) (three c.before.before.before.before.before)).given ≡ false)
 passed c =
-    let b = c.before in
-    let s = entry b in
-    not_given (code s) (three s) (handed s) (held_of (code s) s.args.n (sum s)) b.lowest-sum.result (lowest b)
-    (let f = (right s).full in omega arith)
+    not_given (code c.before.before.before.before.before) (three c.before.before.before.before.before) (handed c.before.before.before.before.before) (held_of (code c.before.before.before.before.before) c.args.n (sum c.before.before.before.before.before)) c.lowest_sum-bad.result (lowest c.before)
+    (let f = (right c.before.before.before.before.before).full in omega arith)
 
-add-entries-requires : tie.Need-add-entries-requires
+add-entries-requires : tie.Need-add_entries-requires
 add-entries-requires c κs =
-    let low = c.before in
-    let s = entry low.before in
-    let full = (right s).full in
-    let others = s.pre.1 in
-    (omega arith, low_sum (code s) s.args.entries.now s.args.others.now full (passed low))
-
-abbrev searched : tie.After-add-entries → tie.After-lowest-sum
-searched a = a.before.before.before
+    let full = (right c.before.before.before.before.before.before).full in
+    let others = c.requires.1 in
+    (omega arith, low_sum (code c.before.before.before.before.before.before) c.args.entries.now c.args.others.now full (passed c.before))
 
 count-requires : tie.Need-count-requires
 count-requires c κs =
-    let a = c.before.before.before.before in
-    let s = entry (searched a) in (
+    let s = entry c.before.before.before.before.before.before in (
       length_stored (code s) (handed s) (right s),
-      ap length a.add-entries.ensures ∙ length_added s.args.entries.now s.args.others.now ∙ (right s).full,
+      ap length c.add_entries.ensures ∙ length_added s.args.entries.now s.args.others.now ∙ (right s).full,
     )
 
 -- No entry is above 5: the entries are the sum, and its cost and totals have been counted.
-returns-2 : tie.Need-returns-2
+returns-2 : tie.Need-returns
 returns-2 c =
-    let q = c.before.before in
-    let a = q.before.before.before.before.before in
-    let b = searched a in
-    let s = entry b in
-    let e = a.add-entries.ensures in
-    none_above_done (code s) (three s) (handed s) (held_of (code s) s.args.n (sum s)) b.lowest-sum.result (lowest b)
-    (let f = (right s).full in omega arith) _ _ _ (q.count.ensures.0 ∙ ap cost e) (q.count.ensures.1 ∙ ap (totals_of (code s)) e) e
+    let e = c.add_entries.ensures in
+    none_above_done (code c.before.before.before.before.before.before.before.before.before.before.before.before.before) (three c.before.before.before.before.before.before.before.before.before.before.before.before.before) (handed c.before.before.before.before.before.before.before.before.before.before.before.before.before) (held_of (code c.before.before.before.before.before.before.before.before.before.before.before.before.before) c.args.n (sum c.before.before.before.before.before.before.before.before.before.before.before.before.before)) c.lowest_sum-bad.result (lowest c.before.before.before.before.before.before.before.before.before)
+    (let f = (right c.before.before.before.before.before.before.before.before.before.before.before.before.before).full in omega arith) _ _ _ (c.count.ensures.0 ∙ ap cost e) (c.count.ensures.1 ∙ ap (totals_of (code c.before.before.before.before.before.before.before.before.before.before.before.before.before)) e) e
 
-pub add-right-spec : {M : Type 1} → statement M
-add-right-spec =
+pub add_right_spec : {M : Type 1} → statement M
+add_right_spec =
     tie.close
     (tie.spec
     lowest-sum-requires

@@ -42,98 +42,82 @@ here s = let p = s.requires.0 in omega arith
 totalled : (s : tie.Start) → s.args.position < length s.args.totals.now
 totalled s = let t = length_stored (code s) (handed s) (right s) in let p = here s in omega arith
 
-abbrev entry : tie.After-first-above → tie.Start
+abbrev entry : tie.After-first_above-bad → tie.Start
 entry b = b.before.before.before.before
 
 -- the lowest of what goes in and comes out
-lowest : (b : tie.After-first-above) → (let s = entry b in b.first_above.result ≡ lowest_above (code s) (both s))
+lowest : (b : tie.After-first_above-bad) → (b.first_above-bad.result ≡ lowest_above (code b.before.before.before) (both b.before.before.before))
 lowest b =
-    let s = entry b in
-    b.first_above.ensures ∙ lowest_cleared (code s) s.args.entries.now (right s).full s.args.position (here s)
+    b.first_above-bad.ensures ∙ lowest_cleared (code b.before.before.before) b.args.entries.now (right b.before.before.before).full b.args.position (here b.before.before.before)
 
 -- An entry is above 5: the lowest of them is refused, and the record is as it was.
-returns : tie.Need-returns
+returns : tie.Need-returns-then-bad-entries
 returns c =
-    let b = c.before in
-    let s = entry b in
-    above_refused (code s) (both s) (handed s) (held_of (code s) s.args.n (after s)) b.first_above.result (lowest b)
-    (let f = (right s).full in omega arith)
+    above_refused (code c.before.before.before.before) (both c.before.before.before.before) (handed c.before.before.before.before) (held_of (code c.before.before.before.before) c.args.n (after c.before.before.before.before)) c.first_above-bad.result (lowest c.before)
+    (let f = (right c.before.before.before.before).full in omega arith)
 
-abbrev begun : tie.After-symbols → tie.Start
+abbrev begun : tie.After-symbols-symbols → tie.Start
 begun y = entry y.before.before
 
 -- the column begins, and ends, within the entries
-column : (y : tie.After-symbols)
-    → (let s = begun y in
-    y.symbols.result * s.args.position + y.symbols.result ≤ length s.args.entries.now) × (y.symbols.result ≤ 32)
+column : (y : tie.After-symbols-symbols)
+    → (y.symbols-symbols.result * y.args.position + y.symbols-symbols.result ≤ length y.args.entries.now) × (y.symbols-symbols.result ≤ 32)
 column y =
-    let s = begun y in
-    let e = y.symbols.ensures in
-    let f = ap (λ (q : ℕ). q * s.args.position) e in
-    let w = column_within (code s) (handed s) (right s) s.args.position (here s) in
-    let most = (sized s.args.alphabet).most in
+    let e = y.symbols-symbols.ensures in
+    let f = ap (λ (q : ℕ). q * y.args.position) e in
+    let w = column_within (code y.before.before.before.before.before) (handed y.before.before.before.before.before) (right y.before.before.before.before.before) y.args.position (here y.before.before.before.before.before) in
+    let most = (sized y.args.alphabet).most in
     (omega arith, omega arith)
 
-abbrev lent : tie.After-cost → tie.After-symbols
+abbrev lent : tie.After-cost-of_column → tie.After-symbols-symbols
 lent p = p.before.before.before
 
 -- the cost of the part that is lent is the column's
-paid : (p : tie.After-cost)
-    → (let s = begun (lent p) in
-    p.cost.result ≡ cost (take (code s).symbols (drop ((code s).symbols * s.args.position) s.args.entries.now)))
+paid : (p : tie.After-cost-of_column)
+    → (let p.before.before.before.before.before.before.before = begun p.before.before in
+    p.cost-of_column.result ≡ cost (take (code p.before.before.before.before.before.before.before).symbols (drop ((code p.before.before.before.before.before.before.before).symbols * p.args.position) p.args.entries.now)))
 paid p =
-    let y = lent p in
-    let s = begun y in
-    let q = y.symbols.result in
-    let e : q * s.args.position + q - q * s.args.position ≡ q = omega arith in
-    p.cost.ensures
-    ∙ ap₂ (λ (n from : ℕ). cost (take n (drop from s.args.entries.now))) (e ∙ y.symbols.ensures)
-    (ap (λ (x : ℕ). x * s.args.position) y.symbols.ensures)
+    let q = p.symbols-symbols.result in
+    let e : q * p.args.position + q - q * p.args.position ≡ q = omega arith in
+    p.cost-of_column.ensures
+    ∙ ap₂ (λ (n from : ℕ). cost (take n (drop from p.args.entries.now))) (e ∙ p.symbols-symbols.ensures)
+    (ap (λ (x : ℕ). x * p.args.position) p.symbols-symbols.ensures)
 
-abbrev counted : tie.After-clear → tie.After-cost
-counted k = k.before.before
-
-abbrev started : tie.After-clear → tie.After-symbols
-started k = lent (counted k)
+abbrev started : tie.After-clear → tie.After-symbols-symbols
+started k = lent k.before.before
 
 -- zeros are laid over the column
-cleared : (k : tie.After-clear) → k.clear.new.0 ≡ after (begun (started k))
+cleared : (k : tie.After-clear) → k.clear.new.out ≡ after k.before.before.before.before.before.before.before.before.before
 cleared k =
-    let y = started k in
-    let s = begun y in
     k.clear.ensures
-    ∙ ap (λ (q : ℕ). laid s.args.entries.now (q * s.args.position) (replicate q 0)) y.symbols.ensures
-    ∙ laid_cleared (code s) s.args.entries.now s.args.position
+    ∙ ap (λ (q : ℕ). laid k.args.entries.now (q * k.args.position) (replicate q 0)) k.symbols-symbols.ensures
+    ∙ laid_cleared (code k.before.before.before.before.before.before.before.before.before) k.args.entries.now k.args.position
 
 -- what is left with the column's cost is the stored cost
-moved : (p : tie.After-cost) → (let s = begun (lent p) in cost (after s) + p.cost.result ≡ s.args.cost)
+moved : (p : tie.After-cost-of_column) → (let s = begun p.before.before in cost (after s) + p.cost-of_column.result ≡ s.args.cost)
 moved p =
-    let s = begun (lent p) in
-    without_column_lem (code s) (handed s) (right s) s.args.position (here s) p.cost.result (paid p)
+    let s = begun p.before.before in
+    without_column_lem (code s) (handed s) (right s) s.args.position (here s) p.cost-of_column.result (paid p)
 
-cost-requires : tie.Need-cost-requires
-cost-requires c κs = let w = column c.before.before in omega arith
+cost-requires : tie.Need-cost-of_column-requires
+cost-requires c κs = let w = column c.before in omega arith
 
 clear-requires : tie.Need-clear-requires
-clear-requires c κs = let w = column (lent c.before) in omega arith
+clear-requires c κs = let w = column c.before.before.before in omega arith
 
-sub-t14 : tie.Need-overflow-sub-t14
-sub-t14 c = let m = moved (counted c.before.before) in omega arith
+sub-t14 : tie.Need-overflow_sub-result
+sub-t14 c = let m = moved c.before.before.before.before in omega arith
 
 -- No entry is above 5: the column is zeros, and so is its total;
 -- its cost is taken off the stored one.
-returns-2 : tie.Need-returns-2
+returns-2 : tie.Need-returns
 returns-2 c =
-    let k = c.before.before in
-    let p = counted k in
-    let b = (lent p).before.before in
-    let s = entry b in
-    let m = moved p in
-    clear_done (code s) (handed s) (right s) s.args.position (here s) b.first_above.result (lowest b) (let f = (right s).full in omega arith)
-    p.cost.result _ (paid p) (omega arith) k.clear.new.0 (cleared k)
+    let m = moved c.before.before.before.before in
+    clear_done (code c.before.before.before.before.before.before.before.before.before.before.before) (handed c.before.before.before.before.before.before.before.before.before.before.before) (right c.before.before.before.before.before.before.before.before.before.before.before) c.args.position (here c.before.before.before.before.before.before.before.before.before.before.before) c.first_above-bad.result (lowest c.before.before.before.before.before.before.before.before) (let f = (right c.before.before.before.before.before.before.before.before.before.before.before).full in omega arith)
+    c.cost-of_column.result _ (paid c.before.before.before.before) (omega arith) c.clear.new.out (cleared c.before.before)
 
-pub clear-right-spec : {M : Type 1} → statement M
-clear-right-spec =
+pub clear_right_spec : {M : Type 1} → statement M
+clear_right_spec =
     tie.close
     (tie.spec
     (λ c κs. search rules)

@@ -12,49 +12,41 @@ use Rattle.edits.proofs.lowest_sum.Statement.{statement}
 use Rattle.edits.proofs.lowest_sum.Tie as tie
 
 -- No sum of the first j places is above 5.
-abbrev invariant-loop : tie.invariant-loop
+abbrev invariant-loop : tie.invariant-loop-j
 invariant-loop entries others j₀ j = (t : ℕ) → t < j → get_or entries t 0 + get_or others t 0 ≤ greatest_level
 
-abbrev decreases-loop : tie.decreases-loop
+abbrev decreases-loop : tie.decreases-loop-j
 decreases-loop entries others j₀ j = length entries - j
 
-abbrev turned : tie.After-wide2 invariant-loop decreases-loop → tie.At-loop invariant-loop decreases-loop
-turned w = w.before.before.before.before.before
-
-abbrev entry : tie.At-loop invariant-loop decreases-loop → tie.Start invariant-loop decreases-loop
+abbrev entry : tie.At-loop-j invariant-loop decreases-loop → tie.Start invariant-loop decreases-loop
 entry l = l.before.before.before
 
 -- The sum at j is above 5, and none before it is.
-returns : tie.Need-returns invariant-loop decreases-loop
+returns : tie.Need-returns-then-wide-gt-GREATEST_LEVEL invariant-loop decreases-loop
 returns c C full =
-    let w = c.before in
-    let l = turned w in
-    let a = (entry l).args in
-    let e = w.wide2.ensures.0 in
-    let d = w.before.before.wide.ensures.0 in
-    sum_found C a.entries.now full a.others.now l.loop.j
-    (λ t h. sum_passed C a.entries.now full a.others.now t (omega arith) (l.loop.inv t h)) (omega arith) (omega arith)
+    let a = c.args in
+    let e = c.wide-in-loop-j.ensures.0 in
+    let d = c.wide.ensures.0 in
+    sum_found C a.entries.now full a.others.now c.loop-j.j
+    (λ t h. sum_passed C a.entries.now full a.others.now t (omega arith) (c.loop-j.invariant t h)) (omega arith) (omega arith)
 
-loop-again : tie.Need-loop-preserved invariant-loop decreases-loop
+loop-again : tie.Need-loop-j-preserved invariant-loop decreases-loop
 loop-again c =
-    let w = c.before in
-    let l = turned w in
-    let a = (entry l).args in
-    let e = w.wide2.ensures.0 in
-    let d = w.before.before.wide.ensures.0 in
-    below_more (λ (t : ℕ). get_or a.entries.now t 0 + get_or a.others.now t 0 ≤ greatest_level) l.loop.j l.loop.inv (omega arith)
+    let a = c.args in
+    let e = c.wide-in-loop-j.ensures.0 in
+    let d = c.wide.ensures.0 in
+    below_more (λ (t : ℕ). get_or a.entries.now t 0 + get_or a.others.now t 0 ≤ greatest_level) c.loop-j.j c.loop-j.invariant (omega arith)
 
 -- The loop has passed all places: no entry is above 5, and as many are answered as there are.
-returns-2 : tie.Need-returns-2 invariant-loop decreases-loop
+returns-2 : tie.Need-returns invariant-loop decreases-loop
 returns-2 c C full =
-    let l = c.before in
-    let a = (entry l).args in
+    let a = c.args in
     full
     ∙ none_found C a.entries.now full a.others.now (length a.entries.now)
-    (λ t h. sum_passed C a.entries.now full a.others.now t h (l.loop.invariant t (omega arith))) (omega arith)
+    (λ t h. sum_passed C a.entries.now full a.others.now t h (c.loop-j.invariant t (omega arith))) (omega arith)
 
-pub lowest-sum-spec : {M : Type 1} → statement M
-lowest-sum-spec =
+pub lowest_sum_spec : {M : Type 1} → statement M
+lowest_sum_spec =
     tie.close
     (tie.spec
     invariant-loop
@@ -64,7 +56,7 @@ lowest-sum-spec =
     (λ c κs. search rules)
     (λ c. omega arith)
     (λ c κs. search rules)
-    (λ c. let a = c.before.before.wide.ensures.1 in let b = c.wide2.ensures.1 in omega arith)
+    (λ c. let a = c.before.before.wide.ensures.1 in let b = c.wide-in-loop-j.ensures.1 in omega arith)
     returns
     (λ c. omega arith)
     (λ c. omega arith)

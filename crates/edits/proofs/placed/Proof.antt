@@ -9,8 +9,8 @@ use Rattle.edits.proofs.placed.Tie as tie
 -- The position's line is tried of what the size's line has left.
 returns : tie.Need-returns
 returns c =
-    let a = c.before.before.args in
-    c.or.ensures ∙ ap (λ (o : Outcome). or_line o (position a.n a.at)) c.before.size.ensures
+    let a = c.args in
+    c.or.ensures ∙ ap (λ (o : Outcome). or_line o (position a.n a.at)) c.size.ensures
 
-pub placed-spec : {M : Type 1} → statement M
-placed-spec = tie.close (tie.spec (λ c κs. search rules) (λ c κs. search rules) returns)
+pub placed_spec : {M : Type 1} → statement M
+placed_spec = tie.close (tie.spec (λ c κs. search rules) (λ c κs. search rules) returns)

@@ -47,129 +47,107 @@ entry y = y.before.before.before
 
 -- the place of the entry
 abbrev at : tie.After-symbols → ℕ
-at y = y.symbols.result * (entry y).args.position + (entry y).args.symbol
+at y = y.symbols.result * y.args.position + y.args.symbol
 
-at-is : (y : tie.After-symbols) → (let s = entry y in at y ≡ (code s).symbols * s.args.position + s.args.symbol)
-at-is y = let s = entry y in ap (λ (q : ℕ). q * s.args.position + s.args.symbol) y.symbols.ensures
+at-is : (y : tie.After-symbols) → (at y ≡ (code y.before.before.before).symbols * y.args.position + y.args.symbol)
+at-is y = ap (λ (q : ℕ). q * y.args.position + y.args.symbol) y.symbols.ensures
 
-within : (y : tie.After-symbols) → at y < length (entry y).args.entries.now
+within : (y : tie.After-symbols) → at y < length y.args.entries.now
 within y =
-    let s = entry y in
     let e = at-is y in
-    let w = at_within (code s) (handed s) (right s) s.args.position (here s) s.args.symbol s.args.entry s.pre.0.2 in
+    let w = at_within (code y.before.before.before) (handed y.before.before.before) (right y.before.before.before) y.args.position (here y.before.before.before) y.args.symbol y.args.entry y.requires.0.2 in
     omega arith
 
-set_there : (y : tie.After-symbols) → (let s = entry y in set s.args.entries.now (at y) s.args.entry ≡ after s)
-set_there y = let s = entry y in ap (λ (j : ℕ). set s.args.entries.now j s.args.entry) (at-is y)
+set_there : (y : tie.After-symbols) → (set y.args.entries.now (at y) y.args.entry ≡ after y.before.before.before)
+set_there y = ap (λ (j : ℕ). set y.args.entries.now j y.args.entry) (at-is y)
 
 -- the lowest of what goes in and comes out
-lowest : (b : tie.After-lowest-set) → (let s = entry b.before.before in b.lowest_set.result ≡ lowest_above (code s) (both s))
+lowest : (b : tie.After-lowest_set-bad) → (b.lowest_set-bad.result ≡ lowest_above (code b.before.before.before.before) (both b.before.before.before.before))
 lowest b =
-    let y = b.before.before in
-    let s = entry y in
-    b.lowest_set.ensures (code s) (right s).full ∙ ap (λ (l : List ℕ). lowest_above (code s) (s.args.entries.now ∷ l ∷ [])) (set_there y)
+    b.lowest_set-bad.ensures (code b.before.before.before.before) (right b.before.before.before.before).full ∙ ap (λ (l : List ℕ). lowest_above (code b.before.before.before.before) (b.args.entries.now ∷ l ∷ [])) (set_there b.before)
 
 -- An entry is above 5: the lowest of them is refused, and the record is as it was.
-returns : tie.Need-returns
+returns : tie.Need-returns-then-bad-entries
 returns c =
-    let b = c.before in
-    let s = entry b.before.before in
-    above_refused (code s) (both s) (handed s) (held_of (code s) s.args.n (after s)) b.lowest_set.result (lowest b)
-    (let f = (right s).full in omega arith)
+    above_refused (code c.before.before.before.before.before) (both c.before.before.before.before.before) (handed c.before.before.before.before.before) (held_of (code c.before.before.before.before.before) c.args.n (after c.before.before.before.before.before)) c.lowest_set-bad.result (lowest c.before)
+    (let f = (right c.before.before.before.before.before).full in omega arith)
 
 -- where no entry is above 5, the places before it
-abbrev placed : tie.Else1 → tie.After-symbols
+abbrev placed : tie.Else-bad-entries → tie.After-symbols
 placed e = e.before.before.before
 
-abbrev begun : tie.Else1 → tie.Start
-begun e = entry (placed e)
+abbrev begun : tie.Else-bad-entries → tie.Start
+begun e = entry e.before.before
 
-passed : (c : tie.Else1) → (let s = begun c in (in_or_out (code s) (both s)).given ≡ false)
+passed : (c : tie.Else-bad-entries) → ((in_or_out (code c.before.before.before.before.before) (both c.before.before.before.before.before)).given ≡ false)
 passed c =
-    let b = c.before in
-    let s = begun c in
-    not_given (code s) (both s) (handed s) (held_of (code s) s.args.n (after s)) b.lowest_set.result (lowest b)
-    (let f = (right s).full in omega arith)
+    not_given (code c.before.before.before.before.before) (both c.before.before.before.before.before) (handed c.before.before.before.before.before) (held_of (code c.before.before.before.before.before) c.args.n (after c.before.before.before.before.before)) c.lowest_set-bad.result (lowest c.before)
+    (let f = (right c.before.before.before.before.before).full in omega arith)
 
 -- the total and the cost that are stored are small
-small : (c : tie.Else1)
-    → (let s = begun c in (get_or s.args.totals.now s.args.position 0 ≤ 5 * 32) × (s.args.cost ≤ 15 * 992))
+small : (c : tie.Else-bad-entries)
+    → ((get_or c.args.totals.now c.args.position 0 ≤ 5 * 32) × (s.args.cost ≤ 15 * 992))
 small c =
-    let s = begun c in
-    let total = total_limited (code s) (handed s) (right s) (after s ∷ []) (passed c) s.args.position (here s) in
-    let price = cost_limited (code s) (handed s) (right s) (after s ∷ []) (passed c) in
-    let most = (sized s.args.alphabet).most in
-    let room = places_within s.args.alphabet in
+    let total = total_limited (code c.before.before.before.before.before) (handed c.before.before.before.before.before) (right c.before.before.before.before.before) (after c.before.before.before.before.before ∷ []) (passed c) c.args.position (here c.before.before.before.before.before) in
+    let price = cost_limited (code c.before.before.before.before.before) (handed c.before.before.before.before.before) (right c.before.before.before.before.before) (after c.before.before.before.before.before ∷ []) (passed c) in
+    let most = (sized c.args.alphabet).most in
+    let room = places_within c.args.alphabet in
     (omega arith, omega arith)
 
-abbrev low : tie.After-short → tie.Else1
-low n = n.before.before.before
-
-add-totals : tie.Need-overflow-add-totals
-add-totals c = let t = (small (low c)).0 in let x = c.short.ensures.1 in omega arith
+add-totals : tie.Need-overflow_add-totals
+add-totals c = let t = (small c.before.before.before).0 in let x = c.short.ensures.1 in omega arith
 
 -- the entry that lay there
 abbrev old : tie.After-symbols → ℕ
-old y = get_or (entry y).args.entries.now (at y) 0
+old y = get_or y.args.entries.now (at y) 0
 
 -- the new total with the old entry is the old total with the new one
-total_moved : (y : tie.After-symbols) → (let s = entry y in
-    sum_of_column (code s) (after s) s.args.position + old y ≡ get_or s.args.totals.now s.args.position 0 + s.args.entry)
+total_moved : (y : tie.After-symbols) → (sum_of_column (code y.before.before.before) (after y.before.before.before) y.args.position + old y ≡ get_or y.args.totals.now y.args.position 0 + y.args.entry)
 total_moved y =
-    let s = entry y in
-    ap (λ (j : ℕ). sum_of_column (code s) (after s) s.args.position + get_or s.args.entries.now j 0) (at-is y)
-    ∙ total_moves (code s) (handed s) (right s) s.args.position (here s) s.args.symbol s.args.entry s.pre.0.2
+    ap (λ (j : ℕ). sum_of_column (code y.before.before.before) (after y.before.before.before) y.args.position + get_or y.args.entries.now j 0) (at-is y)
+    ∙ total_moves (code y.before.before.before) (handed y.before.before.before) (right y.before.before.before) y.args.position (here y.before.before.before) y.args.symbol y.args.entry y.requires.0.2
 
-cost-moved : (y : tie.After-symbols) → (let s = entry y in cost (after s) + entry_cost (old y) ≡ s.args.cost + entry_cost s.args.entry)
+cost-moved : (y : tie.After-symbols) → (cost (after y.before.before.before) + entry_cost (old y) ≡ y.args.cost + entry_cost y.args.entry)
 cost-moved y =
-    let s = entry y in
-    ap (λ (j : ℕ). cost (after s) + entry_cost (get_or s.args.entries.now j 0)) (at-is y)
-    ∙ cost_moves (code s) (handed s) (right s) s.args.position (here s) s.args.symbol s.args.entry s.pre.0.2
+    ap (λ (j : ℕ). cost (after y.before.before.before) + entry_cost (get_or y.args.entries.now j 0)) (at-is y)
+    ∙ cost_moves (code y.before.before.before) (handed y.before.before.before) (right y.before.before.before) y.args.position (here y.before.before.before) y.args.symbol y.args.entry y.requires.0.2
 
 abbrev started : tie.After-short → tie.After-symbols
-started n = placed (low n)
+started n = placed n.before.before.before
 
-sub-totals : tie.Need-overflow-sub-totals
+sub-totals : tie.Need-overflow_sub-totals
 sub-totals c =
-    let n = c.before in
-    let moved = total_moved (started n) in
-    let x = n.short.ensures.0 in
-    let was = c.short2.ensures.0 in
+    let moved = total_moved c.before.before.before.before.before.before in
+    let x = c.short.ensures.0 in
+    let was = c.short-2.ensures.0 in
     omega arith
 
-add-t13 : tie.Need-overflow-add-t13
-add-t13 c = let t = (small (low c.before.before)).1 in let x = c.entry-cost.ensures.1 in omega arith
+add-t13 : tie.Need-overflow_add-result
+add-t13 c = let t = (small c.before.before.before.before.before).1 in let x = c.entry_cost.ensures.1 in omega arith
 
-sub-t29 : tie.Need-overflow-sub-t29
+sub-t29 : tie.Need-overflow_sub-result
 sub-t29 c =
-    let p = c.before in
-    let moved = cost-moved (started p.before.before) in
-    let x = p.entry-cost.ensures.0 in
-    let was = c.entry-cost2.ensures.0 in
+    let moved = cost-moved c.before.before.before.before.before.before.before.before in
+    let x = c.entry_cost.ensures.0 in
+    let was = c.entry_cost-2.ensures.0 in
     omega arith
 
 -- No entry is above 5: the entry is set, and the total and the cost lose the old one and gain it.
-returns-2 : tie.Need-returns-2
+returns-2 : tie.Need-returns
 returns-2 c =
-    let p = c.before in
-    let o = p.before in
-    let n = o.before in
-    let y = started n in
-    let s = entry y in
-    let b = (low n).before in
-    let place = at-is y in
-    let there = ap (λ (j : ℕ). get_or s.args.entries.now j 0) place in
-    let total = total_moved y in
-    let price = cost-moved y in
-    let x = n.short.ensures.0 in
-    let was = o.short2.ensures.0 in
-    let cost-new = p.entry-cost.ensures.0 in
-    let cost-was = c.entry-cost2.ensures.0 ∙ ap entry_cost there in
-    set_done (code s) (handed s) (right s) s.args.position (here s) s.args.symbol s.args.entry s.pre.0.2
-    b.lowest_set.result (lowest b) (let f = (right s).full in omega arith) _ _ (omega arith) (omega arith) _ (set_there y)
+    let place = at-is c.before.before.before.before.before.before.before.before in
+    let there = ap (λ (j : ℕ). get_or c.args.entries.now j 0) place in
+    let total = total_moved c.before.before.before.before.before.before.before.before in
+    let price = cost-moved c.before.before.before.before.before.before.before.before in
+    let x = c.short.ensures.0 in
+    let was = c.short-2.ensures.0 in
+    let cost-new = c.entry_cost.ensures.0 in
+    let cost-was = c.entry_cost-2.ensures.0 ∙ ap entry_cost there in
+    set_done (code c.before.before.before.before.before.before.before.before.before.before.before) (handed c.before.before.before.before.before.before.before.before.before.before.before) (right c.before.before.before.before.before.before.before.before.before.before.before) c.args.position (here c.before.before.before.before.before.before.before.before.before.before.before) c.args.symbol c.args.entry c.requires.0.2
+    c.lowest_set-bad.result (lowest c.before.before.before.before.before.before.before) (let f = (right c.before.before.before.before.before.before.before.before.before.before.before).full in omega arith) _ _ (omega arith) (omega arith) _ (set_there c.before.before.before.before.before.before.before.before)
 
-pub set-right-spec : {M : Type 1} → statement M
-set-right-spec =
+pub set_right_spec : {M : Type 1} → statement M
+set_right_spec =
     tie.close
     (tie.spec
     (λ c κs. search rules)

@@ -12,42 +12,38 @@ use Rattle.elimination.proofs.back.Statement.{statement}
 use Rattle.elimination.proofs.back.Tie as tie
 
 -- y is the entry of column j and the sum of the products behind s and before i.
-abbrev invariant-loop : tie.invariant-loop
+abbrev invariant-loop : tie.invariant-loop-i
 invariant-loop alphabet table row s j out y₀ i₀ y i = (s < i) × (i ≤ j) × (y ≡ behind (numbers (code_on alphabet)) (get_or row j 0) s i (λ (k : ℕ). get_or row k 0) (λ (k : ℕ). get_or out k 0))
 
-abbrev decreases-loop : tie.decreases-loop
+abbrev decreases-loop : tie.decreases-loop-i
 decreases-loop alphabet table row s j out y₀ i₀ y i = j - i
 
-abbrev entry : tie.At-loop invariant-loop decreases-loop → tie.Start invariant-loop decreases-loop
+abbrev entry : tie.At-loop-i invariant-loop decreases-loop → tie.Start invariant-loop decreases-loop
 entry l = l.before.before.before.before
 
-loop-holds : tie.Need-loop-init invariant-loop decreases-loop
+loop-holds : tie.Need-loop-i-init invariant-loop decreases-loop
 loop-holds c =
-    let a = c.before.before.before.args in
+    let a = c.args in
     (omega arith, omega arith, back_none (code_on a.alphabet) _ a.s _ _)
 
-look-requires : tie.Need-look-requires invariant-loop decreases-loop
+look-requires : tie.Need-look-y-requires invariant-loop decreases-loop
 look-requires c κs =
-    let l = c.before.before.before in
-    let s = entry l in
-    (s.pre.0, (s.pre.1.1.0 l.loop.i, s.pre.1.1.1 l.loop.i l.loop.invariant.0 (omega arith)))
+    (c.requires.0, (c.requires.1.1.0 c.loop-i.i, c.requires.1.1.1 c.loop-i.i c.loop-i.invariant.0 (omega arith)))
 
-loop-again : tie.Need-loop-preserved invariant-loop decreases-loop
+loop-again : tie.Need-loop-i-preserved invariant-loop decreases-loop
 unfolding sum_of
 loop-again c =
-    let l = c.before.before.before.before in
-    let a = (entry l).args in
-    (omega arith, omega arith, back_more (code_on a.alphabet) _ a.s l.loop.i _ _ _ _ l.loop.invariant.0 l.loop.invariant.2 c.look.ensures)
+    let a = c.args in
+    (omega arith, omega arith, back_more (code_on a.alphabet) _ a.s c.loop-i.i _ _ _ _ c.loop-i.invariant.0 c.loop-i.invariant.2 c.look-y.ensures)
 
 -- The loop has ended at i = j, so all products behind s and before j are added.
 returns : tie.Need-returns invariant-loop decreases-loop
 returns c =
-    let l = c.before in
-    let e : l.loop.i ≡ (entry l).args.j = omega arith in
-    rw e at l.loop.invariant.2
+    let e : c.loop-i.i ≡ c.args.j = omega arith in
+    rw e at c.loop-i.invariant.2
 
-pub back-spec : {M : Type 1} → statement M
-back-spec =
+pub back_spec : {M : Type 1} → statement M
+back_spec =
     tie.close
     (tie.spec
     invariant-loop

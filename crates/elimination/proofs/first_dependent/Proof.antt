@@ -27,8 +27,8 @@ decreases-search alphabet system₀ table rows blocks j₀ system j = rows - j
 
 search-holds : tie.Need-search-init invariant-down decreases-down invariant-search decreases-search
 search-holds c =
-    let a = c.before.args in
-    (omega arith, eliminated_none (code_on a.alphabet) a.rows (a.blocks * block) a.system.now c.before.requires.0)
+    let a = c.args in
+    (omega arith, eliminated_none (code_on a.alphabet) a.rows (a.blocks * block) a.system.now c.requires.0)
 
 down_holds : tie.Need-down-init invariant-down decreases-down invariant-search decreases-search
 down_holds c =
@@ -36,53 +36,44 @@ down_holds c =
     (omega arith, omega arith, none_zero l.j l.system)
 
 -- The rows and blocks that are worked on are there still.
-within : (c : tie.At-search invariant-down decreases-down invariant-search decreases-search) → (let a = c.before.before.args in Within a.rows a.blocks c.search.system)
+within : (c : tie.At-search invariant-down decreases-down invariant-search decreases-search) → (let a = c.args in Within a.rows a.blocks c.search.system)
 within c =
-    let w = c.before.before.requires.1.1 in
+    let w = c.requires.1.1 in
     let e = c.search.invariant.1.size in
     record { there = let t = w.there in omega arith; few = w.few; fewer = w.fewer; inside = w.inside }
 
-abbrev at-search : tie.At-down invariant-down decreases-down invariant-search decreases-search → tie.At-search invariant-down decreases-down invariant-search decreases-search
-at-search d = d.before
-
 abbrev entry : tie.At-down invariant-down decreases-down invariant-search decreases-search → tie.Start invariant-down decreases-down invariant-search decreases-search
-entry d = (at-search d).before.before
+entry d = d.before.before.before
 
 down-again : tie.Need-down-preserved invariant-down decreases-down invariant-search decreases-search
 down-again c =
-    let d = c.before.before.before in
-    let l = (at-search d).search in
-    (omega arith, omega arith, zero_more l.j d.down.r l.system d.down.invariant.2 c.if2.false)
+    let l = c.search in
+    (omega arith, omega arith, zero_more l.j c.down.r l.system c.down.invariant.2 c.if-system-r-ne0.false)
 
 pivot-requires : tie.Need-pivot-requires invariant-down decreases-down invariant-search decreases-search
 pivot-requires c κs =
-    let d = c.before.before.before.before in
-    let l = at-search d in
-    let r : d.down.r < (entry d).args.rows = omega arith in
-    let e = l.search.inv.1 in
-    (e.system, ((entry d).requires.1.0, (within l, ((d.down.invariant.0, r), (e.triangle, c.before.if2.true)))))
+    let r : c.down.r < c.args.rows = omega arith in
+    let e = c.search.invariant.1 in
+    (e.system, (c.requires.1.0, (within c.before.before.before.before.before, ((c.down.invariant.0, r), (e.triangle, c.if-system-r-ne0.true)))))
 
 search-again : tie.Need-search-preserved invariant-down decreases-down invariant-search decreases-search
 search-again c =
-    let p = c.before in
-    let d = p.before.before.before.before.before in
-    let l = (at-search d).search in
-    let h : l.j + 1 ≤ (entry d).args.rows = omega arith in
-    (h, eliminated_more _ _ _ _ _ _ _ _ l.inv.1 p.pivot.ensures)
+    let l = c.search in
+    let h : l.j + 1 ≤ c.args.rows = omega arith in
+    (h, eliminated_more _ _ _ _ _ _ _ _ l.invariant.1 c.pivot.ensures)
 
-same_length : tie.Need-same-length invariant-down decreases-down invariant-search decreases-search
-same_length c = c.before.before.search.invariant.1.size
+same_length : tie.Need-shape_of-system invariant-down decreases-down invariant-search decreases-search
+same_length c = c.search.invariant.1.size
 
 -- The inner loop has passed the last row, so no row from j on has a pivot in column j.
 returns : tie.Need-returns invariant-down decreases-down invariant-search decreases-search
 returns c =
-    let d = c.before in
-    let e : d.down.r ≡ (entry d).args.rows = c.if1.true in
-    let i = (at-search d).search.invariant in
-    (i.0, (i.1, (i.1.triangle, λ t h k. d.down.invariant.2 t h (omega arith))))
+    let e : c.down.r ≡ c.args.rows = c.if-r-rows.true in
+    let i = c.search.invariant in
+    (i.0, (i.1, (i.1.triangle, λ t h k. c.down.invariant.2 t h (omega arith))))
 
-pub first-dependent-spec : {M : Type 1} → statement M
-first-dependent-spec =
+pub first_dependent_spec : {M : Type 1} → statement M
+first_dependent_spec =
     tie.close
     (tie.spec
     invariant-down

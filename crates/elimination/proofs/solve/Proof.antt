@@ -17,44 +17,30 @@ GivenOf s w = Tabled (code_on w) s.args.table.now × SymbolRows (code_on w) s.ar
 
 -- what solves the triangle, over this alphabet
 abbrev SolvedOf : tie.Start → List ℕ → Alphabet → Type 0
-SolvedOf s after w = let a = s.args in Solved (code_on w) a.j 0 a.system.now a.out.now after
+SolvedOf s after w = let a = s.args in Solved (code_on w) a.j 0 a.system.now a.out-1.now after
 
-abbrev of-thirty-two : tie.After-enum-told → tie.Start
-of-thirty-two t = t.before.before.before.before
-
-abbrev of-sixteen : tie.After-enum-told2 → tie.Start
-of-sixteen t = t.before.before.before.before
-
-solve-by-requires : tie.Need-solve-by-requires
+solve-by-requires : tie.Need-solve_by-requires
 solve-by-requires c κs =
-    let t = c.before in
-    let s = of-thirty-two t in
-    let g = subst (GivenOf s) t.enum_told.given.1 (s.pre.0, s.pre.1.0) in
-    (g.0, (g.1, s.pre.1.1))
+    let g = subst (GivenOf c.before.before.before.before) c.in-ThirtyTwo.is (c.requires.0, c.requires.1.0) in
+    (g.0, (g.1, c.requires.1.1))
 
-solve-by-requires-2 : tie.Need-solve-by-requires-2
+solve-by-requires-2 : tie.Need-solve_by-requires-in_default
 solve-by-requires-2 c κs =
-    let t = c.before in
-    let s = of-sixteen t in
-    let g = subst (GivenOf s) t.enum-told2.given.1 (s.pre.0, s.pre.1.0) in
-    (g.0, (g.1, s.pre.1.1))
+    let g = subst (GivenOf c.before.before.before.before) c.in_default.is (c.requires.0, c.requires.1.0) in
+    (g.0, (g.1, c.requires.1.1))
 
 -- The alphabet is of 32 symbols: what is solved over these is solved over it.
-returns : tie.Need-returns
+returns : tie.Need-returns-in-ThirtyTwo
 returns c =
-    let p = c.before.before in
-    let t = p.before.before in
-    subst (SolvedOf (of-thirty-two t) p.solve-by.new.1.1.1.1.0) (sym t.enum_told.given.1) p.solve-by.ensures
+    subst (SolvedOf c.before.before.before.before.before.before.before c.solve_by.new.out) (sym c.in-ThirtyTwo.is) c.solve_by.ensures
 
 -- The alphabet is of 16 symbols: what is solved over these is solved over it.
-returns-2 : tie.Need-returns-2
+returns-2 : tie.Need-returns-in_default
 returns-2 c =
-    let p = c.before.before in
-    let t = p.before.before in
-    subst (SolvedOf (of-sixteen t) p.solve-by2.new.1.1.1.1.0) (sym t.enum-told2.given.1) p.solve-by2.ensures
+    subst (SolvedOf c.before.before.before.before.before.before.before c.solve_by-in_default.new.out) (sym c.in_default.is) c.solve_by-in_default.ensures
 
-pub solve-spec : {M : Type 1} → statement M
-solve-spec =
+pub solve_spec : {M : Type 1} → statement M
+solve_spec =
     tie.close
     (tie.spec
     (λ c. search rules)

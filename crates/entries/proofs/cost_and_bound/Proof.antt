@@ -8,13 +8,12 @@ use Rattle.entries.proofs.cost_and_bound.Tie as tie
 
 costed-requires : tie.Need-costed-requires
 costed-requires c κs =
-    let entry = c.before.before in
-    let a = entry.args in
+    let a = c.args in
     rw c.cost_and_bound.ensures (cost_narrow a.alphabet a.n a.k a.matrix.now)
 
 -- The only end: what crosses to C is what `weights::cost_and_bound` answered.
 returns : tie.Need-returns
-returns c = c.costed.ensures ∙ c.before.cost_and_bound.ensures
+returns c = c.costed.ensures ∙ c.cost_and_bound.ensures
 
-pub cost-and-bound-spec : {M : Type 1} → statement M
-cost-and-bound-spec = tie.close (tie.spec (λ c κs. search rules) costed-requires returns)
+pub cost_and_bound_spec : {M : Type 1} → statement M
+cost_and_bound_spec = tie.close (tie.spec (λ c κs. search rules) costed-requires returns)

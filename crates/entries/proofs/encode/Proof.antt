@@ -5,22 +5,15 @@ use borrow.Author.Rules.{rules}
 use Rattle.entries.proofs.encode.Statement.{statement}
 use Rattle.entries.proofs.encode.Tie as tie
 
-abbrev at_call : tie.After-slice-known2 → tie.After-encode
-at_call c = c.before.before
-
-abbrev entry : tie.After-encode → tie.Start
-entry c = c.before.before.before.before
-
 counted-requires : tie.Need-counted-requires
 counted-requires c κs =
-    let called = at_call c in
-    let a = (entry called).args in
-    rw called.encode.ensures.0 (encode_narrow a.alphabet a.n a.k a.message.now a.out.now)
+    let a = c.args in
+    rw c.encode.ensures.0 (encode_narrow a.alphabet a.n a.k a.message.now a.out-1.now)
 
 -- The only end: what crosses to C is what `code::encode` answered, and the memory is as that left
 -- it.
 returns : tie.Need-returns
-returns c = rw c.counted.ensures (at_call c.before).encode.ensures
+returns c = rw c.counted.ensures c.encode.ensures
 
-pub encode-spec : {M : Type 1} → statement M
-encode-spec = tie.close (tie.spec (λ c κs. search rules) counted-requires (λ c. search rules) returns)
+pub encode_spec : {M : Type 1} → statement M
+encode_spec = tie.close (tie.spec (λ c κs. search rules) counted-requires (λ c. search rules) returns)

@@ -5,21 +5,17 @@ use borrow.Author.Rules.{rules}
 use Rattle.entries.proofs.interpolate.Statement.{statement}
 use Rattle.entries.proofs.interpolate.Tie as tie
 
-abbrev at_call : tie.After-slice-known2 → tie.After-interpolate
-at_call c = c.before.before
-
 abbrev entry : tie.After-interpolate → tie.Start
 entry c = c.before.before.before.before
 
 interpolated-requires : tie.Need-interpolated-requires
 interpolated-requires c κs =
-    let called = at_call c in
-    let a = (entry called).args in
-    interpolation_narrow a.alphabet a.n a.k a.limit a.matrix.now a.out.now _ _ called.interpolate.ensures
+    let a = c.args in
+    interpolation_narrow a.alphabet a.n a.k a.limit a.matrix.now a.out-1.now _ _ c.interpolate.ensures
 
 -- The only end: what `interpolation::interpolate` promises of its answer is true of what crosses.
 returns : tie.Need-returns
-returns c = rw c.interpolated.ensures (at_call c.before).interpolate.ensures
+returns c = rw c.interpolated.ensures c.interpolate.ensures
 
-pub interpolate-spec : {M : Type 1} → statement M
-interpolate-spec = tie.close (tie.spec (λ c κs. search rules) interpolated-requires (λ c. search rules) returns)
+pub interpolate_spec : {M : Type 1} → statement M
+interpolate_spec = tie.close (tie.spec (λ c κs. search rules) interpolated-requires (λ c. search rules) returns)

@@ -8,13 +8,12 @@ use Rattle.entries.proofs.inverse.Tie as tie
 
 element-requires : tie.Need-element-requires
 element-requires c κs =
-    let entry = c.before in
-    let a = entry.args in
+    let a = c.args in
     rw c.inverse.ensures (inverse_narrow a.alphabet a.a)
 
 -- The only end: what crosses to C is what `field::inverse` answered.
 returns : tie.Need-returns
-returns c = c.element.ensures ∙ c.before.inverse.ensures
+returns c = c.element.ensures ∙ c.inverse.ensures
 
-pub inverse-spec : {M : Type 1} → statement M
-inverse-spec = tie.close (tie.spec (λ c κs. search rules) element-requires returns)
+pub inverse_spec : {M : Type 1} → statement M
+inverse_spec = tie.close (tie.spec (λ c κs. search rules) element-requires returns)

@@ -5,22 +5,15 @@ use borrow.Author.Rules.{rules}
 use Rattle.entries.proofs.multiplicities.Statement.{statement}
 use Rattle.entries.proofs.multiplicities.Tie as tie
 
-abbrev at_call : tie.After-slice-known2 → tie.After-multiplicities
-at_call c = c.before.before
-
-abbrev entry : tie.After-multiplicities → tie.Start
-entry c = c.before.before.before.before
-
 counted-requires : tie.Need-counted-requires
 counted-requires c κs =
-    let called = at_call c in
-    let a = (entry called).args in
-    rw called.multiplicities.ensures.0 (multiplicities_narrow a.alphabet a.n a.level a.reliabilities.now a.out.now)
+    let a = c.args in
+    rw c.multiplicities.ensures.0 (multiplicities_narrow a.alphabet a.n a.level a.reliabilities.now a.out-1.now)
 
 -- The only end: what crosses to C is what `weights::multiplicities` answered, and the memory is as
 -- that left it.
 returns : tie.Need-returns
-returns c = rw c.counted.ensures (at_call c.before).multiplicities.ensures
+returns c = rw c.counted.ensures c.multiplicities.ensures
 
-pub multiplicities-spec : {M : Type 1} → statement M
-multiplicities-spec = tie.close (tie.spec (λ c κs. search rules) counted-requires (λ c. search rules) returns)
+pub multiplicities_spec : {M : Type 1} → statement M
+multiplicities_spec = tie.close (tie.spec (λ c κs. search rules) counted-requires (λ c. search rules) returns)

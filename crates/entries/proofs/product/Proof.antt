@@ -8,13 +8,12 @@ use Rattle.entries.proofs.product.Tie as tie
 
 element-requires : tie.Need-element-requires
 element-requires c κs =
-    let entry = c.before in
-    let a = entry.args in
+    let a = c.args in
     rw c.product.ensures (product_narrow a.alphabet a.a a.b)
 
 -- The only end: what crosses to C is what `field::product` answered.
 returns : tie.Need-returns
-returns c = c.element.ensures ∙ c.before.product.ensures
+returns c = c.element.ensures ∙ c.product.ensures
 
-pub product-spec : {M : Type 1} → statement M
-product-spec = tie.close (tie.spec (λ c κs. search rules) element-requires returns)
+pub product_spec : {M : Type 1} → statement M
+product_spec = tie.close (tie.spec (λ c κs. search rules) element-requires returns)

@@ -6,22 +6,15 @@ use borrow.Author.Rules.{rules}
 use Rattle.entries.proofs.roots.Statement.{statement}
 use Rattle.entries.proofs.roots.Tie as tie
 
-abbrev at_call : tie.After-slice-known2 → tie.After-roots
-at_call c = c.before.before
-
-abbrev entry : tie.After-roots → tie.Start
-entry c = c.before.before.before.before
-
 counted-requires : tie.Need-counted-requires
 counted-requires c κs =
-    let called = at_call c in
-    let a = (entry called).args in
-    rw called.roots.ensures.0 (roots_narrow a.alphabet a.degree a.k a.coefficients.now a.out.now)
+    let a = c.args in
+    rw c.roots.ensures.0 (roots_narrow a.alphabet a.degree a.k a.coefficients.now a.out-1.now)
 
 -- The only end: what crosses to C is what `roots::roots` answered, and the memory is as that left
 -- it.
 returns : tie.Need-returns
-returns c = rw c.counted.ensures (at_call c.before).roots.ensures
+returns c = rw c.counted.ensures c.roots.ensures
 
-pub roots-spec : {M : Type 1} → statement M
-roots-spec = tie.close (tie.spec (λ c κs. search rules) counted-requires (λ c. search rules) returns)
+pub roots_spec : {M : Type 1} → statement M
+roots_spec = tie.close (tie.spec (λ c κs. search rules) counted-requires (λ c. search rules) returns)

@@ -8,13 +8,12 @@ use Rattle.entries.proofs.sum.Tie as tie
 
 element-requires : tie.Need-element-requires
 element-requires c κs =
-    let entry = c.before in
-    let a = entry.args in
+    let a = c.args in
     rw c.sum.ensures (sum_narrow a.alphabet a.a a.b)
 
 -- The only end: what crosses to C is what `field::sum` answered.
 returns : tie.Need-returns
-returns c = c.element.ensures ∙ c.before.sum.ensures
+returns c = c.element.ensures ∙ c.sum.ensures
 
-pub sum-spec : {M : Type 1} → statement M
-sum-spec = tie.close (tie.spec (λ c κs. search rules) element-requires returns)
+pub sum_spec : {M : Type 1} → statement M
+sum_spec = tie.close (tie.spec (λ c κs. search rules) element-requires returns)

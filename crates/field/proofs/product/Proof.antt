@@ -14,62 +14,52 @@ use borrow.Author.Rules.{rules}
 use Rattle.field.proofs.product.Statement.{statement}
 use Rattle.field.proofs.product.Tie as tie
 
-abbrev entry : tie.Else1 → tie.Start
-entry c = c.before.before
-
 -- An operand is no symbol: refusal 5 at its place.
-returns : tie.Need-returns
+returns : tie.Need-returns-then-bad-lt2
 returns c =
-    let at-bad = c.before in
-    let a = at-bad.before.args in
-    ap (refused 5) at-bad.first-bad.ensures ∙ gives refused _ (operand_refused (code_on a.alphabet) a.a a.b (omega arith))
+    let a = c.args in
+    ap (refused 5) c.first_bad-bad.ensures ∙ gives refused _ (operand_refused (code_on a.alphabet) a.a a.b (omega arith))
 
 -- both operands are symbols over w
 abbrev BothIn : tie.Start → Alphabet → Type 0
 BothIn s w = (s.args.a < (code_on w).symbols) × (s.args.b < (code_on w).symbols)
 
 -- The test was passed, so both operands are symbols.
-both : (c : tie.Else1) → BothIn (entry c) (entry c).args.alphabet
+both : (c : tie.Else-bad-lt2) → BothIn c.before.before c.args.alphabet
 both c =
-    let a = (entry c).args in
+    let a = c.args in
     let some : 0 < (code_on a.alphabet).symbols = let z = (sized a.alphabet).least in omega arith in
     operands_symbols (code_on a.alphabet) a.a a.b some (omega arith)
 
 -- What is looked up over the alphabet that a branch knows is the answer.
-looked : (c : tie.Else1) (r : ℕ) → (let a = (entry c).args in
+looked : (c : tie.Else-bad-lt2) (r : ℕ) → (let a = c.args in
     (w : Alphabet) → a.alphabet ≡ w → r ≡ (code_on w).times a.a a.b → valued r ≡ product_answer (code_on a.alphabet) a.a a.b)
 looked c r w e l =
-    let a = (entry c).args in
+    let a = c.args in
     let C = code_on a.alphabet in
     ap valued (subst (λ (w : Alphabet). r ≡ (code_on w).times a.a a.b) (sym e) l)
     ∙ accepts refused (valued (C.times a.a a.b)) (operands_accepted C a.a a.b (omega arith))
 
 look-requires : tie.Need-look-requires
 look-requires c κs =
-    let at-branch = c.before.before in
-    let passed = at-branch.before.before in
-    (c.before.products-of-thirty-two.ensures, subst (BothIn (entry passed)) at-branch.enum_told.given.1 (both passed))
+    (c.products_of_thirty_two-table.ensures, subst (BothIn c.before.before.before.before.before) c.in-ThirtyTwo.is (both c.before.before.before))
 
 -- The alphabet has thirty-two symbols, and the product stands in its table.
-returns-2 : tie.Need-returns-2
+returns-2 : tie.Need-returns-in-ThirtyTwo
 returns-2 c =
-    let at-branch = c.before.before.before in
-    looked at-branch.before.before c.look.result ThirtyTwo at-branch.enum_told.given.1 c.look.ensures
+    looked c.before.before.before.before c.look.result ThirtyTwo c.in-ThirtyTwo.is c.look.ensures
 
 look-requires-2 : tie.Need-look-requires-2
 look-requires-2 c κs =
-    let at-branch = c.before.before in
-    let passed = at-branch.before.before in
-    (c.before.products-of-sixteen.ensures, subst (BothIn (entry passed)) at-branch.enum-told2.given.1 (both passed))
+    (c.products_of_sixteen-table.ensures, subst (BothIn c.before.before.before.before.before) c.in_default.is (both c.before.before.before))
 
 -- The alphabet has sixteen symbols, and the product stands in its table.
-returns-3 : tie.Need-returns-3
+returns-3 : tie.Need-returns
 returns-3 c =
-    let at-branch = c.before.before.before in
-    looked at-branch.before.before c.look2.result Sixteen at-branch.enum-told2.given.1 c.look2.ensures
+    looked c.before.before.before.before c.look-2.result Sixteen c.in_default.is c.look-2.ensures
 
-pub product-spec : {M : Type 1} → statement M
-product-spec =
+pub product_spec : {M : Type 1} → statement M
+product_spec =
     tie.close
     (tie.spec
     (λ c κs. search rules)

@@ -12,18 +12,17 @@ use Rattle.field.proofs.sum.Statement.{statement}
 use Rattle.field.proofs.sum.Tie as tie
 
 -- An operand is no symbol: refusal 5 at its place.
-returns : tie.Need-returns
+returns : tie.Need-returns-then-bad-lt2
 returns c =
-    let at-bad = c.before in
-    let a = at-bad.before.args in
-    ap (refused 5) at-bad.first-bad.ensures ∙ gives refused _ (operand_refused (code_on a.alphabet) a.a a.b (omega arith))
+    let a = c.args in
+    ap (refused 5) c.first_bad-bad.ensures ∙ gives refused _ (operand_refused (code_on a.alphabet) a.a a.b (omega arith))
 
 -- Both operands are symbols, so the table accepts, and the answer is their sum.
-returns-2 : tie.Need-returns-2
+returns-2 : tie.Need-returns
 unfolding sum_of
 returns-2 c =
-    let a = c.before.before.args in
+    let a = c.args in
     accepts refused (valued (sum_of a.a a.b)) (operands_accepted (code_on a.alphabet) a.a a.b (omega arith))
 
-pub sum-spec : {M : Type 1} → statement M
-sum-spec = tie.close (tie.spec (λ c κs. search rules) returns returns-2)
+pub sum_spec : {M : Type 1} → statement M
+sum_spec = tie.close (tie.spec (λ c κs. search rules) returns returns-2)

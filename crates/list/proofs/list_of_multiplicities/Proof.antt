@@ -17,77 +17,60 @@ use borrow.Author.Rules.{rules}
 use Rattle.list.proofs.list_of_multiplicities.Statement.{statement}
 use Rattle.list.proofs.list_of_multiplicities.Tie as tie
 
--- the first check, and the entry, from the last check
-abbrev at-sizes : tie.After-symbols → tie.After-sizes
-at-sizes c = c.before.before.before.before.before
-
-abbrev entry : tie.After-symbols → tie.Start
-entry c = (at-sizes c).before.before.before.before
+abbrev entry : tie.After-symbols-checked → tie.Start
+entry c = c.before.before.before.before.before.before.before.before.before
 
 abbrev front : tie.Start → List Line
 front s =
     let a = s.args in
     list_front (code_on a.alphabet) a.n a.k a.limit a.matrix.now (length a.rows.now) (length a.scores.now)
 
-came : (c : tie.After-symbols) → Came (front (entry c)) [] (told_checked c.symbols.result)
+came : (c : tie.After-symbols-checked) → Came (front c.before.before.before.before.before.before.before.before.before) [] (told_checked c.symbols-checked.result)
 came c =
-    let scores = c.before in
-    let rows = scores.before in
-    let given = rows.before in
-    let limit = given.before in
-    start ▸ (at-sizes c).sizes.ensures ▸ limit.or.ensures ▸ given.entries.ensures ▸ rows.room.ensures ▸ scores.or2.ensures ▸ c.symbols.ensures
+    start ▸ c.sizes.ensures ▸ c.or.ensures ▸ c.entries.ensures ▸ c.room.ensures ▸ c.or-2.ensures ▸ c.symbols-checked.ensures
 
 -- A check has refused: its refusal is answered, and no memory has changed.
-returns : tie.Need-returns
+returns : tie.Need-returns-in-Refused
 returns c =
-    let at-symbols = c.before.before.before in
-    let a = (entry at-symbols).args in
-    refused_by_check (code_on a.alphabet) a.n a.k (cost_left a.limit) a.matrix.now a.rows.now a.scores.now (came at-symbols) c.before.checked.given.1
+    let a = c.args in
+    refused_by_check (code_on a.alphabet) a.n a.k (cost_left a.limit) a.matrix.now a.rows.now a.scores.now (came c.before) c.in-Refused.is
 
 -- from where all checks have passed
-abbrev passed : tie.After-enum-told → tie.Start
-passed t = entry t.before.before
+abbrev passed : tie.In_default → tie.Start
+passed t = entry t.before
 
-fit : (t : tie.After-enum-told)
-    → (let a = (passed t).args in
+fit : (t : tie.In_default)
+    → (let a = t.args in
     let C = code_on a.alphabet in
     Fit C a.n a.k a.limit (length a.rows.now) (length a.scores.now) × (length a.matrix.now ≡ C.symbols * a.n))
 fit t =
-    let a = (passed t).args in
-    let lines = accepted (came t.before.before) t.enum_told.given.1 in
+    let a = t.args in
+    let lines = accepted (came t.before) t.in_default.is in
     list_fits (code_on a.alphabet) a.n a.k a.limit a.matrix.now (length a.rows.now) (length a.scores.now) lines
 
-turn-requires : tie.Need-turn-requires
+turn-requires : tie.Need-turn-cost-requires
 turn-requires c κs =
-    let t = c.before in
-    let a = (passed t).args in
-    let f = fit t in
+    let a = c.args in
+    let f = fit c.before in
     (bytes_within (code_on a.alphabet) a.n a.matrix.now f.0.sized.2 f.1, omega arith)
 
-abbrev told : tie.After-turn → tie.After-enum-told
-told at_turn = at_turn.before.before
-
-list-priced-requires : tie.Need-list-priced-requires
+list-priced-requires : tie.Need-list_priced-requires
 list-priced-requires c κs =
-    let at_turn = c.before.before.before.before in
-    let f = fit (told at_turn) in
-    let a = (passed (told at_turn)).args in
-    (f.0, turned_costs (code_on a.alphabet) a.n f.1 at_turn.turn.ensures)
+    let f = fit c.before.before.before.before.before.before in
+    let a = c.args in
+    (f.0, turned_costs (code_on a.alphabet) a.n f.1 c.turn-cost.ensures)
 
 -- All checks have passed: list_priced tries the cost, and lists, of the record's bytes, which are
 -- those of the matrix.
-returns-2 : tie.Need-returns-2
+returns-2 : tie.Need-returns
 returns-2 c =
-    let at-list = c.before.before.before.before in
-    let at_turn = at-list.before.before.before.before.before in
-    let t = told at_turn in
-    let a = (passed t).args in
+    let a = c.args in
     let C = code_on a.alphabet in
-    passed_on C a.n a.k (cost_left a.limit) a.matrix.now a.rows.now a.scores.now (came t.before.before) t.enum_told.given.1
-    (turned_bytes C a.n (fit t).1 at_turn.turn.ensures) _ _ _ at-list.list-priced.ensures
+    passed_on C a.n a.k (cost_left a.limit) a.matrix.now a.rows.now a.scores.now (came c.before.before.before.before.before.before.before.before.before.before.before.before) c.in_default.is
+    (turned_bytes C a.n (fit c.before.before.before.before.before.before.before.before.before.before.before).1 c.turn-cost.ensures) _ _ _ c.list_priced.ensures
 
-pub list-of-multiplicities-spec : {M : Type 1} → statement M
-list-of-multiplicities-spec =
+pub list_of_multiplicities_spec : {M : Type 1} → statement M
+list_of_multiplicities_spec =
     tie.close
     (tie.spec
     (λ c κs. search rules)

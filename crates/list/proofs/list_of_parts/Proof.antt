@@ -18,74 +18,53 @@ use borrow.Author.Rules.{rules}
 use Rattle.list.proofs.list_of_parts.Statement.{statement}
 use Rattle.list.proofs.list_of_parts.Tie as tie
 
--- the first two checks, and the entry, from the last check
-abbrev at-limit : tie.After-symbols → tie.After-or
-at-limit c = c.before.before.before.before.before
-
-abbrev at-sizes : tie.After-symbols → tie.After-sizes
-at-sizes c = (at-limit c).before
-
-abbrev entry : tie.After-symbols → tie.Start
-entry c = (at-sizes c).before.before.before.before.before
-
 -- the record that the parts are of
-abbrev given : tie.After-symbols → Held
-given c = let a = (entry c).args in held a.n a.cost a.totals.now a.entries.now
+abbrev given : tie.After-symbols-checked → Held
+given c = let a = c.args in held a.n a.cost a.totals.now a.entries.now
 
-abbrev front : tie.After-symbols → List Line
+abbrev front : tie.After-symbols-checked → List Line
 front c =
-    let a = (entry c).args in
+    let a = c.args in
     held_front (code_on a.alphabet) (given c) a.k a.limit (length a.rows.now) (length a.scores.now)
 
-came : (c : tie.After-symbols) → Came (front c) [] (told_checked c.symbols.result)
+came : (c : tie.After-symbols-checked) → Came (front c) [] (told_checked c.symbols-checked.result)
 came c =
-    let scores = c.before in
-    let rows = scores.before in
-    let stored = rows.before in
-    let limit = (at-limit c).or in
-    let C = code_on (entry c).args.alphabet in
-    start ▸ (at-sizes c).sizes.ensures ▸ limit.ensures
-    ▸ stored_tried C (given c) (told_checked limit.result) stored.or2.ensures stored.before.rightly.ensures
-    ▸ rows.room.ensures ▸ scores.or3.ensures ▸ c.symbols.ensures
+    let limit = c.or in
+    let C = code_on c.args.alphabet in
+    start ▸ c.sizes.ensures ▸ limit.ensures
+    ▸ stored_tried C (given c) (told_checked limit.result) c.or-2.ensures c.rightly.ensures
+    ▸ c.room.ensures ▸ c.or-3.ensures ▸ c.symbols-checked.ensures
 
 -- A check has refused: its refusal is answered, and no memory has changed.
-returns : tie.Need-returns
+returns : tie.Need-returns-in-Refused
 returns c =
-    let at-symbols = c.before.before.before in
-    let a = (entry at-symbols).args in
+    let a = c.args in
     let C = code_on a.alphabet in
-    refused_by_check C a.n a.k (cost_left a.limit) (bytes_of C (given at-symbols)) a.rows.now a.scores.now (came at-symbols) c.before.checked.given.1
+    refused_by_check C a.n a.k (cost_left a.limit) (bytes_of C (given c.before)) a.rows.now a.scores.now (came c.before) c.in-Refused.is
 
-fit : (t : tie.After-enum-told)
-    → (let w = t.before.before in
-    let a = (entry w).args in
+fit : (t : tie.In_default)
+    → (let a = t.args in
     let C = code_on a.alphabet in
-    Fit C a.n a.k a.limit (length a.rows.now) (length a.scores.now) × Rightly C (given w))
+    Fit C a.n a.k a.limit (length a.rows.now) (length a.scores.now) × Rightly C (given t.before))
 fit t =
-    let w = t.before.before in
-    let a = (entry w).args in
-    held_fits (code_on a.alphabet) (given w) a.k a.limit (length a.rows.now) (length a.scores.now) (accepted (came w) t.enum_told.given.1)
+    let a = t.args in
+    held_fits (code_on a.alphabet) (given t.before) a.k a.limit (length a.rows.now) (length a.scores.now) (accepted (came t.before) t.in_default.is)
 
-list-priced-requires : tie.Need-list-priced-requires
+list-priced-requires : tie.Need-list_priced-requires
 list-priced-requires c κs =
-    let t = c.before.before in
-    let w = t.before.before in
-    let f = fit t in
-    (f.0, rightly_priced (code_on (entry w).args.alphabet) (given w) f.1 f.0.sized.2)
+    let f = fit c.before.before in
+    (f.0, rightly_priced (code_on c.args.alphabet) (given c.before.before.before) f.1 f.0.sized.2)
 
 -- All checks have passed: list_priced tries the stored cost, and lists, of the record's bytes.
-returns-2 : tie.Need-returns-2
+returns-2 : tie.Need-returns
 returns-2 c =
-    let at-list = c.before.before.before.before in
-    let t = at-list.before.before.before in
-    let w = t.before.before in
-    let a = (entry w).args in
+    let a = c.args in
     let C = code_on a.alphabet in
-    passed_on C a.n a.k (cost_left a.limit) (bytes_of C (given w)) a.rows.now a.scores.now (came w) t.enum_told.given.1
-    refl _ _ _ at-list.list-priced.ensures
+    passed_on C a.n a.k (cost_left a.limit) (bytes_of C (given c.before.before.before.before.before.before.before.before)) a.rows.now a.scores.now (came c.before.before.before.before.before.before.before.before) c.in_default.is
+    refl _ _ _ c.list_priced.ensures
 
-pub list-of-parts-spec : {M : Type 1} → statement M
-list-of-parts-spec =
+pub list_of_parts_spec : {M : Type 1} → statement M
+list_of_parts_spec =
     tie.close
     (tie.spec
     (λ c κs. search rules)

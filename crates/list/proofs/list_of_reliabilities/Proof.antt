@@ -21,12 +21,8 @@ use borrow.Author.Rules.{rules}
 use Rattle.list.proofs.list_of_reliabilities.Statement.{statement}
 use Rattle.list.proofs.list_of_reliabilities.Tie as tie
 
--- the first check, and the entry, from the last check before the columns
-abbrev at-sizes : tie.After-or2 → tie.After-sizes
-at-sizes c = c.before.before.before.before.before
-
-abbrev entry : tie.After-or2 → tie.Start
-entry c = (at-sizes c).before.before.before.before
+abbrev entry : tie.After-or-settled → tie.Start
+entry c = c.before.before.before.before.before.before.before.before.before
 
 abbrev settings : tie.Start → List Line
 settings s =
@@ -48,78 +44,62 @@ settle s =
     let a = s.args in
     read_fits (code_on a.alphabet) a.n a.k a.level a.limit a.reliabilities.now (length a.rows.now) (length a.scores.now)
 
-settled : (c : tie.After-or2) → Came (settings (entry c)) [] (told_checked c.or2.result)
+settled : (c : tie.After-or-settled) → Came (settings c.before.before.before.before.before.before.before.before.before) [] (told_checked c.or-settled.result)
 settled c =
-    let rows = c.before in
-    let given = rows.before in
-    let limit = given.before in
-    let level = limit.before in
-    start ▸ (at-sizes c).sizes.ensures ▸ level.level.ensures ▸ limit.or.ensures ▸ given.entries.ensures ▸ rows.room.ensures ▸ c.or2.ensures
+    start ▸ c.sizes.ensures ▸ c.level.ensures ▸ c.or.ensures ▸ c.entries.ensures ▸ c.room.ensures ▸ c.or-settled.ensures
 
-columns-checked-requires : tie.Need-columns-checked-requires
+columns-checked-requires : tie.Need-columns_checked-checked-requires
 columns-checked-requires c κs e =
-    let f = settle (entry c) (accepted (settled c) e) in
+    let f = settle c.before.before.before.before.before.before.before.before.before (accepted (settled c) e) in
     let size = f.2 in
     (f.1.sized.2, omega arith)
 
-came : (c : tie.After-columns-checked)
-    → (let s = entry c.before in Came (settings s ++ sums s) [] (told_checked c.columns-checked.result))
-came c = further (sums (entry c.before)) (settled c.before) ▸ c.columns-checked.ensures
+came : (c : tie.After-columns_checked-checked)
+    → (Came (settings c.before.before.before.before.before.before.before.before.before.before ++ sums c.before.before.before.before.before.before.before.before.before.before) [] (told_checked c.columns_checked-checked.result))
+came c = further (sums c.before.before.before.before.before.before.before.before.before.before) (settled c.before) ▸ c.columns_checked-checked.ensures
 
 -- the multiplicities
 abbrev made : tie.Start → List ℕ
 made s = matrix s.args.level s.args.reliabilities.now
 
 -- A check has refused: its refusal is answered, and no memory has changed.
-returns : tie.Need-returns
+returns : tie.Need-returns-in-Refused
 returns c =
-    let at-columns = c.before.before.before in
-    let s = entry at-columns.before in
-    let a = s.args in
-    refused_by_check (code_on a.alphabet) a.n a.k (cost_left a.limit) (made s) a.rows.now a.scores.now (came at-columns) c.before.checked.given.1
+    let a = c.args in
+    refused_by_check (code_on a.alphabet) a.n a.k (cost_left a.limit) (made c.before.before.before.before.before.before.before.before.before.before.before) a.rows.now a.scores.now (came c.before) c.in-Refused.is
 
 -- from where all checks have passed
-abbrev passed : tie.After-enum-told → tie.Start
-passed t = entry t.before.before.before
+abbrev passed : tie.In_default → tie.Start
+passed t = entry t.before.before
 
-fit : (t : tie.After-enum-told) → Settled (passed t)
-fit t = settle (passed t) (accepts_front _ (sums (passed t)) (accepted (came t.before.before) t.enum_told.given.1))
+fit : (t : tie.In_default) → Settled t.before.before.before.before.before.before.before.before.before.before.before
+fit t = settle t.before.before.before.before.before.before.before.before.before.before.before (accepts_front _ (sums t.before.before.before.before.before.before.before.before.before.before.before) (accepted (came t.before) t.in_default.is))
 
-weigh-requires : tie.Need-weigh-requires
+weigh-requires : tie.Need-weigh-cost-requires
 weigh-requires c κs =
-    let t = c.before in
-    let a = (passed t).args in
-    let f = fit t in
+    let a = c.args in
+    let f = fit c.before in
     (f.0, bytes_within (code_on a.alphabet) a.n a.reliabilities.now f.1.sized.2 f.2, omega arith)
 
-abbrev told : tie.After-weigh → tie.After-enum-told
-told at-weigh = at-weigh.before.before
+size : (t : tie.In_default) → (length (made t.before.before.before.before.before.before.before.before.before.before.before) ≡ (code_on t.args.alphabet).symbols * t.args.n)
+size t = let a = t.args in length_matrix a.level a.reliabilities.now ∙ (fit t).2
 
-size : (t : tie.After-enum-told) → (let s = passed t in length (made s) ≡ (code_on s.args.alphabet).symbols * s.args.n)
-size t = let a = (passed t).args in length_matrix a.level a.reliabilities.now ∙ (fit t).2
-
-list-priced-requires : tie.Need-list-priced-requires
+list-priced-requires : tie.Need-list_priced-requires
 list-priced-requires c κs =
-    let at-weigh = c.before.before.before.before in
-    let t = told at-weigh in
-    let a = (passed t).args in
-    ((fit t).1, turned_costs (code_on a.alphabet) a.n (size t) at-weigh.weigh.ensures)
+    let a = c.args in
+    ((fit c.before.before.before.before.before.before).1, turned_costs (code_on a.alphabet) a.n (size c.before.before.before.before.before.before) c.weigh-cost.ensures)
 
 -- All checks have passed: list_priced tries the cost, and lists, of the record's bytes, which are
 -- the multiplicities.
-returns-2 : tie.Need-returns-2
+returns-2 : tie.Need-returns
 returns-2 c =
-    let at-list = c.before.before.before.before in
-    let at-weigh = at-list.before.before.before.before.before in
-    let t = told at-weigh in
-    let s = passed t in
-    let a = s.args in
+    let a = c.args in
     let C = code_on a.alphabet in
-    passed_on C a.n a.k (cost_left a.limit) (made s) a.rows.now a.scores.now (came t.before.before) t.enum_told.given.1
-    (turned_bytes C a.n (size t) at-weigh.weigh.ensures) _ _ _ at-list.list-priced.ensures
+    passed_on C a.n a.k (cost_left a.limit) (made c.before.before.before.before.before.before.before.before.before.before.before.before.before.before.before.before.before.before.before.before.before.before) a.rows.now a.scores.now (came c.before.before.before.before.before.before.before.before.before.before.before.before) c.in_default.is
+    (turned_bytes C a.n (size c.before.before.before.before.before.before.before.before.before.before.before) c.weigh-cost.ensures) _ _ _ c.list_priced.ensures
 
-pub list-of-reliabilities-spec : {M : Type 1} → statement M
-list-of-reliabilities-spec =
+pub list_of_reliabilities_spec : {M : Type 1} → statement M
+list_of_reliabilities_spec =
     tie.close
     (tie.spec
     (λ c κs. search rules)

@@ -17,78 +17,73 @@ use Rattle.list_within.proofs.Found.{degree_small, bound_of_cost, prefix, length
 use Rattle.list_within.proofs.Listing.{lists}
 use Rattle.list_within.specs.Within.{Rooted}
 use Rattle.matrix.specs.Columns.{matrix_of}
-use Rattle.polynomial.proofs.Coefficients.{count_small}
+use Rattle.polynomial-1.proofs.Coefficients.{count_small}
 use borrow.Author.Rules.{rules}
 use Rattle.list_within.proofs.list_of_columns.Statement.{statement}
 use Rattle.list_within.proofs.list_of_columns.Tie as tie
 
-abbrev entry : tie.After-bound → tie.Start
+abbrev entry : tie.After-bound-bound → tie.Start
 entry at_bound = at_bound.before.before.before
 
-abbrev code_of : tie.After-bound → Code
-code_of at_bound = code_on (entry at_bound).args.alphabet
+abbrev code_of : tie.After-bound-bound → Code
+code_of at_bound = code_on at_bound.args.alphabet
 
 -- the weight of y
-abbrev weight : tie.After-bound → ℕ
-weight at_bound = (entry at_bound).args.k - 1
+abbrev weight : tie.After-bound-bound → ℕ
+weight at_bound = at_bound.args.k - 1
 
-positive : (at_bound : tie.After-bound) → 0 < weight at_bound
-positive at_bound = let z = (entry at_bound).requires.0 in omega arith
+positive : (at_bound : tie.After-bound-bound) → 0 < weight at_bound
+positive at_bound = let z = at_bound.requires.0 in omega arith
 
-bound-small : (at_bound : tie.After-bound) → at_bound.bound.result ≤ greatest_limit
+bound-small : (at_bound : tie.After-bound-bound) → at_bound.bound-bound.result ≤ greatest_limit
 bound-small at_bound =
-    let s = entry at_bound in
-    degree_small (weight at_bound) s.args.cost at_bound.bound.result (positive at_bound) s.pre.0.4 at_bound.bound.ensures
+    degree_small (weight at_bound) at_bound.args.cost at_bound.bound-bound.result (positive at_bound) at_bound.requires.0.4 at_bound.bound-bound.ensures
 
-count-requires : tie.Need-count-requires
-count-requires c κs = let low = bound-small c in let z = (entry c).requires.0 in (omega arith, omega arith)
+count-requires : tie.Need-count-count-requires
+count-requires c κs = let low = bound-small c in let z = c.requires.0 in (omega arith, omega arith)
 
 -- the room holds the coefficients
-few : (c : tie.After-count) → c.count.result ≤ coefficient_room
+few : (c : tie.After-count-count) → c.count-count.result ≤ coefficient_room
 few c =
-    let at_bound = c.before in
-    let s = entry at_bound in
-    count_small (weight at_bound) at_bound.bound.result c.count.result s.args.cost (positive at_bound) s.pre.0.4 at_bound.bound.ensures c.count.ensures
+    count_small (weight c.before) c.bound-bound.result c.count-count.result c.args.cost (positive c.before) c.requires.0.4 c.bound-bound.ensures c.count-count.ensures
 
 polynomial-requires : tie.Need-polynomial-requires
 polynomial-requires c κs =
-    let at_count = c.before in
-    let at_bound = at_count.before in
-    let z = (entry at_bound).requires.0 in
+    let z = c.requires.0 in
     record {
-      weighted = positive at_bound;
+      weighted = positive c.before.before;
       cheap = z.4;
       priced = z.3;
-      bounded = at_bound.bound.ensures ∙ ap (bound (weight at_bound)) z.3;
-      counted = at_count.count.ensures;
-      room = few at_count;
+      bounded = c.bound-bound.ensures ∙ ap (bound (weight c.before.before)) z.3;
+      counted = c.count-count.ensures;
+      room = few c.before;
     }
 
 -- what is known where the polynomial is found
-module _ (c : tie.After-polynomial2) where
-  abbrev at_count : tie.After-count
+module _ (c : tie.After-polynomial) where
+  abbrev at_count : tie.After-count-count
   at_count = c.before.before
 
-  abbrev at_bound : tie.After-bound
+  abbrev at_bound : tie.After-bound-bound
   at_bound = at_count.before
 
   abbrev degree : ℕ
-  degree = at_bound.bound.result
+  degree = at_bound.bound-bound.result
 
   -- the memory, and the coefficients at its front
   abbrev written : List ℕ
-  written = c.polynomial2.new.1.1.1.1.1.1.0
+  written = c.polynomial.new.out
 
   abbrev coefficients : List ℕ
-  coefficients = take at_count.count.result written
+  coefficients = take at_count.count-count.result written
 
   -- the memory is as long as before
   long : length written ≡ coefficient_room
   long =
       let a = (entry at_bound).args in
       let small = few at_count in
-      let n = at_count.count.ensures in
-      length_after (code_of at_bound) a.matrix.now (weight at_bound) degree _ (replicate coefficient_room 0) written c.polynomial2.ensures (omega arith)
+      let n = at_count.count-count.ensures in
+      length_after (code_of at_bound) a.matrix.now (weight at_bound) degree _ (replicate coefficient_room 0) written c.polynomial.ensures (omega arith)
 
   -- and its front interpolates the bytes that the matrix was loaded from
   front : (m : List ℕ)
@@ -99,68 +94,63 @@ module _ (c : tie.After-polynomial2) where
       let a = s.args in
       let C = code_of at_bound in
       let v = weight at_bound in
-      let found = c.polynomial2.ensures in
+      let found = c.polynomial.ensures in
       subst (Interpolates C a.n v degree m)
-      (sym (prefix C a.matrix.now v degree _ (replicate coefficient_room 0) written found at_count.count.result at_count.count.ensures))
-      (found.interpolates m a.n s.pre.0.2 size loaded)
+      (sym (prefix C a.matrix.now v degree _ (replicate coefficient_room 0) written found at_count.count-count.result at_count.count-count.ensures))
+      (found.interpolates m a.n s.requires.0.2 size loaded)
 
   rooted : (let a = (entry at_bound).args in Rooted (code_of at_bound) a.n a.k degree degree coefficients)
   rooted =
       let s = entry at_bound in
-      let z = s.pre.0 in
+      let z = s.requires.0 in
       let v = weight at_bound in
-      let w = s.pre.1.1 in
+      let w = s.requires.1.1 in
       let i = front w.0 w.1 w.2 in
       let small = few at_count in
-      let n = at_count.count.ensures in
+      let n = at_count.count-count.ensures in
       let low = bound-small at_bound in
       record {
         sized = (z.0, z.1, z.2);
         few = omega arith;
-        low = subst (λ (x : ℕ). x / v ≤ greatest_rows) (sym at_bound.bound.ensures) (powers_of_y v (positive at_bound) s.args.cost z.4);
+        low = subst (λ (x : ℕ). x / v ≤ greatest_rows) (sym at_bound.bound-bound.ensures) (powers_of_y v (positive at_bound) s.args.cost z.4);
         threshold = omega arith;
         full = i.size;
         symbols = i.symbols;
         nonzero = i.nonzero;
       }
 
-array-share-prefix-polynomial : tie.Need-array-share-prefix-polynomial
+array-share-prefix-polynomial : tie.Need-slice_bounds-polynomial-end-2
 array-share-prefix-polynomial c =
-    let found = c.before in
-    let l = long found in
-    let f = few (at_count found) in
+    let l = long c.before in
+    let f = few (at_count c.before) in
     omega arith
 
-slice-aggregate-roots-above : tie.Need-slice-aggregate-roots-above
+slice-aggregate-roots-above : tie.Need-slice_bounds-roots_above-end
 slice-aggregate-roots-above c =
-    let found = c.before.before in
-    let l = long found in
-    let f = few (at_count found) in
-    sym (length-take-le (at_count found).count.result (written found) (omega arith))
+    let l = long c.before.before in
+    let f = few (at_count c.before.before) in
+    sym (length-take-le (at_count c.before.before).count-count.result (written c.before.before) (omega arith))
 
-roots-above-requires : tie.Need-roots-above-requires
+roots-above-requires : tie.Need-roots_above-requires
 roots-above-requires c κs =
-    let found = c.before.before.before.before in
-    let s = entry (at_bound found) in
-    (rooted found, (s.pre.1.0, s.pre.1.1))
+    let s = entry (at_bound c.before.before.before.before) in
+    (rooted c.before.before.before.before, (s.requires.1.0, s.requires.1.1))
 
 -- The roots above the bound are listed, and these are all messages above the bound of the bytes.
 returns : tie.Need-returns
 returns c m size loaded =
-    let at-roots = c.before.before.before.before in
-    let found = at-roots.before.before.before.before.before in
-    let b = at_bound found in
+    let b = at_bound c.before.before.before.before.before.before.before.before.before in
     let s = entry b in
     let a = s.args in
-    let z = s.pre.0 in
+    let z = s.requires.0 in
     let C = code_of b in
-    let d = degree found in
-    let of_bytes = bound_of_cost C a.n (weight b) a.cost d a.matrix.now m z.2 b.bound.ensures z.3 size loaded in
-    lists C (field_on a.alphabet) a.n a.k d d (coefficients found) (rooted found) m size (front found m size loaded).through (omega arith) _
-    of_bytes (at-roots.roots-above.ensures m size loaded)
+    let d = degree c.before.before.before.before.before.before.before.before.before in
+    let of_bytes = bound_of_cost C a.n (weight b) a.cost d a.matrix.now m z.2 b.bound-bound.ensures z.3 size loaded in
+    lists C (field_on a.alphabet) a.n a.k d d (coefficients c.before.before.before.before.before.before.before.before.before) (rooted c.before.before.before.before.before.before.before.before.before) m size (front c.before.before.before.before.before.before.before.before.before m size loaded).through (omega arith) _
+    of_bytes (c.roots_above.ensures m size loaded)
 
-pub list-of-columns-spec : {M : Type 1} → statement M
-list-of-columns-spec =
+pub list_of_columns_spec : {M : Type 1} → statement M
+list_of_columns_spec =
     tie.close
     (tie.spec
     (λ c. search rules)

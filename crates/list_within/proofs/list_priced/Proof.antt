@@ -26,48 +26,38 @@ full : (s : tie.Start) → length (bytes s) ≡ (code_of s).symbols * s.args.n
 full s = length-take-le ((code_of s).symbols * s.args.n) s.args.entries.now s.requires.1.within
 
 -- The cost is above the limit: refusal 7, and no memory has changed.
-returns : tie.Need-returns
+returns : tie.Need-returns-then-limit-cost
 returns c =
-    let s = c.before.before.before.before in
-    let a = s.args in
-    let paid = s.requires.1.paid in
-    refused_by_cost (code_of s) a.n a.k a.limit (bytes s) a.rows.now a.scores.now [] (omega arith)
-
-abbrev entry : tie.After-in-columns → tie.Start
-entry at-columns = at-columns.before.before.before.before.before
+    let a = c.args in
+    let paid = c.requires.1.paid in
+    refused_by_cost (code_of c.before.before.before.before) a.n a.k a.limit (bytes c.before.before.before.before) a.rows.now a.scores.now [] (omega arith)
 
 -- the columns are those of the bytes
-loaded : (c : tie.After-in-columns) → (let s = entry c in c.in-columns.result ≡ matrix_of (code_of s) (bytes s) s.args.n)
+loaded : (c : tie.After-in_columns-columns) → (c.in_columns-columns.result ≡ matrix_of (code_of c.before.before.before.before.before) (bytes c.before.before.before.before.before) c.args.n)
 loaded c =
-    let s = entry c in
-    let a = s.args in
-    columns_front (code_of s) a.n a.cost a.entries.now s.pre.0.sized.2 s.pre.1 c.in-columns.result c.in-columns.ensures
+    let a = c.args in
+    columns_front (code_of c.before.before.before.before.before) a.n a.cost a.entries.now c.requires.0.sized.2 c.requires.1 c.in_columns-columns.result c.in_columns-columns.ensures
 
-list-of-columns-requires : tie.Need-list-of-columns-requires
+list-of-columns-requires : tie.Need-list_of_columns-requires
 list-of-columns-requires c κs =
-    let at-columns = c.before.before.before in
-    let columns = at-columns.in-columns in
-    let s = entry at-columns in
-    let a = s.args in
-    let f = s.pre.0 in
+    let columns = c.in_columns-columns in
+    let a = c.args in
+    let f = c.requires.0 in
     let z = f.sized in
     let low = f.low in
-    let costs = columns_cost (code_of s) a.n a.cost a.entries.now z.2 s.pre.1 columns.result columns.ensures in
-    ((z.0, z.1, z.2, costs, omega arith), ((f.room_for_rows, f.room_for_scores), (bytes s, full s, loaded at-columns)))
+    let costs = columns_cost (code_of c.before.before.before.before.before.before.before.before) a.n a.cost a.entries.now z.2 c.requires.1 columns.result columns.ensures in
+    ((z.0, z.1, z.2, costs, omega arith), ((f.room_for_rows, f.room_for_scores), (bytes c.before.before.before.before.before.before.before.before, full c.before.before.before.before.before.before.before.before, loaded c.before.before.before)))
 
 -- The cost is within the limit, and the list of the columns is that of the bytes.
-returns-2 : tie.Need-returns-2
+returns-2 : tie.Need-returns
 returns-2 c =
-    let at-list = c.before.before.before.before in
-    let at-columns = at-list.before.before.before.before in
-    let s = entry at-columns in
-    let a = s.args in
-    let paid = s.pre.1.paid in
-    listed (code_of s) a.n a.k a.limit (bytes s) a.rows.now a.scores.now (omega arith) at-list.list-of-columns.result _ _
-    (at-list.list-of-columns.ensures (bytes s) (full s) (loaded at-columns))
+    let a = c.args in
+    let paid = c.requires.1.paid in
+    listed (code_of c.before.before.before.before.before.before.before.before.before.before.before.before.before) a.n a.k a.limit (bytes c.before.before.before.before.before.before.before.before.before.before.before.before.before) a.rows.now a.scores.now (omega arith) c.list_of_columns.result _ _
+    (c.list_of_columns.ensures (bytes c.before.before.before.before.before.before.before.before.before.before.before.before.before) (full c.before.before.before.before.before.before.before.before.before.before.before.before.before) (loaded c.before.before.before.before.before.before.before.before))
 
-pub list-priced-spec : {M : Type 1} → statement M
-list-priced-spec =
+pub list_priced_spec : {M : Type 1} → statement M
+list_priced_spec =
     tie.close
     (tie.spec
     returns

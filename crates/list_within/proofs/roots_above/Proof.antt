@@ -23,71 +23,60 @@ use Rattle.list_within.proofs.roots_above.Tie as tie
 memory : List ℕ
 memory = replicate (greatest_rows * most_positions) 0
 
-abbrev entry : tie.After-found → tie.Start
-entry c = c.before.before.before.before
-
 abbrev code_of : tie.Start → Code
 code_of s = code_on s.args.alphabet
 
 field_of : (s : tie.Start) → FieldOf (code_of s)
 field_of s = field_on s.args.alphabet
 
-roots-into-requires : tie.Need-roots-into-requires
+roots-into-requires : tie.Need-roots_into-many-requires
 roots-into-requires c κs =
-    let s = entry c in
-    let a = s.args in
-    let f = s.pre.0 in
+    let a = c.args in
+    let f = c.requires.0 in
     let z = f.sized in
     let w = sized a.alphabet in
     ((z.0, omega arith, f.few), ((f.full, rows_fit most_positions a.k (a.degree / (a.k - 1)) (omega arith) f.low), (f.symbols, f.nonzero)))
 
 -- the memory, after they are found
-abbrev found : tie.After-roots-into → List ℕ
-found at-roots = at-roots.roots-into.new.1.1.1.1.0
+abbrev found : tie.After-roots_into-many → List ℕ
+found at-roots = at-roots.roots_into-many.new.out
 
-found-are-symbols : (r : tie.After-roots-into) → Symbols (code_of (entry r.before)) (found r)
+found-are-symbols : (r : tie.After-roots_into-many) → Symbols (code_of r.before.before.before.before.before) (found r)
 unfolding memory
 found-are-symbols r =
-    let s = entry r.before in
-    let a = s.args in
+    let a = r.args in
     let w = sized a.alphabet in
-    let zeros = replicate_symbols (code_of s) (greatest_rows * most_positions) 0 (omega arith) in
-    found_symbols (code_of s) (field_of s) a.degree a.k a.coefficients.now memory (found r) zeros r.roots-into.ensures.1
+    let zeros = replicate_symbols (code_of r.before.before.before.before.before) (greatest_rows * most_positions) 0 (omega arith) in
+    found_symbols (code_of r.before.before.before.before.before) (field_of r.before.before.before.before.before) a.degree a.k a.coefficients.now memory (found r) zeros r.roots_into-many.ensures.1
 
 ranked-requires : tie.Need-ranked-requires
 unfolding memory
 ranked-requires c κs =
-    let r = c.before.before.before.before.before in
-    let s = entry r.before in
-    let a = s.args in
+    let a = c.args in
     let q = a.coefficients.now in
-    let rooted = s.pre.0 in
+    let rooted = c.requires.0 in
     let z = rooted.sized in
     let w = sized a.alphabet in
-    let few = few_roots (code_of s) (field_of s) a.n a.k a.degree a.threshold q rooted in
-    let many = r.roots-into.ensures.0 in
-    let fits = rows_fit most_positions a.k (length (roots_of (code_of s) a.degree a.k q)) (omega arith) few in
-    let long = length_found (code_of s) (field_of s) a.degree a.k q memory (found r) fits r.roots-into.ensures.1 in
-    let taken : a.k * r.roots-into.result ≤ greatest_rows * most_positions = rw many fits in
-    (found-are-symbols r, ((z.2, omega arith, rw many few, omega arith), s.pre.1.0))
+    let few = few_roots (code_of c.before.before.before.before.before.before.before.before.before.before) (field_of c.before.before.before.before.before.before.before.before.before.before) a.n a.k a.degree a.threshold q rooted in
+    let many = c.roots_into-many.ensures.0 in
+    let fits = rows_fit most_positions a.k (length (roots_of (code_of c.before.before.before.before.before.before.before.before.before.before) a.degree a.k q)) (omega arith) few in
+    let long = length_found (code_of c.before.before.before.before.before.before.before.before.before.before) (field_of c.before.before.before.before.before.before.before.before.before.before) a.degree a.k q memory (found c.before.before.before.before.before) fits c.roots_into-many.ensures.1 in
+    let taken : a.k * c.roots_into-many.result ≤ greatest_rows * most_positions = rw many fits in
+    (found-are-symbols c.before.before.before.before.before, ((z.2, omega arith, rw many few, omega arith), c.requires.1.0))
 
 -- The roots are ranked above the threshold itself, since it is narrowed without loss.
 returns : tie.Need-returns
 unfolding memory
 returns c m size loaded =
-    let at-ranked = c.before.before.before.before in
-    let at-narrow = at-ranked.before.before.before.before in
-    let r = at-narrow.before.before in
-    let s = entry r.before in
-    let a = s.args in
-    let listed = at-ranked.ranked.ensures in
-    let same : at-narrow.narrow.result ≡ a.threshold = at-narrow.narrow.ensures in
-    roots_listed (code_of s) (field_of s) a.n a.k a.degree a.threshold a.coefficients.now s.pre.0 m size a.matrix.now memory (found r) _
-    loaded r.roots-into.ensures.0 r.roots-into.ensures.1 a.rows.now a.scores.now _ _ _
+    let a = c.args in
+    let listed = c.ranked.ensures in
+    let same : c.narrow.result ≡ a.threshold = c.narrow.ensures in
+    roots_listed (code_of c.before.before.before.before.before.before.before.before.before.before.before.before.before.before.before) (field_of c.before.before.before.before.before.before.before.before.before.before.before.before.before.before.before) a.n a.k a.degree a.threshold a.coefficients.now c.requires.0 m size a.matrix.now memory (found c.before.before.before.before.before.before.before.before.before.before) _
+    loaded c.roots_into-many.ensures.0 c.roots_into-many.ensures.1 a.rows.now a.scores.now _ _ _
     (rw same at listed.0) (rw same at listed.1.0) (rw same at listed.1.1)
 
-pub roots-above-spec : {M : Type 1} → statement M
-roots-above-spec =
+pub roots_above_spec : {M : Type 1} → statement M
+roots_above_spec =
     tie.close
     (tie.spec
     (λ c. search rules)

@@ -11,52 +11,46 @@ use Rattle.masks.proofs.keep.Statement.{statement}
 use Rattle.masks.proofs.keep.Tie as tie
 
 -- The first p blocks hold what the masks leave of the row's, and behind all blocks the row is zero.
-abbrev invariant-loop : tie.invariant-loop
+abbrev invariant-loop : tie.invariant-loop-p
 invariant-loop row es asked order blocks out₀ p₀ out p = (p ≤ blocks) × Filling (blocks * block) (p * block) (kept_entry row es asked order) out
 
-abbrev decreases-loop : tie.decreases-loop
+abbrev decreases-loop : tie.decreases-loop-p
 decreases-loop row es asked order blocks out₀ p₀ out p = blocks - p
 
 -- what the masks leave of each entry
 abbrev left : tie.Start invariant-loop decreases-loop → ℕ → ℕ
 left s = let a = s.args in kept_entry a.row.now a.es.now a.asked a.order
 
-loop-holds : tie.Need-loop-init invariant-loop decreases-loop
+loop-holds : tie.Need-loop-p-init invariant-loop decreases-loop
 loop-holds s = (omega arith, filling_none (s.args.blocks * block) (left s) s.args.out.now s.requires.1)
 
-abbrev at-powers : tie.After-kept-block invariant-loop decreases-loop → tie.After-block2 invariant-loop decreases-loop
-at-powers k = k.before.before.before
-
-abbrev at-loop : tie.After-block2 invariant-loop decreases-loop → tie.At-loop invariant-loop decreases-loop
+abbrev at-loop : tie.After-block-powers invariant-loop decreases-loop → tie.At-loop-p invariant-loop decreases-loop
 at-loop b = b.before.before.before
 
 put-requires : tie.Need-put-requires invariant-loop decreases-loop
-put-requires c κs = let l = at-loop (at-powers c.before.before) in (omega arith, l.loop.inv.1.rest.wide)
+put-requires c κs = let l = at-loop c.before.before.before.before.before in (omega arith, l.loop-p.invariant.1.rest.wide)
 
-loop-again : tie.Need-loop-preserved invariant-loop decreases-loop
+loop-again : tie.Need-loop-p-preserved invariant-loop decreases-loop
 loop-again c =
-    let k = c.before.before.before in
-    let l = at-loop (at-powers k) in
+    let l = at-loop c.before.before.before.before.before.before in
     let s = l.before in
     let a = s.args in
     let n = a.blocks * block in
-    let from = l.loop.p * block in
-    let next : from + block ≡ (l.loop.p + 1) * block = omega arith in
+    let from = l.loop-p.p * block in
+    let next : from + block ≡ (l.loop-p.p + 1) * block = omega arith in
     let room : from + block ≤ n = omega arith in
-    let entries = (at-powers k).before.block in
-    let powers = (at-powers k).block2 in
-    let kept = k.Kept-Block in
+    let entries = c.block-a in
+    let powers = c.block-powers in
+    let kept = c.Kept-Block in
     let part = kept_left from a.row.now a.es.now entries.result powers.result kept.result a.asked a.order entries.ensures powers.ensures kept.ensures in
-    let filled = filling_block n (left s) from kept.result l.loop.out c.put.new.0 room c.put.ensures l.loop.inv.1 part in
-    (omega arith, subst (λ (i : ℕ). Filling n i (left s) c.put.new.0) next filled)
+    let filled = filling_block n (left s) from kept.result l.loop-p.out c.put.new.row room c.put.ensures l.loop-p.invariant.1 part in
+    (omega arith, subst (λ (i : ℕ). Filling n i (left s) c.put.new.row) next filled)
 
 -- The loop has ended at p = blocks, so every block of the row is filled.
 returns : tie.Need-returns invariant-loop decreases-loop
 returns c =
-    let l = c.before in
-    let s = l.before in
-    let e : l.loop.p ≡ s.args.blocks = omega arith in
-    filling_whole (s.args.blocks * block) (left s) l.loop.out (omega arith) (rw e at l.loop.invariant.1)
+    let e : c.loop-p.p ≡ c.args.blocks = omega arith in
+    filling_whole (c.args.blocks * block) (left c.before.before) c.loop-p.out (omega arith) (rw e at c.loop-p.invariant.1)
 
 pub keep_spec : {M : Type 1} → statement M
 keep_spec =

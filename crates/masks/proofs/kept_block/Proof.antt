@@ -12,37 +12,35 @@ use Rattle.masks.proofs.kept_block.Statement.{statement}
 use Rattle.masks.proofs.kept_block.Tie as tie
 
 -- The first k entries of part are what their masks leave.
-abbrev invariant-loop : tie.invariant-loop
+abbrev invariant-loop : tie.invariant-loop-k
 invariant-loop a es asked order part₀ k₀ part k = (k ≤ block) × (length part ≡ block) × Front k (kept_entry a es asked order) part
 
-abbrev decreases-loop : tie.decreases-loop
+abbrev decreases-loop : tie.decreases-loop-k
 decreases-loop a es asked order part₀ k₀ part k = block - k
 
-loop-holds : tie.Need-loop-init invariant-loop decreases-loop
+loop-holds : tie.Need-loop-k-init invariant-loop decreases-loop
 loop-holds c =
     let s = c.args in
     (omega arith, refl, front_none (kept_entry s.a.now s.es.now s.asked s.order) (replicate block 0))
 
-loop-again : tie.Need-loop-preserved invariant-loop decreases-loop
+loop-again : tie.Need-loop-k-preserved invariant-loop decreases-loop
 loop-again c =
-    let l = c.before.before.before.before in
-    let s = l.before.args in
-    let h : l.loop.k < length l.loop.part = omega arith in (
+    let s = c.args in
+    let h : c.loop-k.k < length c.loop-k.part = omega arith in (
       omega arith,
-      length-set l.loop.part l.loop.k _ ∙ l.loop.invariant.1,
-      front_more l.loop.k _ (kept_entry s.a.now s.es.now s.asked s.order) l.loop.part h l.loop.invariant.2
-          (ap (bit_and (get_or s.a.now l.loop.k 0)) c.mask.ensures),
+      length-set c.loop-k.part c.loop-k.k _ ∙ c.loop-k.invariant.1,
+      front_more c.loop-k.k _ (kept_entry s.a.now s.es.now s.asked s.order) c.loop-k.part h c.loop-k.invariant.2
+          (ap (bit_and (get_or s.a.now c.loop-k.k 0)) c.mask.ensures),
     )
 
 -- The loop has ended at k = block, so every entry of the block is masked.
 returns : tie.Need-returns invariant-loop decreases-loop
 returns c =
-    let l = c.before in
-    let e : l.loop.k ≡ block = omega arith in
-    rw e at l.loop.invariant.2
+    let e : c.loop-k.k ≡ block = omega arith in
+    rw e at c.loop-k.invariant.2
 
-pub kept-block-spec : {M : Type 1} → statement M
-kept-block-spec =
+pub kept_block_spec : {M : Type 1} → statement M
+kept_block_spec =
     tie.close
     (tie.spec
     invariant-loop

@@ -5,12 +5,12 @@ use Rattle.masks.proofs.mask.Statement.{statement}
 use Rattle.masks.proofs.mask.Tie as tie
 
 -- The power has just the bits of the order: 255 lets the entry through.
-returns : tie.Need-returns
-returns c = let a = c.before.args in chosen_equal (bit_and a.e a.asked) a.order 255 0 c.if1.true
+returns : tie.Need-returns-then-e-asked
+returns c = let a = c.args in chosen_equal (bit_and a.e a.asked) a.order 255 0 c.if-e-asked.true
 
 -- It has not: 0 lets nothing through.
-returns-2 : tie.Need-returns-2
-returns-2 c = let a = c.before.args in chosen_unequal (bit_and a.e a.asked) a.order 255 0 c.if1.false
+returns-2 : tie.Need-returns
+returns-2 c = let a = c.args in chosen_unequal (bit_and a.e a.asked) a.order 255 0 c.if-e-asked.false
 
-pub mask-spec : {M : Type 1} → statement M
-mask-spec = tie.close (tie.spec returns returns-2)
+pub mask_spec : {M : Type 1} → statement M
+mask_spec = tie.close (tie.spec returns returns-2)

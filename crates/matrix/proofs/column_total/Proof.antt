@@ -11,57 +11,52 @@ use Rattle.matrix.proofs.column_total.Statement.{statement}
 use Rattle.matrix.proofs.column_total.Tie as tie
 
 -- The total is that of the column's first b entries, each at most 255.
-abbrev invariant-loop : tie.invariant-loop
+abbrev invariant-loop : tie.invariant-loop-b
 invariant-loop entries i symbols first total₀ b₀ total b = (b ≤ symbols) × (total ≡ sum b (λ (j : ℕ). get_or entries (first + j) 0)) × (total ≤ 255 * b)
 
-abbrev decreases-loop : tie.decreases-loop
+abbrev decreases-loop : tie.decreases-loop-b
 decreases-loop entries i symbols first total₀ b₀ total b = symbols - b
 
 -- the column begins, and ends, within the entries
-column : (c : tie.After-symbols invariant-loop decreases-loop)
-    → (let a = c.before.before.args in
-    let q = c.symbols.result in
+column : (c : tie.After-symbols-symbols invariant-loop decreases-loop)
+    → (let a = c.args in
+    let q = c.symbols-symbols.result in
     (q * a.i + q ≤ length a.entries.now) × (q ≤ 32))
 column c =
-    let s = c.before.before in
-    let e = c.symbols.ensures in
-    let f = ap (λ (q : ℕ). q * s.args.i) e in
-    let most = (sized s.args.alphabet).most in
+    let e = c.symbols-symbols.ensures in
+    let f = ap (λ (q : ℕ). q * c.args.i) e in
+    let most = (sized c.args.alphabet).most in
     (omega arith, omega arith)
 
-mul-first : tie.Need-overflow-mul-first invariant-loop decreases-loop
+mul-first : tie.Need-overflow_mul-first invariant-loop decreases-loop
 mul-first c = let h = column c in omega arith
 
-loop-holds : tie.Need-loop-init invariant-loop decreases-loop
+loop-holds : tie.Need-loop-b-init invariant-loop decreases-loop
 loop-holds c = (omega arith, sum_none _, omega arith)
 
-add-short : tie.Need-overflow-add-short invariant-loop decreases-loop
+add-short : tie.Need-overflow_add-first invariant-loop decreases-loop
 add-short c = let h = column c.before.before in omega arith
 
-shared-slice-read-short : tie.Need-shared-slice-read-short invariant-loop decreases-loop
+shared-slice-read-short : tie.Need-bounds-entries-first invariant-loop decreases-loop
 shared-slice-read-short c = let h = column c.before.before.before in omega arith
 
-add_total : tie.Need-overflow-add-total invariant-loop decreases-loop
+add_total : tie.Need-overflow_add-total invariant-loop decreases-loop
 add_total c = let h = (column c.before.before.before.before).1 in omega arith
 
-loop-again : tie.Need-loop-preserved invariant-loop decreases-loop
+loop-again : tie.Need-loop-b-preserved invariant-loop decreases-loop
 loop-again c =
-    let l = c.before.before.before in
-    let small = c.short.ensures.1 in
-    (omega arith, sum_more _ l.loop.b l.loop.total c.short.result l.loop.invariant.1 c.short.ensures.0, omega arith)
+    let small = c.short-total.ensures.1 in
+    (omega arith, sum_more _ c.loop-b.b c.loop-b.total c.short-total.result c.loop-b.invariant.1 c.short-total.ensures.0, omega arith)
 
 -- The loop has ended at b = symbols, so the total is the whole column's.
 returns : tie.Need-returns invariant-loop decreases-loop
 returns c =
-    let l = c.before in
-    let q = l.before in
-    let s = q.before.before in
-    let e : l.loop.b ≡ q.symbols.result = omega arith in
-    l.loop.invariant.1
-    ∙ ap₂ (λ (n x : ℕ). sum n (λ (j : ℕ). get_or s.args.entries.now (x * s.args.i + j) 0)) (e ∙ q.symbols.ensures) q.symbols.ensures
+    let e : c.loop-b.b ≡ c.symbols-symbols.result = omega arith in
+    c.loop-b.invariant.1
+    ∙ ap₂ (λ (n x : ℕ). sum n (λ (j : ℕ). get_or c.args.entries.now (x * c.args.i + j) 0)) (e ∙ c.symbols-symbols.ensures) c.symbols-symbols.ensures
 
-pub column-total-spec : {M : Type 1} → statement M
-column-total-spec =
+pub column_total_spec : {M : Type 1} → statement M
+column_total_spec =
     tie.close
     (tie.spec
     invariant-loop

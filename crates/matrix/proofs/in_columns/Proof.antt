@@ -18,38 +18,26 @@ module _ (s : tie.Start) where
   abbrev Laid : List (List ℕ) → Alphabet → Type 0
   Laid columns = λ (w : Alphabet). columns ≡ matrix_of (code_on w) s.args.entries.now s.args.n
 
-abbrev of-thirty-two : tie.After-enum-told → tie.Start
-of-thirty-two t = t.before.before.before
-
-abbrev of-sixteen : tie.After-enum-told2 → tie.Start
-of-sixteen t = t.before.before.before
-
-lay-columns-requires : tie.Need-lay-columns-requires
+lay-columns-requires : tie.Need-lay_columns-requires
 lay-columns-requires c κs =
-    let t = c.before in
-    let s = of-thirty-two t in
-    (subst (Asked s) t.enum_told.given.1 s.pre, refl)
+    (subst (Asked c.before.before.before) c.in-ThirtyTwo.is c.requires, refl)
 
-lay-columns-requires-2 : tie.Need-lay-columns-requires-2
+lay-columns-requires-2 : tie.Need-lay_columns-requires-in_default
 lay-columns-requires-2 c κs =
-    let t = c.before in
-    let s = of-sixteen t in
-    (subst (Asked s) t.enum-told2.given.1 s.pre, refl)
+    (subst (Asked c.before.before.before) c.in_default.is c.requires, refl)
 
 -- The alphabet is that of thirty-two symbols, whose columns have been laid.
-returns : tie.Need-returns
+returns : tie.Need-returns-in-ThirtyTwo
 returns c =
-    let t = c.before.before in
-    subst (Laid (of-thirty-two t) c.lay-columns.new.1.1.1.0) (sym t.enum_told.given.1) c.lay-columns.ensures
+    subst (Laid c.before.before.before.before c.lay_columns.new.columns) (sym c.in-ThirtyTwo.is) c.lay_columns.ensures
 
 -- The alphabet is that of sixteen symbols, whose columns have been laid.
-returns-2 : tie.Need-returns-2
+returns-2 : tie.Need-returns-in_default
 returns-2 c =
-    let t = c.before.before in
-    subst (Laid (of-sixteen t) c.lay-columns2.new.1.1.1.0) (sym t.enum-told2.given.1) c.lay-columns2.ensures
+    subst (Laid c.before.before.before.before c.lay_columns-in_default.new.columns) (sym c.in_default.is) c.lay_columns-in_default.ensures
 
-pub in-columns-spec : {M : Type 1} → statement M
-in-columns-spec =
+pub in_columns_spec : {M : Type 1} → statement M
+in_columns_spec =
     tie.close
     (tie.spec
     (λ c. search rules)

@@ -14,63 +14,52 @@ use Rattle.matrix.proofs.lay_columns.Statement.{statement}
 use Rattle.matrix.proofs.lay_columns.Tie as tie
 
 -- The columns of the first i positions are laid, and zeros stand behind them.
-abbrev invariant-loop : tie.invariant-loop
+abbrev invariant-loop : tie.invariant-loop-i
 invariant-loop alphabet entries n columns₀ i₀ columns i = (i ≤ n) × (columns ≡ matrix_of (code_on alphabet) entries i)
 
-abbrev decreases-loop : tie.decreases-loop
+abbrev decreases-loop : tie.decreases-loop-i
 decreases-loop alphabet entries n columns₀ i₀ columns i = n - i
 
-loop-holds : tie.Need-loop-init invariant-loop decreases-loop
+loop-holds : tie.Need-loop-i-init invariant-loop decreases-loop
 loop-holds c =
-    let s = c.before in
-    (omega arith, s.requires.1 ∙ map_none (column_of (code_on s.args.alphabet) s.args.entries.now) zero_columns)
-
-abbrev entry : tie.At-loop invariant-loop decreases-loop → tie.Start invariant-loop decreases-loop
-entry l = l.before.before
+    (omega arith, c.requires.1 ∙ map_none (column_of (code_on c.args.alphabet) c.args.entries.now) zero_columns)
 
 -- the position has a column
-there : (c : tie.In-loop invariant-loop decreases-loop) → c.before.loop.i < most_positions
+there : (c : tie.In-loop-i invariant-loop decreases-loop) → c.loop-i.i < most_positions
 there c =
-    let s = entry c.before in
-    let z = sized s.args.alphabet in
-    let h = s.pre.0.0 in
+    let z = sized c.args.alphabet in
+    let h = c.requires.0.0 in
     omega arith
 
-mul-lay-column : tie.Need-overflow-mul-lay-column invariant-loop decreases-loop
+mul-lay-column : tie.Need-offset_bounds-columns-i invariant-loop decreases-loop
 mul-lay-column c = let h = there c in omega arith
 
-index-1-lay-column : tie.Need-bounds-1-lay-column invariant-loop decreases-loop
+index-1-lay-column : tie.Need-bounds-columns-i invariant-loop decreases-loop
 index-1-lay-column c = let h = there c in omega arith
 
-lay-column-requires : tie.Need-lay-column-requires invariant-loop decreases-loop
+lay-column-requires : tie.Need-lay_column-requires invariant-loop decreases-loop
 lay-column-requires c κs =
-    let n = c.before in
-    let l = n.before in
-    let s = entry l in
-    let C = code_on s.args.alphabet in (
-      (omega arith, row_within C.symbols l.loop.i s.args.n (length s.args.entries.now) n.loop-test.true s.pre.0.1),
-      ap (λ (m : List (List ℕ)). get_or m l.loop.i []) l.loop.invariant.1 ∙ next_column C s.args.entries.now l.loop.i (there n),
+    let C = code_on c.args.alphabet in (
+      (omega arith, row_within C.symbols c.loop-i.i c.args.n (length c.args.entries.now) c.loop-i-test.true c.requires.0.1),
+      ap (λ (m : List (List ℕ)). get_or m c.loop-i.i []) c.loop-i.invariant.1 ∙ next_column C c.args.entries.now c.loop-i.i (there c.before),
     )
 
-loop-again : tie.Need-loop-preserved invariant-loop decreases-loop
+loop-again : tie.Need-loop-i-preserved invariant-loop decreases-loop
 loop-again c =
-    let n = c.before.before in
-    let l = n.before in
-    let a = (entry l).args in (
+    let a = c.args in (
       omega arith,
-      map_more (column_of (code_on a.alphabet) a.entries.now) zero_columns l.loop.columns l.loop.i
-          c.lay-column.new.1.1.1.0 (there n) l.loop.invariant.1 c.lay-column.ensures,
+      map_more (column_of (code_on a.alphabet) a.entries.now) zero_columns c.loop-i.columns c.loop-i.i
+          c.lay_column.new.col (there c.before.before) c.loop-i.invariant.1 c.lay_column.ensures,
     )
 
 -- The loop has ended at i = n, so the columns of all positions are laid.
 returns : tie.Need-returns invariant-loop decreases-loop
 returns c =
-    let l = c.before in
-    let e : l.loop.i ≡ (entry l).args.n = omega arith in
-    rw e at l.loop.invariant.1
+    let e : c.loop-i.i ≡ c.args.n = omega arith in
+    rw e at c.loop-i.invariant.1
 
-pub lay-columns-spec : {M : Type 1} → statement M
-lay-columns-spec =
+pub lay_columns_spec : {M : Type 1} → statement M
+lay_columns_spec =
     tie.close
     (tie.spec
     invariant-loop

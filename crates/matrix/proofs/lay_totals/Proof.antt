@@ -14,53 +14,46 @@ use Rattle.matrix.proofs.lay_totals.Statement.{statement}
 use Rattle.matrix.proofs.lay_totals.Tie as tie
 
 -- The totals of the first i columns are laid, and behind them the memory is as it was.
-abbrev invariant-loop : tie.invariant-loop
+abbrev invariant-loop : tie.invariant-loop-i
 invariant-loop alphabet entries totals₀ positions i₀ totals i =
     (i ≤ (code_on alphabet).positions) × (length totals ≡ length totals₀) × (totals ≡ map (sum_of_column (code_on alphabet) entries) (below i) ++ drop i totals₀)
 
-abbrev decreases-loop : tie.decreases-loop
+abbrev decreases-loop : tie.decreases-loop-i
 decreases-loop alphabet entries totals₀ positions i₀ totals i = (code_on alphabet).positions - i
 
-loop-holds : tie.Need-loop-init invariant-loop decreases-loop
+loop-holds : tie.Need-loop-i-init invariant-loop decreases-loop
 loop-holds c =
-    let a = c.before.before.before.args in
+    let a = c.args in
     (omega arith, refl, map_none (sum_of_column (code_on a.alphabet) a.entries.now) a.totals.now)
 
-abbrev entry : tie.At-loop invariant-loop decreases-loop → tie.Start invariant-loop decreases-loop
-entry l = l.before.before.before.before
-
-column-total-requires : tie.Need-column-total-requires invariant-loop decreases-loop
+column-total-requires : tie.Need-column_total-requires invariant-loop decreases-loop
 column-total-requires c κs =
-    let l = c.before in
-    let s = entry l in
-    let C = code_on s.args.alphabet in
-    let i : l.loop.i < C.positions = omega arith in
-    (i, row_within C.symbols l.loop.i C.positions (length s.args.entries.now) i (omega arith))
+    let C = code_on c.args.alphabet in
+    let i : c.loop-i.i < C.positions = omega arith in
+    (i, row_within C.symbols c.loop-i.i C.positions (length c.args.entries.now) i (omega arith))
 
-mul-totals : tie.Need-overflow-mul-totals invariant-loop decreases-loop
-mul-totals c = let z = sized (entry c.before.before).args.alphabet in omega arith
+mul-totals : tie.Need-offset_bounds-totals-i invariant-loop decreases-loop
+mul-totals c = let z = sized c.args.alphabet in omega arith
 
-loop-again : tie.Need-loop-preserved invariant-loop decreases-loop
+loop-again : tie.Need-loop-i-preserved invariant-loop decreases-loop
 loop-again c =
-    let l = c.before.before in
-    let a = (entry l).args in
-    let total = c.column-total.result in (
+    let a = c.args in
+    let total = c.column_total.result in (
       omega arith,
-      length-set l.loop.totals l.loop.i total ∙ l.loop.invariant.1,
-      map_more (sum_of_column (code_on a.alphabet) a.entries.now) a.totals.now l.loop.totals l.loop.i total (omega arith)
-          l.loop.invariant.2 c.column-total.ensures,
+      length-set c.loop-i.totals c.loop-i.i total ∙ c.loop-i.invariant.1,
+      map_more (sum_of_column (code_on a.alphabet) a.entries.now) a.totals.now c.loop-i.totals c.loop-i.i total (omega arith)
+          c.loop-i.invariant.2 c.column_total.ensures,
     )
 
 -- The loop has ended at i = positions, so all totals are laid.
 returns : tie.Need-returns invariant-loop decreases-loop
 returns c =
-    let l = c.before in
-    let a = (entry l).args in
+    let a = c.args in
     let C = code_on a.alphabet in
-    map_whole (sum_of_column C a.entries.now) a.totals.now l.loop.totals l.loop.i C.positions (omega arith) (omega arith) l.loop.invariant.2
+    map_whole (sum_of_column C a.entries.now) a.totals.now c.loop-i.totals c.loop-i.i C.positions (omega arith) (omega arith) c.loop-i.invariant.2
 
-pub lay-totals-spec : {M : Type 1} → statement M
-lay-totals-spec =
+pub lay_totals_spec : {M : Type 1} → statement M
+lay_totals_spec =
     tie.close
     (tie.spec
     invariant-loop

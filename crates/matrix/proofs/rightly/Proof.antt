@@ -20,90 +20,64 @@ handed s = held s.args.n s.args.cost s.args.totals.now s.args.entries.now
 abbrev code : tie.Start → Code
 code s = code_on s.args.alphabet
 
--- the entry, from where the first tests have passed
-abbrev at_first : tie.Else1 → tie.Start
-at_first e = e.before.before.before.before
-
-abbrev at_second : tie.Else2 → tie.Start
-at_second e = at_first e.before.before
-
-abbrev at-third : tie.Else3 → tie.Start
-at-third e = at_second e.before.before
-
 -- what each of them says there
-counted : (c : tie.Else1) → (let s = at_first c in counts (code s) (handed s) ≡ true)
-counted c = eq-eqb _ _ (c.if1.false ∙ c.before.positions.ensures)
+counted : (c : tie.Else-totals-positions) → (counts (code c.before.before.before.before) (handed c.before.before.before.before) ≡ true)
+counted c = eq-eqb _ _ (c.if-totals-positions.false ∙ c.positions-positions.ensures)
 
-full : (c : tie.Else2) → (let s = at_second c in length s.args.entries.now ≡ places (code s))
-full c = c.if2.false ∙ c.before.places.ensures
+full : (c : tie.Else-entries-places) → (length c.args.entries.now ≡ places (code c.before.before.before.before.before.before))
+full c = c.if-entries-places.false ∙ c.places-places.ensures
 
-filled : (c : tie.Else2) → (let s = at_second c in fills (code s) (handed s) ≡ true)
+filled : (c : tie.Else-entries-places) → (fills (code c.before.before.before.before.before.before) (handed c.before.before.before.before.before.before) ≡ true)
 filled c = eq-eqb _ _ (full c)
 
-totalled : (c : tie.Else3) → (let s = at-third c in totals_right (code s) s.args.totals.now s.args.entries.now ≡ true)
-totalled c = sym c.before.totals-right.ensures ∙ not-false _ c.if3.false
+totalled : (c : tie.Else-not-totals_right) → (totals_right (code c.before.before.before.before.before.before.before.before) c.args.totals.now c.args.entries.now ≡ true)
+totalled c = sym c.totals_right.ensures ∙ c.if-not-totals_right.false
 
 -- There are not as many totals as positions.
-returns : tie.Need-returns
+returns : tie.Need-returns-then-totals-positions
 returns c =
-    let s = c.before.before.before.before in
-    wrong_count (code s) (handed s) (ne_eqb _ _ (λ e. c.if1.true (e ∙ sym c.before.positions.ensures)))
+    wrong_count (code c.before.before.before.before) (handed c.before.before.before.before) (ne_eqb _ _ (λ e. c.if-totals-positions.true (e ∙ sym c.positions-positions.ensures)))
 
 -- There are not as many entries as places.
-returns-2 : tie.Need-returns-2
+returns-2 : tie.Need-returns-then-entries-places
 returns-2 c =
-    let first = c.before.before in
-    let s = at_first first in
-    wrong_size (code s) (handed s) (counted first) (ne_eqb _ _ (λ e. c.if2.true (e ∙ sym c.before.places.ensures)))
+    wrong_size (code c.before.before.before.before.before.before) (handed c.before.before.before.before.before.before) (counted c.before.before) (ne_eqb _ _ (λ e. c.if-entries-places.true (e ∙ sym c.places-places.ensures)))
 
-totals-right-requires : tie.Need-totals-right-requires
-totals-right-requires c κs = let first = c.before.before in (first.if1.false ∙ first.before.positions.ensures, full c)
+totals-right-requires : tie.Need-totals_right-requires
+totals-right-requires c κs = (c.if-totals-positions.false ∙ c.positions-positions.ensures, full c)
 
 -- A total is not its column's.
-returns-3 : tie.Need-returns-3
+returns-3 : tie.Need-returns-then-not-totals_right
 returns-3 c =
-    let t = c.before in
-    let second = t.before in
-    let s = at_second second in
-    wrong_total (code s) (handed s) (counted second.before.before) (filled second) (sym t.totals-right.ensures ∙ not-true _ c.if3.true)
+    wrong_total (code c.before.before.before.before.before.before.before.before) (handed c.before.before.before.before.before.before.before.before) (counted c.before.before.before.before) (filled c.before.before) (sym c.totals_right.ensures ∙ c.if-not-totals_right.true)
 
 cost-requires : tie.Need-cost-requires
 cost-requires c κs =
-    let second = c.before.before in
-    let f = full second in
-    let m = places_within (at_second second).args.alphabet in
+    let f = full c.before.before in
+    let m = places_within c.args.alphabet in
     omega arith
 
 -- The stored cost is not that of the entries.
-returns-4 : tie.Need-returns-4
+returns-4 : tie.Need-returns-then-cost
 returns-4 c =
-    let p = c.before in
-    let third = p.before in
-    let second = third.before.before in
-    let s = at-third third in
-    let h = handed s in
-    let counts : p.cost.result ≡ cost h.entries = p.cost.ensures in
-    wrong_cost (code s) h (counted second.before.before) (filled second) (totalled third)
+    let h = handed c.before.before.before.before.before.before.before.before.before.before in
+    let counts : c.cost.result ≡ cost h.entries = c.cost.ensures in
+    wrong_cost (code c.before.before.before.before.before.before.before.before.before.before) h (counted c.before.before.before.before.before.before) (filled c.before.before.before.before) (totalled c.before.before)
     (ne_eqb h.cost (cost h.entries) (λ (same : h.cost ≡ cost h.entries). let z : ⊥ = omega arith in z))
 
-unused-zero-requires : tie.Need-unused-zero-requires
+unused-zero-requires : tie.Need-unused_zero-requires
 unused-zero-requires c κs = full c.before.before.before.before
 
 -- All else is right, so the unused columns decide.
-returns-5 : tie.Need-returns-5
+returns-5 : tie.Need-returns
 returns-5 c =
-    let fourth = c.before in
-    let p = fourth.before in
-    let third = p.before in
-    let second = third.before.before in
-    let s = at-third third in
-    let h = handed s in
-    let counts : p.cost.result ≡ cost h.entries = p.cost.ensures in
-    rest_decides (code s) h (counted second.before.before) (filled second) (totalled third) c.unused-zero.result
-    (eq-eqb h.cost (cost h.entries) (omega arith)) c.unused-zero.ensures
+    let h = handed c.before.before.before.before.before.before.before.before.before.before.before in
+    let counts : c.cost.result ≡ cost h.entries = c.cost.ensures in
+    rest_decides (code c.before.before.before.before.before.before.before.before.before.before.before) h (counted c.before.before.before.before.before.before.before) (filled c.before.before.before.before.before) (totalled c.before.before.before) c.unused_zero.result
+    (eq-eqb h.cost (cost h.entries) (omega arith)) c.unused_zero.ensures
 
-pub rightly-spec : {M : Type 1} → statement M
-rightly-spec =
+pub rightly_spec : {M : Type 1} → statement M
+rightly_spec =
     tie.close
     (tie.spec
     (λ c κs. search rules)

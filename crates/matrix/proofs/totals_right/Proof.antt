@@ -16,60 +16,50 @@ use Rattle.matrix.proofs.totals_right.Statement.{statement}
 use Rattle.matrix.proofs.totals_right.Tie as tie
 
 -- The totals of the first i columns are right.
-abbrev invariant-loop : tie.invariant-loop
+abbrev invariant-loop : tie.invariant-loop-i
 invariant-loop alphabet totals entries positions i₀ i = (i ≤ (code_on alphabet).positions) × (every i (is_total (code_on alphabet) totals entries) ≡ true)
 
-abbrev decreases-loop : tie.decreases-loop
+abbrev decreases-loop : tie.decreases-loop-i
 decreases-loop alphabet totals entries positions i₀ i = (code_on alphabet).positions - i
 
-loop-holds : tie.Need-loop-init invariant-loop decreases-loop
-loop-holds c = let a = c.before.before.before.args in (omega arith, every_none (is_total (code_on a.alphabet) a.totals.now a.entries.now))
+loop-holds : tie.Need-loop-i-init invariant-loop decreases-loop
+loop-holds c = let a = c.args in (omega arith, every_none (is_total (code_on a.alphabet) a.totals.now a.entries.now))
 
-abbrev entry : tie.At-loop invariant-loop decreases-loop → tie.Start invariant-loop decreases-loop
-entry l = l.before.before.before.before
+mul-if1 : tie.Need-offset_bounds-totals-i invariant-loop decreases-loop
+mul-if1 c = let z = sized c.args.alphabet in omega arith
 
-mul-if1 : tie.Need-overflow-mul-if1 invariant-loop decreases-loop
-mul-if1 c = let z = sized (entry c.before).args.alphabet in omega arith
-
-column-total-requires : tie.Need-column-total-requires invariant-loop decreases-loop
+column-total-requires : tie.Need-column_total-requires invariant-loop decreases-loop
 column-total-requires c κs =
-    let l = c.before.before in
-    let s = entry l in
-    let C = code_on s.args.alphabet in
-    let i : l.loop.i < C.positions = omega arith in
-    (i, row_within C.symbols l.loop.i C.positions (length s.args.entries.now) i (omega arith))
+    let C = code_on c.args.alphabet in
+    let i : c.loop-i.i < C.positions = omega arith in
+    (i, row_within C.symbols c.loop-i.i C.positions (length c.args.entries.now) i (omega arith))
 
 -- The total at i is not its column's, so not every total is right.
-returns : tie.Need-returns invariant-loop decreases-loop
+returns : tie.Need-returns-then-totals-i invariant-loop decreases-loop
 returns c =
-    let t = c.before in
-    let l = t.before.before.before in
-    let a = (entry l).args in
+    let a = c.args in
     let C = code_on a.alphabet in
     sym
-    (every_but (is_total C a.totals.now a.entries.now) C.positions l.loop.i (omega arith)
-    (total_is_not C a.totals.now a.entries.now l.loop.i t.column-total.result t.column-total.ensures c.if1.true))
+    (every_but (is_total C a.totals.now a.entries.now) C.positions c.loop-i.i (omega arith)
+    (total_is_not C a.totals.now a.entries.now c.loop-i.i c.column_total.result c.column_total.ensures c.if-totals-i.true))
 
-loop-again : tie.Need-loop-preserved invariant-loop decreases-loop
+loop-again : tie.Need-loop-i-preserved invariant-loop decreases-loop
 loop-again c =
-    let t = c.before in
-    let l = t.before.before.before in
-    let a = (entry l).args in
+    let a = c.args in
     let C = code_on a.alphabet in (
       omega arith,
-      every_more (is_total C a.totals.now a.entries.now) l.loop.i l.loop.invariant.1
-          (total_is C a.totals.now a.entries.now l.loop.i t.column-total.result t.column-total.ensures c.if1.false),
+      every_more (is_total C a.totals.now a.entries.now) c.loop-i.i c.loop-i.invariant.1
+          (total_is C a.totals.now a.entries.now c.loop-i.i c.column_total.result c.column_total.ensures c.if-totals-i.false),
     )
 
 -- The loop has ended at i = positions, so every total is right.
-returns-2 : tie.Need-returns-2 invariant-loop decreases-loop
+returns-2 : tie.Need-returns invariant-loop decreases-loop
 returns-2 c =
-    let l = c.before in
-    let e : l.loop.i ≡ (code_on (entry l).args.alphabet).positions = omega arith in
-    sym (rw e at l.loop.invariant.1)
+    let e : c.loop-i.i ≡ (code_on c.args.alphabet).positions = omega arith in
+    sym (rw e at c.loop-i.invariant.1)
 
-pub totals-right-spec : {M : Type 1} → statement M
-totals-right-spec =
+pub totals_right_spec : {M : Type 1} → statement M
+totals_right_spec =
     tie.close
     (tie.spec
     invariant-loop

@@ -9,34 +9,31 @@ use Rattle.memory.proofs.all_zero.Statement.{statement}
 use Rattle.memory.proofs.all_zero.Tie as tie
 
 -- Before i there are zeros only: the list is zero where the rest from i on is.
-abbrev invariant-loop : tie.invariant-loop
+abbrev invariant-loop : tie.invariant-loop-i
 invariant-loop list i₀ i = (i ≤ length list) × (is_zero list ≡ is_zero (drop i list))
 
-abbrev decreases-loop : tie.decreases-loop
+abbrev decreases-loop : tie.decreases-loop-i
 decreases-loop list i₀ i = length list - i
 
-loop-holds : tie.Need-loop-init invariant-loop decreases-loop
+loop-holds : tie.Need-loop-i-init invariant-loop decreases-loop
 loop-holds c = (omega arith, refl)
 
 -- The entry at i is not zero, so the list is not.
-returns : tie.Need-returns invariant-loop decreases-loop
+returns : tie.Need-returns-then-list-i-ne0 invariant-loop decreases-loop
 returns c =
-    let l = c.before.before.before in
-    zero_stops l.before.args.list.now l.loop.i (omega arith) l.loop.invariant.1 c.if1.true
+    zero_stops c.args.list.now c.loop-i.i (omega arith) c.loop-i.invariant.1 c.if-list-i-ne0.true
 
-loop-again : tie.Need-loop-preserved invariant-loop decreases-loop
+loop-again : tie.Need-loop-i-preserved invariant-loop decreases-loop
 loop-again c =
-    let l = c.before.before.before in
-    (omega arith, zero_goes_on l.before.args.list.now l.loop.i (omega arith) l.loop.invariant.1 c.if1.false)
+    (omega arith, zero_goes_on c.args.list.now c.loop-i.i (omega arith) c.loop-i.invariant.1 c.if-list-i-ne0.false)
 
 -- The loop has ended at the length: nothing is left, so the list is zero.
-returns-2 : tie.Need-returns-2 invariant-loop decreases-loop
+returns-2 : tie.Need-returns invariant-loop decreases-loop
 returns-2 c =
-    let l = c.before in
-    zero_ends l.before.args.list.now l.loop.i (omega arith) l.loop.invariant.1
+    zero_ends c.args.list.now c.loop-i.i (omega arith) c.loop-i.invariant.1
 
-pub all-zero-spec : {M : Type 1} → statement M
-all-zero-spec =
+pub all_zero_spec : {M : Type 1} → statement M
+all_zero_spec =
     tie.close
     (tie.spec
     invariant-loop

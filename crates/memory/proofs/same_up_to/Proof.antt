@@ -16,44 +16,38 @@ abbrev isSame : List ℕ → List ℕ → ℕ → Bool
 isSame l o j = eqb (get_or l j 0) (get_or o j 0)
 
 -- The entries before i are the same in both lists.
-abbrev invariant-loop : tie.invariant-loop
+abbrev invariant-loop : tie.invariant-loop-i
 invariant-loop n list other i₀ i = (i ≤ n) × (every i (isSame list other) ≡ true)
 
-abbrev decreases-loop : tie.decreases-loop
+abbrev decreases-loop : tie.decreases-loop-i
 decreases-loop n list other i₀ i = n - i
 
-abbrev at-loop : tie.After-shared-slice-known2 invariant-loop decreases-loop → tie.At-loop invariant-loop decreases-loop
-at-loop c = c.before.before.before
-
-loop-holds : tie.Need-loop-init invariant-loop decreases-loop
+loop-holds : tie.Need-loop-i-init invariant-loop decreases-loop
 loop-holds c = let a = c.args in (omega arith, every_none (isSame a.list.now a.other.now))
 
 -- The entries at i differ, and i is below n: not all are the same.
-returns : tie.Need-returns invariant-loop decreases-loop
+returns : tie.Need-returns-then-list-i invariant-loop decreases-loop
 returns c =
-    let l = at-loop c.before in
-    let a = l.before.args in
-    let here = l.loop.i in
-    let differ = ne_eqb (get_or a.list.now here 0) (get_or a.other.now here 0) c.if1.true in
+    let a = c.args in
+    let here = c.loop-i.i in
+    let differ = ne_eqb (get_or a.list.now here 0) (get_or a.other.now here 0) c.if-list-i.true in
     sym (every_but (isSame a.list.now a.other.now) a.n here (omega arith) differ)
 
-loop-again : tie.Need-loop-preserved invariant-loop decreases-loop
+loop-again : tie.Need-loop-i-preserved invariant-loop decreases-loop
 loop-again c =
-    let l = at-loop c.before in
-    let a = l.before.args in
-    let here = l.loop.i in
-    let agree = eq-eqb (get_or a.list.now here 0) (get_or a.other.now here 0) c.if1.false in
-    (omega arith, every_more (isSame a.list.now a.other.now) here l.loop.inv.1 agree)
+    let a = c.args in
+    let here = c.loop-i.i in
+    let agree = eq-eqb (get_or a.list.now here 0) (get_or a.other.now here 0) c.if-list-i.false in
+    (omega arith, every_more (isSame a.list.now a.other.now) here c.loop-i.invariant.1 agree)
 
 -- The loop has ended at i = n, so all entries before n are the same.
-returns-2 : tie.Need-returns-2 invariant-loop decreases-loop
+returns-2 : tie.Need-returns invariant-loop decreases-loop
 returns-2 c =
-    let l = c.before in
-    let e : l.loop.i ≡ l.before.args.n = omega arith in
-    sym (rw e at l.loop.invariant.1)
+    let e : c.loop-i.i ≡ c.args.n = omega arith in
+    sym (rw e at c.loop-i.invariant.1)
 
-pub same-up-to-spec : {M : Type 1} → statement M
-same-up-to-spec =
+pub same_up_to_spec : {M : Type 1} → statement M
+same_up_to_spec =
     tie.close
     (tie.spec
     invariant-loop

@@ -15,51 +15,44 @@ use Rattle.monomials.proofs.powers.Statement.{statement}
 use Rattle.monomials.proofs.powers.Tie as tie
 
 -- The first e entries are the powers of x, and next is power e.
-abbrev invariant-loop : tie.invariant-loop
+abbrev invariant-loop : tie.invariant-loop-e
 invariant-loop alphabet table x n row₀ next₀ e₀ row next e = (e ≤ n) × (next ≡ power (numbers (code_on alphabet)) x e) × Filling n e (power (numbers (code_on alphabet)) x) row
 
-abbrev decreases-loop : tie.decreases-loop
+abbrev decreases-loop : tie.decreases-loop-e
 decreases-loop alphabet table x n row₀ next₀ e₀ row next e = n - e
 
-loop-holds : tie.Need-loop-init invariant-loop decreases-loop
+loop-holds : tie.Need-loop-e-init invariant-loop decreases-loop
 loop-holds c =
-    let a = c.before.args in
+    let a = c.args in
     let C = code_on a.alphabet in
-    (omega arith, sym (power_zero (numbers C) a.x), filling_none a.n (power (numbers C) a.x) a.row.now c.before.requires.1.2)
+    (omega arith, sym (power_zero (numbers C) a.x), filling_none a.n (power (numbers C) a.x) a.row.now c.requires.1.2)
 
-abbrev entry : tie.At-loop invariant-loop decreases-loop → tie.Start invariant-loop decreases-loop
-entry l = l.before.before
-
-look-requires : tie.Need-look-requires invariant-loop decreases-loop
+look-requires : tie.Need-look-next-requires invariant-loop decreases-loop
 look-requires c κs =
-    let l = c.before in
-    let s = entry l in
-    let a = s.args in
+    let a = c.args in
     let C = code_on a.alphabet in
-    let symbol = power_symbol C (field_on a.alphabet) a.x (omega arith) l.loop.e in
-    (s.pre.0, (omega arith, subst (λ (p : ℕ). p < C.symbols) (sym l.loop.invariant.1) symbol))
+    let symbol = power_symbol C (field_on a.alphabet) a.x (omega arith) c.loop-e.e in
+    (c.requires.0, (omega arith, subst (λ (p : ℕ). p < C.symbols) (sym c.loop-e.invariant.1) symbol))
 
-loop-again : tie.Need-loop-preserved invariant-loop decreases-loop
+loop-again : tie.Need-loop-e-preserved invariant-loop decreases-loop
 loop-again c =
-    let l = c.before.before in
-    let a = (entry l).args in
+    let a = c.args in
     let C = code_on a.alphabet in (
       omega arith,
-      c.look.ensures ∙ ap (C.times a.x) l.loop.invariant.1 ∙ sym (power_suc (numbers C) a.x l.loop.e)
-          ∙ ap (power (numbers C) a.x) (sym (add-one l.loop.e)),
-      filling_more a.n (power (numbers C) a.x) l.loop.e l.loop.next l.loop.row (omega arith) (omega arith) l.loop.invariant.2 l.loop.invariant.1,
+      c.look-next.ensures ∙ ap (C.times a.x) c.loop-e.invariant.1 ∙ sym (power_suc (numbers C) a.x c.loop-e.e)
+          ∙ ap (power (numbers C) a.x) (sym (add-one c.loop-e.e)),
+      filling_more a.n (power (numbers C) a.x) c.loop-e.e c.loop-e.next c.loop-e.row (omega arith) (omega arith) c.loop-e.invariant.2 c.loop-e.invariant.1,
     )
 
 -- The loop has ended at e = n, so the first n powers are filled in.
 returns : tie.Need-returns invariant-loop decreases-loop
 returns c =
-    let l = c.before in
-    let a = (entry l).args in
-    let e : l.loop.e ≡ a.n = omega arith in
-    filling_whole a.n (power (numbers (code_on a.alphabet)) a.x) l.loop.row (omega arith) (rw e at l.loop.invariant.2)
+    let a = c.args in
+    let e : c.loop-e.e ≡ a.n = omega arith in
+    filling_whole a.n (power (numbers (code_on a.alphabet)) a.x) c.loop-e.row (omega arith) (rw e at c.loop-e.invariant.2)
 
-pub powers-spec : {M : Type 1} → statement M
-powers-spec =
+pub powers_spec : {M : Type 1} → statement M
+powers_spec =
     tie.close
     (tie.spec
     invariant-loop

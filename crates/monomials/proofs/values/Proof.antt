@@ -20,40 +20,28 @@ GivenOf s w = let a = s.args in Tabled (code_on w) a.table.now × (Symbols (code
 abbrev ValuesOf : tie.Start → List ℕ → Alphabet → Type 0
 ValuesOf s row w = let a = s.args in row ≡ values_row (code_on w) a.count a.px.now a.py.now a.es.now
 
-abbrev of-thirty-two : tie.After-enum-told → tie.Start
-of-thirty-two t = t.before.before.before
-
-abbrev of-sixteen : tie.After-enum-told2 → tie.Start
-of-sixteen t = t.before.before.before
-
-values-by-requires : tie.Need-values-by-requires
+values-by-requires : tie.Need-values_by-requires
 values-by-requires c κs =
-    let t = c.before in
-    let s = of-thirty-two t in
-    let g = subst (GivenOf s) t.enum_told.given.1 (s.pre.0, s.pre.1.0) in
-    (g.0, (g.1, s.pre.1.1))
+    let g = subst (GivenOf c.before.before.before) c.in-ThirtyTwo.is (c.requires.0, c.requires.1.0) in
+    (g.0, (g.1, c.requires.1.1))
 
-values-by-requires-2 : tie.Need-values-by-requires-2
+values-by-requires-2 : tie.Need-values_by-requires-in_default
 values-by-requires-2 c κs =
-    let t = c.before in
-    let s = of-sixteen t in
-    let g = subst (GivenOf s) t.enum-told2.given.1 (s.pre.0, s.pre.1.0) in
-    (g.0, (g.1, s.pre.1.1))
+    let g = subst (GivenOf c.before.before.before) c.in_default.is (c.requires.0, c.requires.1.0) in
+    (g.0, (g.1, c.requires.1.1))
 
 -- The alphabet is of 32 symbols: the values over these are those over it.
-returns : tie.Need-returns
+returns : tie.Need-returns-in-ThirtyTwo
 returns c =
-    let t = c.before.before in
-    subst (ValuesOf (of-thirty-two t) c.values-by.new.1.1.1.1.1.1.0) (sym t.enum_told.given.1) c.values-by.ensures
+    subst (ValuesOf c.before.before.before.before c.values_by.new.row) (sym c.in-ThirtyTwo.is) c.values_by.ensures
 
 -- The alphabet is of 16 symbols: the values over these are those over it.
-returns-2 : tie.Need-returns-2
+returns-2 : tie.Need-returns-in_default
 returns-2 c =
-    let t = c.before.before in
-    subst (ValuesOf (of-sixteen t) c.values-by2.new.1.1.1.1.1.1.0) (sym t.enum-told2.given.1) c.values-by2.ensures
+    subst (ValuesOf c.before.before.before.before c.values_by-in_default.new.row) (sym c.in_default.is) c.values_by-in_default.ensures
 
-pub values-spec : {M : Type 1} → statement M
-values-spec =
+pub values_spec : {M : Type 1} → statement M
+values_spec =
     tie.close
     (tie.spec
     (λ c. search rules)

@@ -19,15 +19,8 @@ use borrow.Author.Rules.{rules}
 use Rattle.offers.proofs.list_of_plan.Statement.{statement}
 use Rattle.offers.proofs.list_of_plan.Tie as tie
 
--- the first two checks, and the entry, from the last check before the columns
-abbrev at-limit : tie.After-symbols → tie.After-or
-at-limit c = let at-given = c.before.before.before.before in at-given.before.before
-
-abbrev at-sizes : tie.After-symbols → tie.After-sizes
-at-sizes c = (at-limit c).before
-
-abbrev entry : tie.After-symbols → tie.Start
-entry c = (at-sizes c).before.before.before.before.before
+abbrev entry : tie.After-symbols-settled → tie.Start
+entry c = c.before.before.before.before.before.before.before.before.before.before.before.before
 
 abbrev settings : tie.Start → List Line
 settings s =
@@ -50,76 +43,61 @@ settle s =
     let a = s.args in
     plan_fits (code_on a.alphabet) a.n a.k a.limit a.steps a.reliabilities.now a.plan.now (length a.rows.now) (length a.scores.now)
 
-settled : (c : tie.After-symbols) → Came (settings (entry c)) [] (told_checked c.symbols.result)
+settled : (c : tie.After-symbols-settled) → Came (settings c.before.before.before.before.before.before.before.before.before.before.before.before) [] (told_checked c.symbols-settled.result)
 settled c =
-    let scores = c.before in
-    let rows = scores.before in
-    let whole = rows.before in
-    let given = whole.before in
-    start ▸ (at-sizes c).sizes.ensures ▸ (at-limit c).or.ensures ▸ given.before.steps.ensures
-    ▸ given.entries.ensures ▸ whole.entries2.ensures ▸ rows.room.ensures ▸ scores.or2.ensures ▸ c.symbols.ensures
+    start ▸ c.sizes.ensures ▸ c.or.ensures ▸ c.steps.ensures
+    ▸ c.entries.ensures ▸ c.entries-2.ensures ▸ c.room.ensures ▸ c.or-2.ensures ▸ c.symbols-settled.ensures
 
-columns-checked-requires : tie.Need-columns-checked-requires
+columns-checked-requires : tie.Need-columns_checked-checked-requires
 columns-checked-requires c κs e =
-    let f = settle (entry c) (accepted (settled c) e) in
+    let f = settle c.before.before.before.before.before.before.before.before.before.before.before.before (accepted (settled c) e) in
     let full = f.1 in
     (f.0.sized.2, omega arith)
 
-came : (c : tie.After-columns-checked)
-    → (let s = entry c.before in Came (settings s ++ sums s) [] (told_checked c.columns-checked.result))
-came c = further (sums (entry c.before)) (settled c.before) ▸ c.columns-checked.ensures
+came : (c : tie.After-columns_checked-checked)
+    → (Came (settings c.before.before.before.before.before.before.before.before.before.before.before.before.before ++ sums c.before.before.before.before.before.before.before.before.before.before.before.before.before) [] (told_checked c.columns_checked-checked.result))
+came c = further (sums c.before.before.before.before.before.before.before.before.before.before.before.before.before) (settled c.before) ▸ c.columns_checked-checked.ensures
 
 -- the lines that are left: the cost and the rule
 abbrev left : tie.Start → List ℕ → List Line
 left s = let a = s.args in cost_and_plan_left a.limit a.reliabilities.now a.steps
 
 -- A check has refused: its refusal is answered, and no memory has changed.
-returns : tie.Need-returns
+returns : tie.Need-returns-in-Refused
 returns c =
-    let at-columns = c.before.before.before in
-    let s = entry at-columns.before in
-    let a = s.args in
-    refused_by_check (code_on a.alphabet) a.n a.k (left s) a.plan.now a.rows.now a.scores.now (came at-columns) c.before.checked.given.1
+    let a = c.args in
+    refused_by_check (code_on a.alphabet) a.n a.k (left c.before.before.before.before.before.before.before.before.before.before.before.before.before.before) a.plan.now a.rows.now a.scores.now (came c.before) c.in-Refused.is
 
 -- from where all checks have passed
-abbrev passed : tie.After-enum-told → tie.Start
-passed t = entry t.before.before.before
+abbrev passed : tie.In_default → tie.Start
+passed t = entry t.before.before
 
-fit : (t : tie.After-enum-told) → Settled (passed t)
-fit t = settle (passed t) (accepts_front _ (sums (passed t)) (accepted (came t.before.before) t.enum_told.given.1))
+fit : (t : tie.In_default) → Settled t.before.before.before.before.before.before.before.before.before.before.before.before.before.before
+fit t = settle t.before.before.before.before.before.before.before.before.before.before.before.before.before.before (accepts_front _ (sums t.before.before.before.before.before.before.before.before.before.before.before.before.before.before) (accepted (came t.before) t.in_default.is))
 
-turn-requires : tie.Need-turn-requires
+turn-requires : tie.Need-turn-cost-requires
 turn-requires c κs =
-    let t = c.before in
-    let a = (passed t).args in
-    let f = fit t in
+    let a = c.args in
+    let f = fit c.before in
     (bytes_within (code_on a.alphabet) a.n a.plan.now f.0.sized.2 f.2, omega arith)
 
-abbrev told : tie.After-turn → tie.After-enum-told
-told at_turn = at_turn.before.before
-
-list-planned-requires : tie.Need-list-planned-requires
+list-planned-requires : tie.Need-list_planned-requires
 list-planned-requires c κs =
-    let at_turn = c.before.before.before.before in
-    let f = fit (told at_turn) in
-    let a = (passed (told at_turn)).args in
-    (f.0, (turned_costs (code_on a.alphabet) a.n f.2 at_turn.turn.ensures, f.1))
+    let f = fit c.before.before.before.before.before.before in
+    let a = c.args in
+    (f.0, (turned_costs (code_on a.alphabet) a.n f.2 c.turn-cost.ensures, f.1))
 
 -- All checks have passed: list_planned tries the cost and the rule, and lists, of the record's
 -- bytes, which are those of the plan.
-returns-2 : tie.Need-returns-2
+returns-2 : tie.Need-returns
 returns-2 c =
-    let at-list = c.before.before.before.before in
-    let at_turn = at-list.before.before.before.before.before in
-    let t = told at_turn in
-    let s = passed t in
-    let a = s.args in
+    let a = c.args in
     let C = code_on a.alphabet in
-    passed_on C a.n a.k (left s) a.plan.now a.rows.now a.scores.now (came t.before.before) t.enum_told.given.1
-    (turned_bytes C a.n (fit t).2 at_turn.turn.ensures) _ _ _ at-list.list-planned.ensures
+    passed_on C a.n a.k (left c.before.before.before.before.before.before.before.before.before.before.before.before.before.before.before.before.before.before.before.before.before.before.before.before.before) a.plan.now a.rows.now a.scores.now (came c.before.before.before.before.before.before.before.before.before.before.before.before) c.in_default.is
+    (turned_bytes C a.n (fit c.before.before.before.before.before.before.before.before.before.before.before).2 c.turn-cost.ensures) _ _ _ c.list_planned.ensures
 
-pub list-of-plan-spec : {M : Type 1} → statement M
-list-of-plan-spec =
+pub list_of_plan_spec : {M : Type 1} → statement M
+list_of_plan_spec =
     tie.close
     (tie.spec
     (λ c κs. search rules)

@@ -22,18 +22,8 @@ use borrow.Author.Rules.{rules}
 use Rattle.offers.proofs.list_of_plan_of_parts.Statement.{statement}
 use Rattle.offers.proofs.list_of_plan_of_parts.Tie as tie
 
--- three checks, and the entry, from the last check before the columns
-abbrev at-given : tie.After-symbols → tie.After-entries
-at-given c = c.before.before.before.before.before
-
-abbrev at-limit : tie.After-symbols → tie.After-or
-at-limit c = (at-given c).before.before
-
-abbrev at-sizes : tie.After-symbols → tie.After-sizes
-at-sizes c = (at-limit c).before
-
-abbrev entry : tie.After-symbols → tie.Start
-entry c = let at-lengths = (at-sizes c).before.before in at-lengths.before.before.before.before
+abbrev entry : tie.After-symbols-settled → tie.Start
+entry c = c.before.before.before.before.before.before.before.before.before.before.before.before.before.before
 
 -- the record that the parts are of
 abbrev given : tie.Start → Held
@@ -59,68 +49,56 @@ settle s =
     let a = s.args in
     held_plan_fits (code_on a.alphabet) (given s) a.k a.limit a.steps a.reliabilities.now (length a.rows.now) (length a.scores.now)
 
-settled : (c : tie.After-symbols) → Came (settings (entry c)) [] (told_checked c.symbols.result)
+settled : (c : tie.After-symbols-settled) → Came (settings c.before.before.before.before.before.before.before.before.before.before.before.before.before.before) [] (told_checked c.symbols-settled.result)
 settled c =
-    let scores = c.before in
-    let rows = scores.before in
-    let stored = rows.before in
-    let whole = at-given c in
-    let s = entry c in
-    start ▸ (at-sizes c).sizes.ensures ▸ (at-limit c).or.ensures ▸ whole.before.steps.ensures ▸ whole.entries.ensures
-    ▸ stored_tried (code_on s.args.alphabet) (given s) (told_checked whole.entries.result) stored.or2.ensures stored.before.rightly.ensures
-    ▸ rows.room.ensures ▸ scores.or3.ensures ▸ c.symbols.ensures
+    start ▸ c.sizes.ensures ▸ c.or.ensures ▸ c.steps.ensures ▸ c.entries.ensures
+    ▸ stored_tried (code_on c.args.alphabet) (given c.before.before.before.before.before.before.before.before.before.before.before.before.before.before) (told_checked c.entries.result) c.or-2.ensures c.rightly.ensures
+    ▸ c.room.ensures ▸ c.or-3.ensures ▸ c.symbols-settled.ensures
 
-columns-checked-requires : tie.Need-columns-checked-requires
+columns-checked-requires : tie.Need-columns_checked-checked-requires
 columns-checked-requires c κs e =
-    let f = settle (entry c) (accepted (settled c) e) in
+    let f = settle c.before.before.before.before.before.before.before.before.before.before.before.before.before.before (accepted (settled c) e) in
     let full = f.1 in
     (f.0.sized.2, omega arith)
 
-came : (c : tie.After-columns-checked)
-    → (let s = entry c.before in Came (settings s ++ sums s) [] (told_checked c.columns-checked.result))
-came c = further (sums (entry c.before)) (settled c.before) ▸ c.columns-checked.ensures
+came : (c : tie.After-columns_checked-checked)
+    → (Came (settings c.before.before.before.before.before.before.before.before.before.before.before.before.before.before.before ++ sums c.before.before.before.before.before.before.before.before.before.before.before.before.before.before.before) [] (told_checked c.columns_checked-checked.result))
+came c = further (sums c.before.before.before.before.before.before.before.before.before.before.before.before.before.before.before) (settled c.before) ▸ c.columns_checked-checked.ensures
 
 -- the lines that are left: the cost and the rule
 abbrev left : tie.Start → List ℕ → List Line
 left s = let a = s.args in cost_and_plan_left a.limit a.reliabilities.now a.steps
 
 -- A check has refused: its refusal is answered, and no memory has changed.
-returns : tie.Need-returns
+returns : tie.Need-returns-in-Refused
 returns c =
-    let at-columns = c.before.before.before in
-    let s = entry at-columns.before in
-    let a = s.args in
+    let a = c.args in
     let C = code_on a.alphabet in
-    refused_by_check C a.n a.k (left s) (bytes_of C (given s)) a.rows.now a.scores.now (came at-columns) c.before.checked.given.1
+    refused_by_check C a.n a.k (left c.before.before.before.before.before.before.before.before.before.before.before.before.before.before.before.before) (bytes_of C (given c.before.before.before.before.before.before.before.before.before.before.before.before.before.before.before.before)) a.rows.now a.scores.now (came c.before) c.in-Refused.is
 
 -- from where all checks have passed
-abbrev passed : tie.After-enum-told → tie.Start
-passed t = entry t.before.before.before
+abbrev passed : tie.In_default → tie.Start
+passed t = entry t.before.before
 
-fit : (t : tie.After-enum-told) → Settled (passed t)
-fit t = settle (passed t) (accepts_front _ (sums (passed t)) (accepted (came t.before.before) t.enum_told.given.1))
+fit : (t : tie.In_default) → Settled t.before.before.before.before.before.before.before.before.before.before.before.before.before.before.before.before
+fit t = settle t.before.before.before.before.before.before.before.before.before.before.before.before.before.before.before.before (accepts_front _ (sums t.before.before.before.before.before.before.before.before.before.before.before.before.before.before.before.before) (accepted (came t.before) t.in_default.is))
 
-list-planned-requires : tie.Need-list-planned-requires
+list-planned-requires : tie.Need-list_planned-requires
 list-planned-requires c κs =
-    let t = c.before.before in
-    let s = passed t in
-    let f = fit t in
-    (f.0, (rightly_priced (code_on s.args.alphabet) (given s) f.2 f.0.sized.2, f.1))
+    let f = fit c.before.before in
+    (f.0, (rightly_priced (code_on c.args.alphabet) (given c.before.before.before.before.before.before.before.before.before.before.before.before.before.before.before.before.before.before) f.2 f.0.sized.2, f.1))
 
 -- All checks have passed: list_planned tries the stored cost and the rule, and lists, of the
 -- record's bytes.
-returns-2 : tie.Need-returns-2
+returns-2 : tie.Need-returns
 returns-2 c =
-    let at-list = c.before.before.before.before in
-    let t = at-list.before.before.before in
-    let s = passed t in
-    let a = s.args in
+    let a = c.args in
     let C = code_on a.alphabet in
-    passed_on C a.n a.k (left s) (bytes_of C (given s)) a.rows.now a.scores.now (came t.before.before) t.enum_told.given.1
-    refl _ _ _ at-list.list-planned.ensures
+    passed_on C a.n a.k (left c.before.before.before.before.before.before.before.before.before.before.before.before.before.before.before.before.before.before.before.before.before.before.before) (bytes_of C (given c.before.before.before.before.before.before.before.before.before.before.before.before.before.before.before.before.before.before.before.before.before.before.before)) a.rows.now a.scores.now (came c.before.before.before.before.before.before.before.before) c.in_default.is
+    refl _ _ _ c.list_planned.ensures
 
-pub list-of-plan-of-parts-spec : {M : Type 1} → statement M
-list-of-plan-of-parts-spec =
+pub list_of_plan_of_parts_spec : {M : Type 1} → statement M
+list_of_plan_of_parts_spec =
     tie.close
     (tie.spec
     (λ c κs. search rules)

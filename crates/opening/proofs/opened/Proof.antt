@@ -12,44 +12,34 @@ use Rattle.counter.specs.Verdict.{told_verdict}
 use Rattle.opening.proofs.opened.Statement.{statement}
 use Rattle.opening.proofs.opened.Tie as tie
 
-abbrev entry : tie.After-judge → tie.Start
-entry c = c.before.before.before
-
-abbrev open-entry : tie.After-enum-told → tie.Start
-open-entry c = entry c.before.before
-
 -- what is handed back, by whether it is opened
 abbrev handed : tie.Start → Bool → Part
 handed s opens = cond opens (front s.args.k s.args.rows) (front 0 s.args.rows)
 
 -- The page's answer is Open where the verdict is.
-opens : (c : tie.After-enum-told)
-    → (let a = (open-entry c).args in is_open (judge_answer (code_on a.alphabet) a.k a.rows.now a.scores.now a.lead) ≡ true)
-opens c = ap is_open (sym c.before.before.judge.ensures ∙ ap told_verdict c.enum_told.given.1)
+opens : (c : tie.In-Open)
+    → (let a = c.args in is_open (judge_answer (code_on a.alphabet) a.k a.rows.now a.scores.now a.lead) ≡ true)
+opens c = ap is_open (sym c.judge.ensures ∙ ap told_verdict c.in-Open.is)
 
 row-requires : tie.Need-row-requires
 row-requires c κs =
-    let a = (open-entry c).args in
+    let a = c.args in
     first_row_fits a.k (length a.rows.now) (row_there (code_on a.alphabet) a.k a.rows.now a.scores.now a.lead (opens c))
 
 -- The verdict is Open: the first row is handed back, and it lies where the list begins.
-returns : tie.Need-returns
+returns : tie.Need-returns-in-Open
 returns c =
-    let told-open = c.before in
-    let s = open-entry told-open in
-    front_row s.args.k s.args.rows c.row.result c.row.ensures.0 c.row.ensures.1 ∙ sym (ap (handed s) (opens told-open))
+    front_row c.args.k c.args.rows c.row.result c.row.ensures.0 c.row.ensures.1 ∙ sym (ap (handed c.before.before.before.before.before) (opens c.before))
 
 -- The verdict is another, or a refusal: an empty part at the list's beginning is handed back, as
 -- the page asks.
-returns-2 : tie.Need-returns-2
+returns-2 : tie.Need-returns
 returns-2 c =
-    let at-judge = c.before.before in
-    let s = entry at-judge in
-    let none : is_open (told_verdict at-judge.judge.result) ≡ false = other_verdict at-judge.judge.result c.before.match.keys2 in
-    empty_front s.args.rows ∙ sym (ap (handed s) (sym (ap is_open at-judge.judge.ensures) ∙ none))
+    let none : is_open (told_verdict c.judge.result) ≡ false = other_verdict c.judge.result c.in_default.keys2 in
+    empty_front c.args.rows ∙ sym (ap (handed c.before.before.before.before.before) (sym (ap is_open c.judge.ensures) ∙ none))
 
-pub opened-spec : {M : Type 1} → statement M
-opened-spec =
+pub opened_spec : {M : Type 1} → statement M
+opened_spec =
     tie.close
     (tie.spec
     (λ c κs. search rules)

@@ -15,12 +15,6 @@ use Rattle.counter.specs.Verdict.{told_verdict}
 use Rattle.opening.proofs.opened_both.Statement.{statement}
 use Rattle.opening.proofs.opened_both.Tie as tie
 
-abbrev entry : tie.After-judge-both → tie.Start
-entry c = c.before.before.before.before.before
-
-abbrev open-entry : tie.After-enum-told → tie.Start
-open-entry c = entry c.before.before
-
 -- what is handed back, by whether it is opened and whether the first list has no rows
 abbrev handed : tie.Start → Bool → Bool → Part
 handed s opens none =
@@ -28,62 +22,54 @@ handed s opens none =
     cond opens (front a.first.k (cond none a.others a.rows)) (front 0 a.rows)
 
 -- The page's answer is Open where the verdict is.
-opens : (c : tie.After-enum-told)
-    → (let a = (open-entry c).args in
+opens : (c : tie.In-Open)
+    → (let a = c.args in
     is_open (both_answer (code_on a.alphabet) a.first a.rows.now a.scores.now a.second a.others.now a.other-scores.now a.lead) ≡ true)
-opens c = ap is_open (sym c.before.before.judge_both.ensures ∙ ap told_verdict c.enum_told.given.1)
+opens c = ap is_open (sym c.judge_both.ensures ∙ ap told_verdict c.in-Open.is)
 
 -- The list that was judged has a first row: the second list where the first has no scores, the
 -- first otherwise.
-there : (c : tie.After-enum-told)
-    → (let a = (open-entry c).args in
+there : (c : tie.In-Open)
+    → (let a = c.args in
     (length a.scores.now ≡ 0 → a.first.k ≤ length a.others.now) × ((length a.scores.now ≡ 0 → ⊥) → a.first.k ≤ length a.rows.now))
 there c =
-    let a = (open-entry c).args in
+    let a = c.args in
     row_in_judged (code_on a.alphabet) a.first a.rows.now a.scores.now a.second a.others.now a.other-scores.now a.lead (opens c)
 
 row-requires : tie.Need-row-requires
 row-requires c κs =
-    let a = (open-entry c.before).args in
-    first_row_fits a.first.k (length a.others.now) ((there c.before).0 c.if1.true)
+    let a = c.args in
+    first_row_fits a.first.k (length a.others.now) ((there c.before).0 c.if-scores-eq0.true)
 
 -- The verdict is Open and the first list has no rows: the second list's first row is handed back,
 -- where that list begins.
-returns : tie.Need-returns
+returns : tie.Need-returns-then-scores-eq0
 returns c =
-    let at_test = c.before in
-    let told-open = at_test.before in
-    let s = open-entry told-open in
-    front_row s.args.first.k s.args.others c.row.result c.row.ensures.0 c.row.ensures.1
-    ∙ sym (ap₂ (handed s) (opens told-open) (eq-eqb _ _ at_test.if1.true))
+    front_row c.args.first.k c.args.others c.row.result c.row.ensures.0 c.row.ensures.1
+    ∙ sym (ap₂ (handed c.before.before.before.before.before.before.before.before) (opens c.before.before) (eq-eqb _ _ c.if-scores-eq0.true))
 
-row-requires-2 : tie.Need-row-requires-2
+row-requires-2 : tie.Need-row-requires-in-Open
 row-requires-2 c κs =
-    let a = (open-entry c.before).args in
-    first_row_fits a.first.k (length a.rows.now) ((there c.before).1 c.if1.false)
+    let a = c.args in
+    first_row_fits a.first.k (length a.rows.now) ((there c.before).1 c.if-scores-eq0.false)
 
 -- The verdict is Open and the first list has rows: its first row is handed back, where that list
 -- begins.
-returns-2 : tie.Need-returns-2
+returns-2 : tie.Need-returns-in-Open
 returns-2 c =
-    let at_test = c.before in
-    let told-open = at_test.before in
-    let s = open-entry told-open in
-    front_row s.args.first.k s.args.rows c.row2.result c.row2.ensures.0 c.row2.ensures.1
-    ∙ sym (ap₂ (handed s) (opens told-open) (ne_eqb _ _ at_test.if1.false))
+    front_row c.args.first.k c.args.rows c.row-in-Open.result c.row-in-Open.ensures.0 c.row-in-Open.ensures.1
+    ∙ sym (ap₂ (handed c.before.before.before.before.before.before.before.before) (opens c.before.before) (ne_eqb _ _ c.if-scores-eq0.false))
 
 -- The verdict is another, or a refusal: an empty part at the first list's beginning is handed back,
 -- as the page asks.
-returns-3 : tie.Need-returns-3
+returns-3 : tie.Need-returns
 returns-3 c =
-    let at-judge = c.before.before in
-    let s = entry at-judge in
-    let none : is_open (told_verdict at-judge.judge_both.result) ≡ false = other_verdict at-judge.judge_both.result c.before.match.keys2 in
-    empty_front s.args.rows
-    ∙ sym (ap (λ (b : Bool). handed s b (eqb (length s.args.scores.now) 0)) (sym (ap is_open at-judge.judge_both.ensures) ∙ none))
+    let none : is_open (told_verdict c.judge_both.result) ≡ false = other_verdict c.judge_both.result c.in_default.keys2 in
+    empty_front c.args.rows
+    ∙ sym (ap (λ (b : Bool). handed c.before.before.before.before.before.before.before b (eqb (length c.args.scores.now) 0)) (sym (ap is_open c.judge_both.ensures) ∙ none))
 
-pub opened-both-spec : {M : Type 1} → statement M
-opened-both-spec =
+pub opened_both_spec : {M : Type 1} → statement M
+opened_both_spec =
     tie.close
     (tie.spec
     (λ c κs. search rules)

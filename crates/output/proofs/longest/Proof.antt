@@ -8,12 +8,12 @@ use Rattle.output.proofs.longest.Statement.{statement}
 use Rattle.output.proofs.longest.Tie as tie
 
 -- Sixteen symbols: its constant is the number of the code on sixteen.
-returns : tie.Need-returns
-returns c = sym (ap (λ (w : Alphabet). longest_of (code_on w)) c.enum_told.given.1)
+returns : tie.Need-returns-in-Sixteen
+returns c = sym (ap (λ (w : Alphabet). longest_of (code_on w)) c.in-Sixteen.is)
 
 -- Thirty-two symbols: its constant is the number of the code on thirty-two.
-returns-2 : tie.Need-returns-2
-returns-2 c = sym (ap (λ (w : Alphabet). longest_of (code_on w)) c.enum-told2.given.1)
+returns-2 : tie.Need-returns-in-ThirtyTwo
+returns-2 c = sym (ap (λ (w : Alphabet). longest_of (code_on w)) c.in-ThirtyTwo.is)
 
-pub longest-spec : {M : Type 1} → statement M
-longest-spec = tie.close (tie.spec (λ c. search rules) (λ c. search rules) returns returns-2)
+pub longest_spec : {M : Type 1} → statement M
+longest_spec = tie.close (tie.spec (λ c. search rules) (λ c. search rules) returns returns-2)

@@ -7,19 +7,14 @@ use borrow.Author.Rules.{rules}
 use Rattle.output.proofs.put_list.Statement.{statement}
 use Rattle.output.proofs.put_list.Tie as tie
 
-abbrev entry : tie.After-put-listed → tie.Start
-entry at_Listed = at_Listed.before.before.before.before.before
-
 -- The rows begin where the line of the count ended, so both together are put at 0.
 returns : tie.Need-returns
 returns c =
-    let at_rows = c.before.before in
-    let at_Listed = at_rows.before.before.before.before in
-    let a = (entry at_Listed).args in
-    let listed = at_Listed.put-listed in
-    let rows = at_rows.put-rows in
-    puts_more a.out.now listed.new.0 rows.new.1.0 (listed_line a.count) (row_lines (code_on a.alphabet) a.k a.rows.now a.scores.now a.count) 0
+    let a = c.args in
+    let listed = c.put_listed-end in
+    let rows = c.put_rows in
+    puts_more a.out-1.now listed.new.0 rows.new.1.0 (listed_line a.count) (row_lines (code_on a.alphabet) a.k a.rows.now a.scores.now a.count) 0
     listed.result rows.result (omega arith) listed.ensures.0 rows.ensures
 
-pub put-list-spec : {M : Type 1} → statement M
-put-list-spec = tie.close (tie.spec (λ c κs. search rules) (λ c κs. search rules) (λ c. search rules) returns)
+pub put_list_spec : {M : Type 1} → statement M
+put_list_spec = tie.close (tie.spec (λ c κs. search rules) (λ c κs. search rules) (λ c. search rules) returns)

@@ -18,67 +18,57 @@ use borrow.Author.Rules.{rules}
 use Rattle.output.proofs.write.Statement.{statement}
 use Rattle.output.proofs.write.Tie as tie
 
-abbrev entry : tie.After-longest → tie.Start
-entry at-longest = at-longest.before.before.before
-
 -- the most bytes that are answered are no more than answer_to takes
-short : (at-longest : tie.After-longest) → at-longest.longest.result ≤ longest
+short : (at-longest : tie.After-longest-most) → at-longest.longest-most.result ≤ longest
 short at-longest =
-    let e = at-longest.longest.ensures in
-    let w = places_within (entry at-longest).args.alphabet in
+    let e = at-longest.longest-most.ensures in
+    let w = places_within at-longest.args.alphabet in
     omega arith
 
 -- the beginning of a longer input is as long as was asked
-cut : (long : tie.Then1) → length (take long.before.longest.result (entry long.before).args.input.now) ≡ long.before.longest.result
-cut long = length-take-le long.before.longest.result (entry long.before).args.input.now (omega arith)
+cut : (long : tie.Then-most-input) → length (take long.longest-most.result long.args.input.now) ≡ long.longest-most.result
+cut long = length-take-le long.longest-most.result long.args.input.now (omega arith)
 
-answer-to-requires : tie.Need-answer-to-requires
+answer-to-requires : tie.Need-answer_to-requires
 answer-to-requires c κs =
-    let long = c.before.before in
-    let size = cut long in
-    let room = short long.before in
-    let enough = (entry long.before).requires in
+    let size = cut c.before in
+    let room = short c.before.before in
+    let enough = c.requires in
     (omega arith, omega arith)
 
 -- both promises, from the text that was put and what it equals
 answered : (at-start : tie.Start) (words after : List ℕ) (end : ℕ)
     → (let a = at-start.args in
     let text = output (code_on a.alphabet) a.input.now in
-    words ≡ text → Puts a.out.now 0 words end after → Puts a.out.now 0 text end after × IsPrefixLen end after)
+    words ≡ text → Puts a.out-1.now 0 words end after → Puts a.out-1.now 0 text end after × IsPrefixLen end after)
 answered at-start words after end e puts =
     let a = at-start.args in
-    let whole = subst (λ (w : List ℕ). Puts a.out.now 0 w end after) e puts in
-    (whole, puts_within a.out.now after (output (code_on a.alphabet) a.input.now) 0 end (omega arith) whole)
+    let whole = subst (λ (w : List ℕ). Puts a.out-1.now 0 w end after) e puts in
+    (whole, puts_within a.out-1.now after (output (code_on a.alphabet) a.input.now) 0 end (omega arith) whole)
 
 -- The input is longer than what is answered: its beginning has one number too many already, and the
 -- same output.
-returns : tie.Need-returns
+returns : tie.Need-returns-then-most-input
 returns c =
-    let at-answer = c.before.before in
-    let at-longest = at-answer.before.before.before.before in
-    let at-start = entry at-longest in
-    let a = at-start.args in
+    let a = c.args in
     let C = code_on a.alphabet in
     let some = (sized a.alphabet).least in
-    let most = at-longest.longest in
-    let put = at-answer.answer-to in
+    let most = c.longest-most in
+    let put = c.answer_to in
     let e = beginning C (omega arith) most.result most.ensures a.input.now (omega arith) in
-    answered at-start (output C (take most.result a.input.now)) put.new.1.1.0 put.result e put.ensures
+    answered c.before.before.before.before.before.before.before.before (output C (take most.result a.input.now)) put.new.1.1.0 put.result e put.ensures
 
-answer-to-requires-2 : tie.Need-answer-to-requires-2
+answer-to-requires-2 : tie.Need-answer_to-requires-2
 answer-to-requires-2 c κs =
-    let at-longest = c.before.before in
-    let room = short at-longest in
-    let enough = (entry at-longest).requires in
+    let room = short c.before.before in
+    let enough = c.requires in
     (omega arith, omega arith)
 
 -- The input is not longer: it is answered whole.
-returns-2 : tie.Need-returns-2
+returns-2 : tie.Need-returns
 returns-2 c =
-    let at-answer = c.before.before in
-    let at-start = entry at-answer.before.before.before in
-    let put = at-answer.answer-to2 in
-    answered at-start _ put.new.1.1.0 put.result refl put.ensures
+    let put = c.answer_to-2 in
+    answered c.before.before.before.before.before.before.before.before _ put.new.1.1.0 put.result refl put.ensures
 
 pub write_spec : {M : Type 1} → statement M
 write_spec =

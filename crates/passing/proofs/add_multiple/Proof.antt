@@ -13,48 +13,43 @@ use Rattle.passing.proofs.add_multiple.Statement.{statement}
 use Rattle.passing.proofs.add_multiple.Tie as tie
 
 -- The first s entries have their products, the others stand as they stood.
-abbrev invariant-loop : tie.invariant-loop
+abbrev invariant-loop : tie.invariant-loop-s
 invariant-loop alphabet table row₀ of c s₀ row s =
     (s ≤ greatest_level) × Changed 0 s (λ (k : ℕ). (code_on alphabet).plus (get_or row₀ k 0) ((code_on alphabet).times (get_or of k 0) c)) row₀ row
 
-abbrev decreases-loop : tie.decreases-loop
+abbrev decreases-loop : tie.decreases-loop-s
 decreases-loop alphabet table row₀ of c s₀ row s = greatest_level - s
 
-loop-holds : tie.Need-loop-init invariant-loop decreases-loop
+loop-holds : tie.Need-loop-s-init invariant-loop decreases-loop
 loop-holds c = (omega arith, changed_none 0 _ _)
 
 look-requires : tie.Need-look-requires invariant-loop decreases-loop
 look-requires c κs =
-    let l = c.before.before in
-    let s = l.before.before in
-    (s.requires.0, (s.requires.1.1 l.loop.s, s.requires.1.0))
+    (c.requires.0, (c.requires.1.1 c.loop-s.s, c.requires.1.0))
 
 -- what comes to entry k
 abbrev sums : tie.Start invariant-loop decreases-loop → ℕ → ℕ
 sums s k = let a = s.args in (code_on a.alphabet).plus (get_or a.row.now k 0) ((code_on a.alphabet).times (get_or a.of.now k 0) a.c)
 
-loop-again : tie.Need-loop-preserved invariant-loop decreases-loop
+loop-again : tie.Need-loop-s-preserved invariant-loop decreases-loop
 unfolding sum_of
 loop-again c =
-    let l = c.before.before.before.before in
-    let k = l.loop.s in
-    let s = l.before.before in
-    let a = s.args in
+    let k = c.loop-s.s in
+    let a = c.args in
     let here : 0 + k ≡ k = omega arith in
-    let is_sum = ap₂ (code_on a.alphabet).plus (l.loop.invariant.1.patched.after k (omega arith)) c.before.look.ensures ∙ ap (sums s) (sym here) in
-    let whole = s.requires.1.2 in
-    let more = changed_more 0 k _ (sums s) a.row.now l.loop.row (omega arith) l.loop.invariant.1 is_sum in
-    (omega arith, subst (λ (i : ℕ). Changed 0 (k + 1) (sums s) a.row.now (set l.loop.row i (sum_of (get_or l.loop.row k 0) c.before.look.result))) here more)
+    let is_sum = ap₂ (code_on a.alphabet).plus (c.loop-s.invariant.1.patched.after k (omega arith)) c.look.ensures ∙ ap (sums c.before.before.before.before.before.before.before.before) (sym here) in
+    let whole = c.requires.1.2 in
+    let more = changed_more 0 k _ (sums c.before.before.before.before.before.before.before.before) a.row.now c.loop-s.row (omega arith) c.loop-s.invariant.1 is_sum in
+    (omega arith, subst (λ (i : ℕ). Changed 0 (k + 1) (sums c.before.before.before.before.before.before.before.before) a.row.now (set c.loop-s.row i (sum_of (get_or c.loop-s.row k 0) c.look.result))) here more)
 
 -- The loop has ended at the last order, so every product is added.
 returns : tie.Need-returns invariant-loop decreases-loop
 returns c =
-    let l = c.before in
-    let e : l.loop.s ≡ greatest_level = omega arith in
-    rw e at l.loop.invariant.1
+    let e : c.loop-s.s ≡ greatest_level = omega arith in
+    rw e at c.loop-s.invariant.1
 
-pub add-multiple-spec : {M : Type 1} → statement M
-add-multiple-spec =
+pub add_multiple_spec : {M : Type 1} → statement M
+add_multiple_spec =
     tie.close
     (tie.spec
     invariant-loop

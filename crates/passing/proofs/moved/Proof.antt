@@ -16,46 +16,42 @@ use Rattle.passing.proofs.moved.Statement.{statement}
 use Rattle.passing.proofs.moved.Tie as tie
 
 -- The first s entries are made, and before is the row's entry of the order before s.
-abbrev invariant-loop : tie.invariant-loop
+abbrev invariant-loop : tie.invariant-loop-s
 invariant-loop alphabet table row c next₀ before₀ s₀ next before s =
     (s ≤ greatest_level) × (length next ≡ greatest_level) × (before ≡ get_or (0 ∷ row) s 0) × Front s (moved_at (code_on alphabet) c row) next
 
-abbrev decreases-loop : tie.decreases-loop
+abbrev decreases-loop : tie.decreases-loop-s
 decreases-loop alphabet table row c next₀ before₀ s₀ next before s = greatest_level - s
 
-loop-holds : tie.Need-loop-init invariant-loop decreases-loop
+loop-holds : tie.Need-loop-s-init invariant-loop decreases-loop
 loop-holds c =
-    let a = c.before.args in
+    let a = c.args in
     (omega arith, refl, refl, front_none (moved_at (code_on a.alphabet) a.c a.row.now) (replicate greatest_level 0))
 
 look-requires : tie.Need-look-requires invariant-loop decreases-loop
 look-requires c κs =
-    let l = c.before.before in
-    let s = l.before.before in
-    (s.requires.0, (s.requires.1.0, s.requires.1.1 l.loop.s))
+    (c.requires.0, (c.requires.1.0, c.requires.1.1 c.loop-s.s))
 
-loop-again : tie.Need-loop-preserved invariant-loop decreases-loop
+loop-again : tie.Need-loop-s-preserved invariant-loop decreases-loop
 unfolding sum_of
 loop-again c =
-    let l = c.before.before.before.before in
-    let a = l.before.before.args in
-    let made = ap₂ (code_on a.alphabet).plus c.before.look.ensures l.loop.invariant.2 in
-    let h : l.loop.s < length l.loop.next = omega arith in (
+    let a = c.args in
+    let made = ap₂ (code_on a.alphabet).plus c.look.ensures c.loop-s.invariant.2 in
+    let h : c.loop-s.s < length c.loop-s.next = omega arith in (
       omega arith,
-      length-set l.loop.next l.loop.s _ ∙ l.loop.invariant.1,
-      sym (ap (λ (k : ℕ). get_or (0 ∷ a.row.now) k 0) (add-one l.loop.s)),
-      front_more l.loop.s _ (moved_at (code_on a.alphabet) a.c a.row.now) l.loop.next h l.loop.invariant.3 made,
+      length-set c.loop-s.next c.loop-s.s _ ∙ c.loop-s.invariant.1,
+      sym (ap (λ (k : ℕ). get_or (0 ∷ a.row.now) k 0) (add-one c.loop-s.s)),
+      front_more c.loop-s.s _ (moved_at (code_on a.alphabet) a.c a.row.now) c.loop-s.next h c.loop-s.invariant.3 made,
     )
 
 -- The loop has ended at the last order, so every entry is made.
 returns : tie.Need-returns invariant-loop decreases-loop
 returns c =
-    let l = c.before in
-    let e : l.loop.s ≡ greatest_level = omega arith in
-    record { size = l.loop.invariant.1; each = rw e at l.loop.invariant.3 }
+    let e : c.loop-s.s ≡ greatest_level = omega arith in
+    record { size = c.loop-s.invariant.1; each = rw e at c.loop-s.invariant.3 }
 
-pub moved-spec : {M : Type 1} → statement M
-moved-spec =
+pub moved_spec : {M : Type 1} → statement M
+moved_spec =
     tie.close
     (tie.spec
     invariant-loop

@@ -13,50 +13,42 @@ use Rattle.passing.proofs.order_passes.Statement.{statement}
 use Rattle.passing.proofs.order_passes.Tie as tie
 
 -- The orders before t pass.
-abbrev invariant-loop : tie.invariant-loop
+abbrev invariant-loop : tie.invariant-loop-t
 invariant-loop alphabet table rows py h s orders t₀ t = (t ≤ orders) × (order_passes (code_on alphabet) rows py h s t ≡ true)
 
-abbrev decreases-loop : tie.decreases-loop
+abbrev decreases-loop : tie.decreases-loop-t
 decreases-loop alphabet table rows py h s orders t₀ t = orders - t
 
 -- the derivative of an order
 abbrev derivative : tie.Start invariant-loop decreases-loop → ℕ → ℕ
 derivative s t = let a = s.args in derivative_sum (code_on a.alphabet) a.rows.now a.py.now a.h a.s t
 
-loop-holds : tie.Need-loop-init invariant-loop decreases-loop
+loop-holds : tie.Need-loop-t-init invariant-loop decreases-loop
 loop-holds c = (omega arith, every_none (λ t. eqb (derivative c.before t) 0))
 
 derivative-requires : tie.Need-derivative-requires invariant-loop decreases-loop
 derivative-requires c κs =
-    let s = c.before.before.before in
-    (s.requires.0, ((omega arith, omega arith, omega arith), s.requires.1.1))
+    (c.requires.0, ((omega arith, omega arith, omega arith), c.requires.1.1))
 
 -- A derivative is not zero: not all orders pass.
-returns : tie.Need-returns invariant-loop decreases-loop
+returns : tie.Need-returns-then-derivative-ne0 invariant-loop decreases-loop
 returns c =
-    let d = c.before in
-    let l = d.before.before in
-    let s = l.before.before in
-    let other : derivative s l.loop.t ≡ 0 → ⊥ = (λ e. let z = d.derivative.ensures in omega arith) in
-    sym (every_but (λ t. eqb (derivative s t) 0) s.args.orders l.loop.t (omega arith) (ne_eqb (derivative s l.loop.t) 0 other))
+    let other : derivative c.before.before.before.before.before c.loop-t.t ≡ 0 → ⊥ = (λ e. let z = c.derivative.ensures in omega arith) in
+    sym (every_but (λ t. eqb (derivative c.before.before.before.before.before t) 0) c.args.orders c.loop-t.t (omega arith) (ne_eqb (derivative c.before.before.before.before.before c.loop-t.t) 0 other))
 
-loop-again : tie.Need-loop-preserved invariant-loop decreases-loop
+loop-again : tie.Need-loop-t-preserved invariant-loop decreases-loop
 loop-again c =
-    let d = c.before in
-    let l = d.before.before in
-    let s = l.before.before in
-    let zero : derivative s l.loop.t ≡ 0 = (let z = d.derivative.ensures in omega arith) in
-    (omega arith, every_more (λ t. eqb (derivative s t) 0) l.loop.t l.loop.invariant.1 (eq-eqb (derivative s l.loop.t) 0 zero))
+    let zero : derivative c.before.before.before.before.before c.loop-t.t ≡ 0 = (let z = c.derivative.ensures in omega arith) in
+    (omega arith, every_more (λ t. eqb (derivative c.before.before.before.before.before t) 0) c.loop-t.t c.loop-t.invariant.1 (eq-eqb (derivative c.before.before.before.before.before c.loop-t.t) 0 zero))
 
 -- The loop has ended at the last order: all pass.
-returns-2 : tie.Need-returns-2 invariant-loop decreases-loop
+returns-2 : tie.Need-returns invariant-loop decreases-loop
 returns-2 c =
-    let l = c.before in
-    let e : l.loop.t ≡ l.before.before.args.orders = omega arith in
-    sym (rw e at l.loop.invariant.1)
+    let e : c.loop-t.t ≡ c.args.orders = omega arith in
+    sym (rw e at c.loop-t.invariant.1)
 
-pub order-passes-spec : {M : Type 1} → statement M
-order-passes-spec =
+pub order_passes_spec : {M : Type 1} → statement M
+order_passes_spec =
     tie.close
     (tie.spec
     invariant-loop

@@ -16,95 +16,77 @@ use Rattle.passing.proofs.parts.Tie as tie
 
 -- x, y and degree are where the walk stands after j steps, and the rows hold what the first j
 -- coefficients give.
-abbrev invariant-loop : tie.invariant-loop
+abbrev invariant-loop : tie.invariant-loop-j
 invariant-loop alphabet table coefficients v px rows₀ x₀ y₀ degree₀ j₀ rows x y degree j =
     (j ≤ length coefficients) × ((x ≡ (walked v j).0) × (y ≡ (walked v j).1) × (degree ≡ (walked v j).2)) × PartsTo (code_on alphabet) v px coefficients j rows
 
-abbrev decreases-loop : tie.decreases-loop
+abbrev decreases-loop : tie.decreases-loop-j
 decreases-loop alphabet table coefficients v px rows₀ x₀ y₀ degree₀ j₀ rows x y degree j = length coefficients - j
 
-loop-holds : tie.Need-loop-init invariant-loop decreases-loop
+loop-holds : tie.Need-loop-j-init invariant-loop decreases-loop
 loop-holds c =
-    let s = c.before.before in
-    let a = s.args in
-    let given = s.requires.1.1 in
+    let a = c.args in
+    let given = c.requires.1.1 in
     (omega arith, walk_begins a.v, parts_none (code_on a.alphabet) (field_on a.alphabet) a.v a.px.now a.coefficients.now given.1 given.0)
 
-abbrev entry : tie.At-loop invariant-loop decreases-loop → tie.Start invariant-loop decreases-loop
-entry l = l.before.before.before
-
 -- No power is above the number of steps, so each is the place of a row.
-low : (c : tie.In-loop invariant-loop decreases-loop) → (c.before.loop.x < 256) × (c.before.loop.y < 256) × (c.before.loop.degree < 256)
+low : (c : tie.In-loop-j invariant-loop decreases-loop) → (c.before.loop-j.x < 256) × (c.before.loop-j.y < 256) × (c.before.loop-j.degree < 256)
 low c =
-    let l = c.before in
-    let s = entry l in
-    let w = walked_le s.args.v s.pre.1.0.0 l.loop.j in
-    let few = s.pre.1.0.1 in
+    let w = walked_le c.args.v c.requires.1.0.0 c.loop-j.j in
+    let few = c.requires.1.0.1 in
     (omega arith, omega arith, omega arith)
 
-mul-add-multiple : tie.Need-overflow-mul-add-multiple invariant-loop decreases-loop
+mul-add-multiple : tie.Need-offset_bounds-rows-y invariant-loop decreases-loop
 mul-add-multiple c = let w = low c in omega arith
 
-index-1-add-multiple : tie.Need-bounds-1-add-multiple invariant-loop decreases-loop
+index-1-add-multiple : tie.Need-bounds-rows-y invariant-loop decreases-loop
 index-1-add-multiple c = (low c).1
 
-mul-add-multiple-2 : tie.Need-overflow-mul-add-multiple-2 invariant-loop decreases-loop
+mul-add-multiple-2 : tie.Need-offset_bounds-px-x invariant-loop decreases-loop
 mul-add-multiple-2 c = let w = low c.before in omega arith
 
-index-1-add-multiple-2 : tie.Need-bounds-1-add-multiple-2 invariant-loop decreases-loop
+index-1-add-multiple-2 : tie.Need-bounds-px-x invariant-loop decreases-loop
 index-1-add-multiple-2 c = (low c.before).0
 
-abbrev in-loop : tie.After-shared-slice-known3 invariant-loop decreases-loop → tie.In-loop invariant-loop decreases-loop
-in-loop k = k.before.before.before
-
-add-multiple-requires : tie.Need-add-multiple-requires invariant-loop decreases-loop
+add-multiple-requires : tie.Need-add_multiple-requires invariant-loop decreases-loop
 add-multiple-requires c κs =
-    let i = in-loop c in
-    let l = i.before in
-    let s = entry l in
-    let given = s.pre.1.1 in
-    (s.pre.0, (given.0 l.loop.j, given.1 l.loop.x, l.loop.inv.2.wide l.loop.y (low i).1))
+    let given = c.requires.1.1 in
+    (c.requires.0, (given.0 c.loop-j.j, given.1 c.loop-j.x, c.loop-j.invariant.2.wide c.loop-j.y (low c.before.before).1))
 
-add-y : tie.Need-overflow-add-y invariant-loop decreases-loop
-add-y c = let w = low (in-loop c.before.before) in omega arith
+add-y : tie.Need-overflow_add-y invariant-loop decreases-loop
+add-y c = let w = low c.before.before.before.before in omega arith
 
-add-degree : tie.Need-overflow-add-degree invariant-loop decreases-loop
-add-degree c = let w = low (in-loop c.before.before) in omega arith
+add-degree : tie.Need-overflow_add-degree invariant-loop decreases-loop
+add-degree c = let w = low c.before.before.before.before in omega arith
 
-loop-again : tie.Need-loop-preserved invariant-loop decreases-loop
+loop-again : tie.Need-loop-j-preserved invariant-loop decreases-loop
 loop-again c =
-    let added = c.before in
-    let i = in-loop added.before in
-    let l = i.before in
-    let s = entry l in
-    let a = s.args in
-    let at = l.loop.inv.1 in
-    let given = s.pre.1.1 in (
+    let a = c.args in
+    let at = c.loop-j.invariant.1 in
+    let given = c.requires.1.1 in (
       omega arith,
       ⊎_elim
           (λ w.
-          let r = walk_stays a.v l.loop.j _ _ _ at.0 at.1 at.2 w.0.taken in
+          let r = walk_stays a.v c.loop-j.j _ _ _ at.0 at.1 at.2 w.0.taken in
           (w.1 ∙ r.0, w.2 ∙ r.1, w.3 ∙ r.2))
           (λ w.
-          let r = walk_turns a.v l.loop.j _ _ _ at.0 at.1 at.2 w.0.left in
-          (w.1 ∙ r.0, w.2 ∙ r.1, w.3 ∙ r.2)) c.if1.branch,
-      parts_more (code_on a.alphabet) (field_on a.alphabet) a.v a.px.now a.coefficients.now given.1 given.0 l.loop.j _ _ at.0 at.1
-          l.loop.rows _ (low i).1 l.loop.inv.2 added.add-multiple.ensures,
+          let r = walk_turns a.v c.loop-j.j _ _ _ at.0 at.1 at.2 w.0.left in
+          (w.1 ∙ r.0, w.2 ∙ r.1, w.3 ∙ r.2)) c.if-v-x.branch,
+      parts_more (code_on a.alphabet) (field_on a.alphabet) a.v a.px.now a.coefficients.now given.1 given.0 c.loop-j.j _ _ at.0 at.1
+          c.loop-j.rows _ (low c.before.before.before.before).1 c.loop-j.invariant.2 c.add_multiple.ensures,
     )
 
 -- The loop has ended behind the last coefficient, so the rows hold what all of them give.
 returns : tie.Need-returns invariant-loop decreases-loop
 returns c =
-    let l = c.before in
-    let s = entry l in
-    let a = s.args in
-    let given = s.pre.1.1 in
-    let e : l.loop.j ≡ length a.coefficients.now = omega arith in
-    parts_done (code_on a.alphabet) (field_on a.alphabet) a.v a.px.now a.coefficients.now given.1 given.0 (length a.coefficients.now) l.loop.rows
-    (rw e at l.loop.invariant.2)
+    let a = c.args in
+    let given = c.requires.1.1 in
+    let e : c.loop-j.j ≡ length a.coefficients.now = omega arith in
+    parts_done (code_on a.alphabet) (field_on a.alphabet) a.v a.px.now a.coefficients.now given.1 given.0 (length a.coefficients.now) c.loop-j.rows
+    (rw e at c.loop-j.invariant.2)
 
-pub parts-spec : {M : Type 1} → statement M
-parts-spec =
+pub parts_spec : {M : Type 1} → statement M
+parts_spec =
     tie.close
     (tie.spec
     invariant-loop

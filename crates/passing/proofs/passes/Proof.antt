@@ -18,38 +18,26 @@ GivenOf s w = let a = s.args in Given (code_on w) a.n a.v a.degree a.entries.now
 abbrev AnswerOf : tie.Start → Bool → Alphabet → Type 0
 AnswerOf s answer w = let a = s.args in answer ≡ passes (code_on w) a.n a.v a.degree a.entries.now a.coefficients.now
 
-abbrev of-thirty-two : tie.After-products-of-thirty-two → tie.Start
-of-thirty-two p = p.before.before.before.before.before
-
-abbrev of-sixteen : tie.After-products-of-sixteen → tie.Start
-of-sixteen p = p.before.before.before.before.before
-
-passes-by-requires : tie.Need-passes-by-requires
+passes-by-requires : tie.Need-passes_by-requires
 passes-by-requires c κs =
-    let p = c.before in
-    let s = of-thirty-two p in
-    (p.products-of-thirty-two.ensures, subst (GivenOf s) p.before.enum_told.given.1 s.pre)
+    (c.products_of_thirty_two-table.ensures, subst (GivenOf c.before.before.before.before.before) c.in-ThirtyTwo.is c.requires)
 
-passes-by-requires-2 : tie.Need-passes-by-requires-2
+passes-by-requires-2 : tie.Need-passes_by-requires-2
 passes-by-requires-2 c κs =
-    let p = c.before in
-    let s = of-sixteen p in
-    (p.products-of-sixteen.ensures, subst (GivenOf s) p.before.enum-told2.given.1 s.pre)
+    (c.products_of_sixteen-table.ensures, subst (GivenOf c.before.before.before.before.before) c.in_default.is c.requires)
 
 -- The alphabet is of 32 symbols: the answer by their table is that of the alphabet.
-returns : tie.Need-returns
+returns : tie.Need-returns-in-ThirtyTwo
 returns c =
-    let p = c.before.before in
-    subst (AnswerOf (of-thirty-two p) c.passes-by.result) (sym p.before.enum_told.given.1) c.passes-by.ensures
+    subst (AnswerOf c.before.before.before.before.before.before c.passes_by.result) (sym c.in-ThirtyTwo.is) c.passes_by.ensures
 
 -- The alphabet is of 16 symbols: the answer by their table is that of the alphabet.
-returns-2 : tie.Need-returns-2
+returns-2 : tie.Need-returns
 returns-2 c =
-    let p = c.before.before in
-    subst (AnswerOf (of-sixteen p) c.passes-by2.result) (sym p.before.enum-told2.given.1) c.passes-by2.ensures
+    subst (AnswerOf c.before.before.before.before.before.before c.passes_by-2.result) (sym c.in_default.is) c.passes_by-2.ensures
 
-pub passes-spec : {M : Type 1} → statement M
-passes-spec =
+pub passes_spec : {M : Type 1} → statement M
+passes_spec =
     tie.close
     (tie.spec
     (λ c. search rules)

@@ -28,12 +28,12 @@ use Rattle.passing.proofs.passes_by.Statement.{statement}
 use Rattle.passing.proofs.passes_by.Tie as tie
 
 -- The positions before i pass, and x is the point of position i.
-abbrev invariant-loop : tie.invariant-loop
+abbrev invariant-loop : tie.invariant-loop-i
 invariant-loop alphabet table entries n v degree coefficients x₀ i₀ x i =
     (i ≤ n) × (x ≡ point (code_on alphabet) i)
     × (every i (λ (j : ℕ). every (code_on alphabet).symbols (λ (b : ℕ). passes_at (code_on alphabet) v degree coefficients j b (entry (code_on alphabet) entries j b))) ≡ true)
 
-abbrev decreases-loop : tie.decreases-loop
+abbrev decreases-loop : tie.decreases-loop-i
 decreases-loop alphabet table entries n v degree coefficients x₀ i₀ x i = n - i
 
 abbrev code_of : tie.Start invariant-loop decreases-loop → Code
@@ -45,12 +45,11 @@ test s i =
     let a = s.args in
     every (code_of s).symbols (λ b. passes_at (code_of s) a.v a.degree a.coefficients.now i b (entry (code_of s) a.entries.now i b))
 
-loop-holds : tie.Need-loop-init invariant-loop decreases-loop
+loop-holds : tie.Need-loop-i-init invariant-loop decreases-loop
 loop-holds c =
-    let s = c.before.before.before in
-    (omega arith, sym (power_zero (numbers (code_of s)) 2), every_none (test s))
+    (omega arith, sym (power_zero (numbers (code_of c.before.before.before)) 2), every_none (test c.before.before.before))
 
-abbrev entry_of : tie.At-loop invariant-loop decreases-loop → tie.Start invariant-loop decreases-loop
+abbrev entry_of : tie.At-loop-i invariant-loop decreases-loop → tie.Start invariant-loop decreases-loop
 entry_of l = l.before.before.before.before
 
 -- The degree limit is below the count.
@@ -65,143 +64,126 @@ powers-low : (s : tie.Start invariant-loop decreases-loop) → s.args.degree / s
 powers-low s = let h = degree-low s in let q = div-le_self s.args.degree s.args.v in omega arith
 
 -- The point is a symbol.
-symbol : (l : tie.At-loop invariant-loop decreases-loop) → l.loop.x < (code_of (entry_of l)).symbols
+symbol : (l : tie.At-loop-i invariant-loop decreases-loop) → l.loop-i.x < (code_of l.before.before.before.before).symbols
 symbol l =
-    let s = entry_of l in
-    subst (λ (x : ℕ). x < (code_of s).symbols) (sym l.loop.invariant.1) (point_symbol (code_of s) (field_on s.args.alphabet) l.loop.i)
+    subst (λ (x : ℕ). x < (code_of l.before.before.before.before).symbols) (sym l.loop-i.invariant.1) (point_symbol (code_of l.before.before.before.before) (field_on l.args.alphabet) l.loop-i.i)
 
-add-powers : tie.Need-overflow-add-powers invariant-loop decreases-loop
-add-powers c = let h = degree-low (entry_of c.before) in omega arith
+add-powers : tie.Need-overflow_add-degree invariant-loop decreases-loop
+add-powers c = let h = degree-low c.before.before.before.before.before in omega arith
 
-powers-requires : tie.Need-powers-requires invariant-loop decreases-loop
-powers-requires c κs = let s = entry_of c.before in (s.pre.0, (symbol c.before, degree-low s))
+powers-requires : tie.Need-powers-px-requires invariant-loop decreases-loop
+powers-requires c κs = (c.requires.0, (symbol c.before, degree-low c.before.before.before.before.before))
 
-abbrev at-loop : tie.After-px invariant-loop decreases-loop → tie.At-loop invariant-loop decreases-loop
+abbrev at-loop : tie.After-px-1 invariant-loop decreases-loop → tie.At-loop-i invariant-loop decreases-loop
 at-loop p = p.before.before.before
 
 -- There is a position left.
-left : (p : tie.After-px invariant-loop decreases-loop) → (at-loop p).loop.i < (entry_of (at-loop p)).args.n
+left : (p : tie.After-px-1 invariant-loop decreases-loop) → p.loop-i.i < p.args.n
 left p = left_in p.before.before
   where
-    left_in : (i : tie.In-loop invariant-loop decreases-loop) → i.before.loop.i < (entry_of i.before).args.n
+    left_in : (i : tie.In-loop-i invariant-loop decreases-loop) → i.loop-i.i < i.args.n
     left_in i = omega arith
 
-parts-requires : tie.Need-parts-requires invariant-loop decreases-loop
+parts-requires : tie.Need-parts-rows-requires invariant-loop decreases-loop
 parts-requires c κs =
-    let s = entry_of (at-loop c) in
-    let g = s.pre.1 in
+    let s = entry_of c.before.before.before in
+    let g = s.requires.1 in
     let few = g.few in
     let full = g.full in
-    (s.pre.0, ((g.positive, omega arith), (g.coefficients, c.before.powers.ensures.symbols)))
+    (s.requires.0, ((g.positive, omega arith), (g.coefficients, c.powers-px.ensures.symbols)))
 
-abbrev at-px : tie.After-rows invariant-loop decreases-loop → tie.After-px invariant-loop decreases-loop
-at-px r = r.before.before
+div-column-passes : tie.Need-nonzero_div-degree invariant-loop decreases-loop
+div-column-passes c = c.requires.1.positive
 
-div-column-passes : tie.Need-nonzero-div-column-passes invariant-loop decreases-loop
-div-column-passes c = (entry_of (at-loop (at-px c))).pre.1.positive
-
-add-column-passes : tie.Need-overflow-add-column-passes invariant-loop decreases-loop
-add-column-passes c = let h = powers-low (entry_of (at-loop (at-px c))) in omega arith
+add-column-passes : tie.Need-overflow_add-degree-in-loop-i invariant-loop decreases-loop
+add-column-passes c = let h = powers-low c.before.before.before.before.before.before.before.before.before in omega arith
 
 -- The entries of position i are among those of n positions.
-among : (p : tie.After-px invariant-loop decreases-loop)
-    → (let l = at-loop p in let C = code_of (entry_of l) in C.symbols * l.loop.i + C.symbols ≤ C.symbols * (entry_of l).args.n)
+among : (p : tie.After-px-1 invariant-loop decreases-loop)
+    → (let C = code_of p.before.before.before.before.before.before.before in C.symbols * p.loop-i.i + C.symbols ≤ C.symbols * p.args.n)
 among p =
-    let l = at-loop p in
-    let C = code_of (entry_of l) in
-    let more = mul-suc C.symbols l.loop.i in
+    let C = code_of p.before.before.before.before.before.before.before in
+    let more = mul-suc C.symbols p.loop-i.i in
     let grows = mul-le-mul_left C.symbols (left p) in
     omega arith
 
 -- So they lie within the entries.
 inside : (y : tie.After-symbols invariant-loop decreases-loop)
-    → (let l = at-loop (at-px y.before) in y.symbols.result * l.loop.i + (code_of (entry_of l)).symbols ≤ length (entry_of l).args.entries.now)
+    → (let l = at-loop y.before.before.before in y.symbols.result * l.loop-i.i + (code_of (entry_of l)).symbols ≤ length (entry_of l).args.entries.now)
 inside y =
-    let l = at-loop (at-px y.before) in
+    let l = at-loop y.before.before.before in
     let s = entry_of l in
-    let whole = s.pre.1.whole in
-    let here = among (at-px y.before) in
+    let whole = s.requires.1.whole in
+    let here = among y.before.before.before in
     rw y.symbols.ensures (omega arith)
 
-mul-column-passes : tie.Need-overflow-mul-column-passes invariant-loop decreases-loop
+mul-column-passes : tie.Need-overflow_mul-symbols invariant-loop decreases-loop
 mul-column-passes c = let h = inside c in omega arith
 
 -- None of them is above the greatest level.
-low-here : (p : tie.After-px invariant-loop decreases-loop)
-    → (let l = at-loop p in let C = code_of (entry_of l) in Low (C.symbols * l.loop.i + C.symbols) (entry_of l).args.entries.now)
-low-here p j h = let here = among p in (entry_of (at-loop p)).pre.1.low j (omega arith)
+low-here : (p : tie.After-px-1 invariant-loop decreases-loop)
+    → (let C = code_of p.before.before.before.before.before.before.before in Low (C.symbols * p.loop-i.i + C.symbols) p.args.entries.now)
+low-here p j h = let here = among p in p.requires.1.low j (omega arith)
 
 low-at : (y : tie.After-symbols invariant-loop decreases-loop)
-    → (let l = at-loop (at-px y.before) in Low (y.symbols.result * l.loop.i + (code_of (entry_of l)).symbols) (entry_of l).args.entries.now)
-low-at y = rw y.symbols.ensures (low-here (at-px y.before))
+    → (let l = at-loop y.before.before.before in Low (y.symbols.result * l.loop-i.i + (code_of (entry_of l)).symbols) (entry_of l).args.entries.now)
+low-at y = rw y.symbols.ensures (low-here y.before.before.before)
 
-column-passes-requires : tie.Need-column-passes-requires invariant-loop decreases-loop
+column-passes-requires : tie.Need-column_passes-requires invariant-loop decreases-loop
 column-passes-requires c κs =
-    let r = c.before in
-    let s = entry_of (at-loop (at-px r)) in
-    (s.pre.0, ((powers-low s, inside c, low-at c), r.before.parts.ensures.symbols))
-
-abbrev at_rows : tie.After-column-passes invariant-loop decreases-loop → tie.After-rows invariant-loop decreases-loop
-at_rows p = p.before.before
+    let s = entry_of c.before.before.before.before.before.before in
+    (s.requires.0, ((powers-low s, inside c, low-at c), c.parts-rows.ensures.symbols))
 
 -- What was tested is position i.
-is-test : (p : tie.After-column-passes invariant-loop decreases-loop)
-    → (let l = at-loop (at-px (at_rows p)) in p.column-passes.result ≡ test (entry_of l) l.loop.i)
+is-test : (p : tie.After-column_passes invariant-loop decreases-loop)
+    → (let p.before.before.before.before.before.before.before = at-loop p.before.before.before.before in p.column_passes.result ≡ test p.before.before.before.before.before.before.before.before.before.before.before p.loop-i.i)
 is-test p =
-    let r = at_rows p in
-    let x = at-px r in
-    let l = at-loop x in
-    let s = entry_of l in
-    let a = s.args in
-    let C = code_of s in
-    let g = s.pre.1 in
-    let rows = r.before.parts.result in
-    let powers = subst (λ (c : ℕ). Powers C c (a.degree + 1) x.before.powers.result) l.loop.inv.1 x.before.powers.ensures in
-    let parts = subst (λ (n : ℕ). Parts C a.v n x.before.powers.result a.coefficients.now rows) g.full r.before.parts.ensures in
-    p.column-passes.ensures
-    ∙ ap (λ (z : ℕ). column_passes C rows (a.degree / a.v + 1) a.entries.now (z * l.loop.i)) p.before.symbols.ensures
-    ∙ column_agrees C (field_on a.alphabet) a.v a.degree g.positive a.coefficients.now g.coefficients (powers-low s) l.loop.i
-    x.before.powers.result rows powers parts a.entries.now (low-here x)
+    let a = p.args in
+    let C = code_of p.before.before.before.before.before.before.before.before.before.before.before in
+    let g = p.requires.1 in
+    let rows = p.parts-rows.result in
+    let powers = subst (λ (c : ℕ). Powers C c (a.degree + 1) p.powers-px.result) p.loop-i.invariant.1 p.powers-px.ensures in
+    let parts = subst (λ (n : ℕ). Parts C a.v n p.powers-px.result a.coefficients.now rows) g.full p.parts-rows.ensures in
+    p.column_passes.ensures
+    ∙ ap (λ (z : ℕ). column_passes C rows (a.degree / a.v + 1) a.entries.now (z * p.loop-i.i)) p.symbols.ensures
+    ∙ column_agrees C (field_on a.alphabet) a.v a.degree g.positive a.coefficients.now g.coefficients (powers-low p.before.before.before.before.before.before.before.before.before.before.before) p.loop-i.i
+    p.powers-px.result rows powers parts a.entries.now (low-here p.before.before.before.before)
 
 -- A position does not pass.
-returns : tie.Need-returns invariant-loop decreases-loop
+returns : tie.Need-returns-then-not-column_passes invariant-loop decreases-loop
 returns c =
-    let p = c.before in
-    let l = at-loop (at-px (at_rows p)) in
+    let l = at-loop c.before.before.before.before.before in
     let s = entry_of l in
-    let other : p.column-passes.result ≡ false = not-true p.column-passes.result c.if1.true in
-    sym (every_but (test s) s.args.n l.loop.i (left (at-px (at_rows p))) (sym (is-test p) ∙ other))
+    let other : c.column_passes.result ≡ false = not-true c.column_passes.result c.if-not-column_passes.true in
+    sym (every_but (test s) s.args.n l.loop-i.i (left c.before.before.before.before.before) (sym (is-test c.before) ∙ other))
 
-look-requires : tie.Need-look-requires invariant-loop decreases-loop
+look-requires : tie.Need-look-x-requires invariant-loop decreases-loop
 look-requires c κs =
-    let l = at-loop (at-px (at_rows c.before)) in
+    let l = at-loop c.before.before.before.before.before in
     let z = (sized (entry_of l).args.alphabet).least in
-    ((entry_of l).pre.0, (omega arith, symbol l))
+    ((entry_of l).requires.0, (omega arith, symbol l))
 
-loop-again : tie.Need-loop-preserved invariant-loop decreases-loop
+loop-again : tie.Need-loop-i-preserved invariant-loop decreases-loop
 loop-again c =
-    let e = c.before in
-    let p = e.before in
-    let l = at-loop (at-px (at_rows p)) in
+    let l = at-loop c.before.before.before.before.before.before in
     let s = entry_of l in
     let C = code_of s in
-    let i = l.loop.i in
-    let goes_on = left (at-px (at_rows p)) in
-    let passes : p.column-passes.result ≡ true = not-false p.column-passes.result e.if1.false in (
+    let i = l.loop-i.i in
+    let goes_on = left c.before.before.before.before.before.before in
+    let passes : c.column_passes.result ≡ true = not-false c.column_passes.result c.if-not-column_passes.false in (
       omega arith,
-      c.look.ensures ∙ ap (C.times 2) l.loop.inv.1 ∙ sym (power_suc (numbers C) 2 i) ∙ ap (point C) (sym (add-one i)),
-      every_more (test s) i l.loop.inv.2 (sym (is-test p) ∙ passes),
+      c.look-x.ensures ∙ ap (C.times 2) l.loop-i.invariant.1 ∙ sym (power_suc (numbers C) 2 i) ∙ ap (point C) (sym (add-one i)),
+      every_more (test s) i l.loop-i.invariant.2 (sym (is-test c.before.before) ∙ passes),
     )
 
 -- The loop has ended at i = n: all positions pass.
-returns-2 : tie.Need-returns-2 invariant-loop decreases-loop
+returns-2 : tie.Need-returns invariant-loop decreases-loop
 returns-2 c =
-    let l = c.before in
-    let e : l.loop.i ≡ (entry_of l).args.n = omega arith in
-    sym (rw e at l.loop.invariant.2)
+    let e : c.loop-i.i ≡ c.args.n = omega arith in
+    sym (rw e at c.loop-i.invariant.2)
 
-pub passes-by-spec : {M : Type 1} → statement M
-passes-by-spec =
+pub passes_by_spec : {M : Type 1} → statement M
+passes_by_spec =
     tie.close
     (tie.spec
     invariant-loop

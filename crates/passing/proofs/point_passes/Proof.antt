@@ -14,10 +14,10 @@ use Rattle.passing.proofs.point_passes.Statement.{statement}
 use Rattle.passing.proofs.point_passes.Tie as tie
 
 -- The orders by x before s pass.
-abbrev invariant-loop : tie.invariant-loop
+abbrev invariant-loop : tie.invariant-loop-s
 invariant-loop alphabet table rows h y m py s₀ s = (s ≤ m) × (every s (order_test (code_on alphabet) rows h y m) ≡ true)
 
-abbrev decreases-loop : tie.decreases-loop
+abbrev decreases-loop : tie.decreases-loop-s
 decreases-loop alphabet table rows h y m py s₀ s = m - s
 
 -- the test of the orders that begin with s
@@ -25,63 +25,46 @@ abbrev test : tie.Start invariant-loop decreases-loop → ℕ → Bool
 test s = let a = s.args in order_test (code_on a.alphabet) a.rows.now a.h a.y a.m
 
 -- The multiplicity is 0: nothing is tested.
-returns : tie.Need-returns invariant-loop decreases-loop
+returns : tie.Need-returns-then-m-eq0 invariant-loop decreases-loop
 returns c =
-    let s = c.before.before in
-    let none : s.args.m ≡ 0 = omega arith in
-    sym (ap (λ (n : ℕ). every n (test s)) none ∙ every_none (test s))
+    let none : c.args.m ≡ 0 = omega arith in
+    sym (ap (λ (n : ℕ). every n (test c.before.before)) none ∙ every_none (test c.before.before))
 
-powers-requires : tie.Need-powers-requires invariant-loop decreases-loop
-powers-requires c κs = let s = c.before.before in (s.requires.0, (s.requires.1.0.1, s.requires.1.0.0))
+powers-requires : tie.Need-powers-py-requires invariant-loop decreases-loop
+powers-requires c κs = (c.requires.0, (c.requires.1.0.1, c.requires.1.0.0))
 
-loop-holds : tie.Need-loop-init invariant-loop decreases-loop
+loop-holds : tie.Need-loop-s-init invariant-loop decreases-loop
 loop-holds c = (omega arith, every_none (test c.before.before.before))
 
-abbrev entry : tie.At-loop invariant-loop decreases-loop → tie.Start invariant-loop decreases-loop
-entry l = l.before.before.before.before
-
-order-passes-requires : tie.Need-order-passes-requires invariant-loop decreases-loop
+order-passes-requires : tie.Need-order_passes-requires invariant-loop decreases-loop
 order-passes-requires c κs =
-    let l = c.before.before in
-    let s = entry l in
-    (s.pre.0, ((omega arith, omega arith, omega arith), (s.pre.1.1, l.before.powers.ensures.symbols)))
+    (c.requires.0, ((omega arith, omega arith, omega arith), (c.requires.1.1, c.powers-py.ensures.symbols)))
 
-abbrev at-loop : tie.After-order-passes invariant-loop decreases-loop → tie.At-loop invariant-loop decreases-loop
-at-loop o = o.before.before.before
-
--- What was tested is the test of the orders that begin with s.
-is-test : (o : tie.After-order-passes invariant-loop decreases-loop) → (let l = at-loop o in o.order-passes.result ≡ test (entry l) l.loop.s)
+-- What was tested is the test of the orders that begin with o.
+is-test : (o : tie.After-order_passes invariant-loop decreases-loop) → (o.order_passes.result ≡ test o.before.before.before.before.before.before.before o.loop-s.s)
 is-test o =
-    let l = at-loop o in
-    let s = entry l in
-    let a = s.args in
-    o.order-passes.ensures ∙ order_agrees (code_on a.alphabet) a.rows.now l.before.powers.result a.h a.y a.m l.loop.s l.before.powers.ensures (omega arith)
+    let a = o.args in
+    o.order_passes.ensures ∙ order_agrees (code_on a.alphabet) a.rows.now o.powers-py.result a.h a.y a.m o.loop-s.s o.powers-py.ensures (omega arith)
 
 -- An order by x does not pass.
-returns-2 : tie.Need-returns-2 invariant-loop decreases-loop
+returns-2 : tie.Need-returns-then-not-order_passes invariant-loop decreases-loop
 returns-2 c =
-    let o = c.before in
-    let l = at-loop o in
-    let s = entry l in
-    let other : o.order-passes.result ≡ false = not-true o.order-passes.result c.if2.true in
-    sym (every_but (test s) s.args.m l.loop.s (omega arith) (sym (is-test o) ∙ other))
+    let other : c.order_passes.result ≡ false = not-true c.order_passes.result c.if-not-order_passes.true in
+    sym (every_but (test c.before.before.before.before.before.before.before.before) c.args.m c.loop-s.s (omega arith) (sym (is-test c.before) ∙ other))
 
-loop-again : tie.Need-loop-preserved invariant-loop decreases-loop
+loop-again : tie.Need-loop-s-preserved invariant-loop decreases-loop
 loop-again c =
-    let o = c.before in
-    let l = at-loop o in
-    let passes : o.order-passes.result ≡ true = not-false o.order-passes.result c.if2.false in
-    (omega arith, every_more (test (entry l)) l.loop.s l.loop.inv.1 (sym (is-test o) ∙ passes))
+    let passes : c.order_passes.result ≡ true = not-false c.order_passes.result c.if-not-order_passes.false in
+    (omega arith, every_more (test c.before.before.before.before.before.before.before.before) c.loop-s.s c.loop-s.invariant.1 (sym (is-test c.before) ∙ passes))
 
 -- The loop has ended at s = m: all orders pass.
-returns-3 : tie.Need-returns-3 invariant-loop decreases-loop
+returns-3 : tie.Need-returns invariant-loop decreases-loop
 returns-3 c =
-    let l = c.before in
-    let e : l.loop.s ≡ (entry l).args.m = omega arith in
-    sym (rw e at l.loop.invariant.1)
+    let e : c.loop-s.s ≡ c.args.m = omega arith in
+    sym (rw e at c.loop-s.invariant.1)
 
-pub point-passes-spec : {M : Type 1} → statement M
-point-passes-spec =
+pub point_passes_spec : {M : Type 1} → statement M
+point_passes_spec =
     tie.close
     (tie.spec
     invariant-loop

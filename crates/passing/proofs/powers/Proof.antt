@@ -12,51 +12,46 @@ use Rattle.passing.proofs.powers.Statement.{statement}
 use Rattle.passing.proofs.powers.Tie as tie
 
 -- The rows of the powers below e are filled in, and row holds those of e.
-abbrev invariant-loop : tie.invariant-loop
+abbrev invariant-loop : tie.invariant-loop-e
 invariant-loop alphabet table c count rows₀ row₀ e₀ rows row e = (e ≤ count) × RowOf (code_on alphabet) c e row × PowersTo (code_on alphabet) c e rows
 
-abbrev decreases-loop : tie.decreases-loop
+abbrev decreases-loop : tie.decreases-loop-e
 decreases-loop alphabet table c count rows₀ row₀ e₀ rows row e = count - e
 
-loop-holds : tie.Need-loop-init invariant-loop decreases-loop
+loop-holds : tie.Need-loop-e-init invariant-loop decreases-loop
 loop-holds c =
-    let a = c.before.args in
+    let a = c.args in
     let C = code_on a.alphabet in
     let F = field_on a.alphabet in
-    (omega arith, row_first C F a.c c.before.requires.1.0, powers_none C F a.c c.before.requires.1.0)
+    (omega arith, row_first C F a.c c.requires.1.0, powers_none C F a.c c.requires.1.0)
 
-moved-requires : tie.Need-moved-requires invariant-loop decreases-loop
+moved-requires : tie.Need-moved-row-requires invariant-loop decreases-loop
 moved-requires c κs =
-    let l = c.before.before in
-    let s = l.before.before in
-    let a = s.args in
-    let symbol = s.requires.1.0 in
-    (s.requires.0, (symbol, row_symbols (code_on a.alphabet) (field_on a.alphabet) a.c symbol l.loop.e l.loop.row l.loop.invariant.1))
+    let a = c.args in
+    let symbol = c.requires.1.0 in
+    (c.requires.0, (symbol, row_symbols (code_on a.alphabet) (field_on a.alphabet) a.c symbol c.loop-e.e c.loop-e.row c.loop-e.invariant.1))
 
-loop-again : tie.Need-loop-preserved invariant-loop decreases-loop
+loop-again : tie.Need-loop-e-preserved invariant-loop decreases-loop
 loop-again c =
-    let l = c.before.before.before in
-    let s = l.before.before in
-    let a = s.args in
+    let a = c.args in
     let C = code_on a.alphabet in
     let F = field_on a.alphabet in
-    let symbol = s.requires.1.0 in
-    let low : l.loop.e < greatest_count = (let h = s.requires.1.1 in omega arith) in (
+    let symbol = c.requires.1.0 in
+    let low : c.loop-e.e < greatest_count = (let h = c.requires.1.1 in omega arith) in (
       omega arith,
-      row_moved C F a.c symbol l.loop.e l.loop.row c.moved.result l.loop.invariant.1 c.moved.ensures,
-      powers_more C F a.c symbol l.loop.e l.loop.rows l.loop.row low l.loop.invariant.2 l.loop.invariant.1,
+      row_moved C F a.c symbol c.loop-e.e c.loop-e.row c.moved-row.result c.loop-e.invariant.1 c.moved-row.ensures,
+      powers_more C F a.c symbol c.loop-e.e c.loop-e.rows c.loop-e.row low c.loop-e.invariant.2 c.loop-e.invariant.1,
     )
 
 -- The loop has ended at e = count, so the rows of the first powers are filled in.
 returns : tie.Need-returns invariant-loop decreases-loop
 returns c =
-    let l = c.before in
-    let a = l.before.before.args in
-    let e : l.loop.e ≡ a.count = omega arith in
-    powers_done (code_on a.alphabet) (field_on a.alphabet) a.c l.before.before.requires.1.0 a.count l.loop.rows (rw e at l.loop.invariant.2)
+    let a = c.args in
+    let e : c.loop-e.e ≡ a.count = omega arith in
+    powers_done (code_on a.alphabet) (field_on a.alphabet) a.c c.requires.1.0 a.count c.loop-e.rows (rw e at c.loop-e.invariant.2)
 
-pub powers-spec : {M : Type 1} → statement M
-powers-spec =
+pub powers_spec : {M : Type 1} → statement M
+powers_spec =
     tie.close
     (tie.spec
     invariant-loop

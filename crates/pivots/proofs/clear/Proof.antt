@@ -15,84 +15,73 @@ use Rattle.pivots.proofs.clear.Statement.{statement}
 use Rattle.pivots.proofs.clear.Tie as tie
 
 -- The listed rows have lost their multiples of row j in the blocks from that of column j up to next.
-abbrev invariant-loop : tie.invariant-loop
+abbrev invariant-loop : tie.invariant-loop-next
 invariant-loop alphabet system₀ j rows blocks places c n next₀ system next =
     (j / block ≤ next) × (next ≤ blocks) × LoweredIn (code_on alphabet) (j / block * block) (next * block) rows j (column_of system₀ j) system₀ system
 
-abbrev decreases-loop : tie.decreases-loop
+abbrev decreases-loop : tie.decreases-loop-next
 decreases-loop alphabet system₀ j rows blocks places c n next₀ system next = blocks - next
 
-abbrev entry : tie.At-loop invariant-loop decreases-loop → tie.Start invariant-loop decreases-loop
+abbrev entry : tie.At-loop-next invariant-loop decreases-loop → tie.Start invariant-loop decreases-loop
 entry l = l.before.before.before.before.before
 
-factors-requires : tie.Need-factors-requires invariant-loop decreases-loop
+factors-requires : tie.Need-factors-n-requires invariant-loop decreases-loop
 factors-requires c κs =
-    let s = c.before.before.before in
-    let w = s.requires.1.0 in
-    ((s.requires.1.1, w.there, w.few), (refl, refl))
+    let w = c.requires.1.0 in
+    ((c.requires.1.1, w.there, w.few), (refl, refl))
 
-loop-holds : tie.Need-loop-init invariant-loop decreases-loop
+loop-holds : tie.Need-loop-next-init invariant-loop decreases-loop
 loop-holds c =
-    let s = c.before.before.before.before in
-    let a = s.args in
-    let w = s.requires.1.0 in
+    let a = c.args in
+    let w = c.requires.1.0 in
     let h : a.j / block ≤ a.blocks = omega arith in
-    (omega arith, h, lower_none _ _ _ _ _ _ s.requires.0)
+    (omega arith, h, lower_none _ _ _ _ _ _ c.requires.0)
 
-clear-block-requires : tie.Need-clear-block-requires invariant-loop decreases-loop
+clear-block-requires : tie.Need-clear_block-requires invariant-loop decreases-loop
 clear-block-requires c κs =
-    let l = c.before.before.before.before in
-    let f = l.before.factors in
-    let s = entry l in
-    let a = s.args in
-    let w = s.pre.1.0 in
-    let d = l.loop.invariant.2 in
+    let f = c.factors-n in
+    let a = c.args in
+    let w = c.requires.1.0 in
+    let d = c.loop-next.invariant.2 in
     let e = d.size in
     let n = f.ensures.0 in
-    let room : a.rows ≤ length l.loop.system = omega arith in
-    let inside : InRow (l.loop.next * block) = omega arith in
+    let room : a.rows ≤ length c.loop-next.system = omega arith in
+    let inside : InRow (c.loop-next.next * block) = omega arith in
     let few : f.result ≤ greatest_limit = omega arith in
-    (d.system, ((inside, omega arith, few), listed_rows _ _ _ _ _ _ f.new.1.1.1.0 f.new.1.1.1.1.0 room s.pre.0 f.ensures.1))
-
-abbrev at-loop : tie.After-clear-block invariant-loop decreases-loop → tie.At-loop invariant-loop decreases-loop
-at-loop x = x.before.before.before.before.before
+    (d.system, ((inside, omega arith, few), listed_rows _ _ _ _ _ _ f.new.1.1.1.0 f.new.1.1.1.1.0 room c.requires.0 f.ensures.1))
 
 -- the block is cleared up to this column
-abbrev ClearedTo : tie.After-clear-block invariant-loop decreases-loop → ℕ → Type 0
+abbrev ClearedTo : tie.After-clear_block invariant-loop decreases-loop → ℕ → Type 0
 ClearedTo x to =
-    let l = at-loop x in
-    let f = l.before.factors in
-    let a = (entry l).args in
-    DoneIn (code_on a.alphabet) (l.loop.next * block) to a.j f.result f.last.1.1.1.0 f.last.1.1.1.1.0 l.loop.system x.clear-block.new.1.0
+    let f = x.factors-n in
+    let a = x.args in
+    DoneIn (code_on a.alphabet) (x.loop-next.next * block) to a.j f.result f.last.1.1.1.0 f.last.1.1.1.1.0 x.loop-next.system x.clear_block.new.system
 
-loop-again : tie.Need-loop-preserved invariant-loop decreases-loop
+loop-again : tie.Need-loop-next-preserved invariant-loop decreases-loop
 loop-again c =
-    let x = c.before in
-    let l = at-loop x in
-    let a = (entry l).args in
-    let p = l.loop.next in
+    let a = c.args in
+    let p = c.loop-next.next in
     let e : p * block + block ≡ (p + 1) * block = omega arith in
     let h : a.j / block ≤ p + 1 = omega arith in
     let g : p + 1 ≤ a.blocks = omega arith in
-    let cleared = subst (ClearedTo x) e x.clear-block.ensures in
-    (h, g, lower_more _ (field_on a.alphabet) _ _ _ _ _ _ _ _ _ _ _ _ (omega arith) (omega arith) l.before.factors.ensures.1 l.loop.inv.2 cleared)
+    let cleared = subst (ClearedTo c.before) e c.clear_block.ensures in
+    (h, g, lower_more _ (field_on a.alphabet) _ _ _ _ _ _ _ _ _ _ _ _ (omega arith) (omega arith) c.factors-n.ensures.1 c.loop-next.invariant.2 cleared)
 
-same_length : tie.Need-same-length invariant-loop decreases-loop
-same_length c = c.before.loop.invariant.2.size
+same_length : tie.Need-shape_of-system invariant-loop decreases-loop
+same_length c = c.loop-next.invariant.2.size
 
 -- the rows are lowered up to this block
-abbrev LoweredTo : tie.At-loop invariant-loop decreases-loop → ℕ → Type 0
+abbrev LoweredTo : tie.At-loop-next invariant-loop decreases-loop → ℕ → Type 0
 LoweredTo l p =
-    let a = (entry l).args in
+    let a = l.args in
     let m = a.system.now in
-    LoweredIn (code_on a.alphabet) (a.j / block * block) (p * block) a.rows a.j (column_of m a.j) m l.loop.system
+    LoweredIn (code_on a.alphabet) (a.j / block * block) (p * block) a.rows a.j (column_of m a.j) m l.loop-next.system
 
 -- The loop has ended at next = blocks, so the rows are cleared in all blocks from that of column j on.
 returns : tie.Need-returns invariant-loop decreases-loop
 returns c =
-    let l = c.before in
-    let e : l.loop.next ≡ (entry l).args.blocks = omega arith in
-    subst (LoweredTo l) e l.loop.invariant.2
+    let e : c.loop-next.next ≡ c.args.blocks = omega arith in
+    subst (LoweredTo c.before) e c.loop-next.invariant.2
 
 pub clear_spec : {M : Type 1} → statement M
 clear_spec =

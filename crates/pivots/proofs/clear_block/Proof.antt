@@ -19,42 +19,28 @@ GivenOf s w = System (code_on w) s.args.system.now × Factors (code_on w) s.args
 abbrev DoneOf : tie.Start → List (List ℕ) → Alphabet → Type 0
 DoneOf s after w = let a = s.args in DoneIn (code_on w) a.at (a.at + block) a.j a.n a.places.now a.c.now a.system.now after
 
-abbrev of-thirty-two : tie.After-enum-told → tie.Start
-of-thirty-two t = t.before.before
-
-abbrev of-sixteen : tie.After-enum-told2 → tie.Start
-of-sixteen t = t.before.before
-
-clear-block-of-thirty-two-requires : tie.Need-clear-block-of-thirty-two-requires
+clear-block-of-thirty-two-requires : tie.Need-clear_block_of_thirty_two-requires
 clear-block-of-thirty-two-requires c κs =
-    let t = c.before in
-    let s = of-thirty-two t in
-    let g = subst (GivenOf s) t.enum_told.given.1 (s.pre.0, s.pre.1.1.1) in
-    (g.0, (s.pre.1.0, (s.pre.1.1.0, g.1)))
+    let g = subst (GivenOf c.before.before) c.in-ThirtyTwo.is (c.requires.0, c.requires.1.1.1) in
+    (g.0, (c.requires.1.0, (c.requires.1.1.0, g.1)))
 
-clear-block-of-sixteen-requires : tie.Need-clear-block-of-sixteen-requires
+clear-block-of-sixteen-requires : tie.Need-clear_block_of_sixteen-requires
 clear-block-of-sixteen-requires c κs =
-    let t = c.before in
-    let s = of-sixteen t in
-    let g = subst (GivenOf s) t.enum-told2.given.1 (s.pre.0, s.pre.1.1.1) in
-    (g.0, (s.pre.1.0, (s.pre.1.1.0, g.1)))
+    let g = subst (GivenOf c.before.before) c.in_default.is (c.requires.0, c.requires.1.1.1) in
+    (g.0, (c.requires.1.0, (c.requires.1.1.0, g.1)))
 
 -- The alphabet is of 32 symbols: what is done by their multiples is done over it.
-returns : tie.Need-returns
+returns : tie.Need-returns-in-ThirtyTwo
 returns c =
-    let p = c.before in
-    let t = p.before.before in
-    subst (DoneOf (of-thirty-two t) p.clear-block-of-thirty-two.new.0) (sym t.enum_told.given.1) p.clear-block-of-thirty-two.ensures
+    subst (DoneOf c.before.before.before.before c.clear_block_of_thirty_two.new.system) (sym c.in-ThirtyTwo.is) c.clear_block_of_thirty_two.ensures
 
 -- The alphabet is of 16 symbols: what is done by their multiples is done over it.
-returns-2 : tie.Need-returns-2
+returns-2 : tie.Need-returns-in_default
 returns-2 c =
-    let p = c.before in
-    let t = p.before.before in
-    subst (DoneOf (of-sixteen t) p.clear-block-of-sixteen.new.0) (sym t.enum-told2.given.1) p.clear-block-of-sixteen.ensures
+    subst (DoneOf c.before.before.before.before c.clear_block_of_sixteen.new.system) (sym c.in_default.is) c.clear_block_of_sixteen.ensures
 
-pub clear-block-spec : {M : Type 1} → statement M
-clear-block-spec =
+pub clear_block_spec : {M : Type 1} → statement M
+clear_block_spec =
     tie.close
     (tie.spec
     (λ c. search rules)

@@ -21,110 +21,89 @@ abbrev C : Code
 C = code_on Sixteen
 
 -- The first i of the listed rows have lost their multiples of row j in this block.
-abbrev invariant-loop : tie.invariant-loop
+abbrev invariant-loop : tie.invariant-loop-i
 invariant-loop system₀ at j places c n times i₀ system i = (i ≤ n) × DoneIn C at (at + block) j i places c system₀ system
 
-abbrev decreases-loop : tie.decreases-loop
+abbrev decreases-loop : tie.decreases-loop-i
 decreases-loop system₀ at j places c n times i₀ system i = n - i
 
-multiples-of-sixteen-requires : tie.Need-multiples-of-sixteen-requires invariant-loop decreases-loop
+multiples-of-sixteen-requires : tie.Need-multiples_of_sixteen-times-requires invariant-loop decreases-loop
 multiples-of-sixteen-requires c κs =
-    let k = c.before in
-    let s = k.before.before in
-    let a = s.args in
-    block_symbols C a.at (get_or a.system.now a.j []) k.block.result (s.requires.0.symbols a.j) k.block.ensures
+    let a = c.args in
+    block_symbols C a.at (get_or a.system.now a.j []) c.block-first.result (c.requires.0.symbols a.j) c.block-first.ensures
 
-loop-holds : tie.Need-loop-init invariant-loop decreases-loop
+loop-holds : tie.Need-loop-i-init invariant-loop decreases-loop
 loop-holds c =
-    let s = c.before.before.before.before in
-    (omega arith, rows_undone _ _ _ _ _ _ _ s.requires.0)
+    (omega arith, rows_undone _ _ _ _ _ _ _ c.requires.0)
 
-abbrev entry : tie.At-loop invariant-loop decreases-loop → tie.Start invariant-loop decreases-loop
+abbrev entry : tie.At-loop-i invariant-loop decreases-loop → tie.Start invariant-loop decreases-loop
 entry l = l.before.before.before.before.before
 
-abbrev pass : tie.After-wide invariant-loop decreases-loop → tie.In-loop invariant-loop decreases-loop
+abbrev pass : tie.After-wide-t invariant-loop decreases-loop → tie.In-loop-i invariant-loop decreases-loop
 pass w = w.before.before
 
 -- The row that the pass takes from is there.
-target : (w : tie.After-wide invariant-loop decreases-loop) → w.wide.result < length (pass w).before.loop.system
+target : (w : tie.After-wide-t invariant-loop decreases-loop) → w.wide-t.result < length w.loop-i.system
 target w =
-    let n = pass w in
-    let l = n.before in
-    let h = (entry l).pre.1.1.0.within l.loop.i n.loop-test.taken in
-    let e = l.loop.inv.1.size in
-    let f = w.wide.ensures.0 in
+    let h = w.requires.1.1.0.within w.loop-i.i w.loop-i-test.true in
+    let e = w.loop-i.invariant.1.size in
+    let f = w.wide-t.ensures.0 in
     omega arith
 
 -- So it has the width of a row.
-target-wide : (w : tie.After-wide invariant-loop decreases-loop) → length (get_or (pass w).before.loop.system w.wide.result []) ≡ width
-target-wide w = (pass w).before.loop.invariant.1.system.wide w.wide.result (target w)
-
-abbrev at_target : tie.After-wide2 invariant-loop decreases-loop → tie.After-wide invariant-loop decreases-loop
-at_target x = x.before.before
+target-wide : (w : tie.After-wide-t invariant-loop decreases-loop) → length (get_or w.loop-i.system w.wide-t.result []) ≡ width
+target-wide w = w.loop-i.invariant.1.system.wide w.wide-t.result (target w)
 
 -- The factor of the pass is a symbol.
-factor : (x : tie.After-wide2 invariant-loop decreases-loop) → x.wide2.result < C.symbols
+factor : (x : tie.After-wide-x invariant-loop decreases-loop) → x.wide-x.result < C.symbols
 factor x =
-    let n = pass (at_target x) in
-    let h = (entry n.before).pre.1.1.1 n.before.loop.i n.loop-test.taken in
-    let f = x.wide2.ensures.0 in
+    let n = pass x.before.before.before in
+    let h = (entry n.before).requires.1.1.1 n.before.loop-i.i n.loop-i-test.true in
+    let f = x.wide-x.ensures.0 in
     omega arith
 
-index-1-add : tie.Need-bounds-1-add invariant-loop decreases-loop
-index-1-add x = target (at_target x)
+index-1-add : tie.Need-bounds-system-t invariant-loop decreases-loop
+index-1-add x = target x.before.before.before
 
-index-1-add-2 : tie.Need-bounds-1-add-2 invariant-loop decreases-loop
+index-1-add-2 : tie.Need-bounds-times-x invariant-loop decreases-loop
 index-1-add-2 c = factor c.before
 
 add-requires : tie.Need-add-requires invariant-loop decreases-loop
 add-requires c κs =
-    let w = at_target c.before.before in
-    ((entry (pass w).before).pre.1.0.0, target-wide w)
+    (c.requires.1.0.0, target-wide c.before.before.before.before.before)
 
 -- The row has lost the factor times row j in this block.
 less : (c : tie.After-add invariant-loop decreases-loop)
-    → (let x = c.before.before.before in
-    let w = at_target x in
-    let l = (pass w).before in
-    let a = (entry l).args in
-    Less C a.at (a.at + block) x.wide2.result (get_or a.system.now a.j []) (get_or l.loop.system w.wide.result []) c.add.new.0)
+    → (let a = c.args in
+    Less C a.at (a.at + block) c.wide-x.result (get_or a.system.now a.j []) (get_or c.loop-i.system c.wide-t.result []) c.add.new.row)
 less c =
-    let x = c.before.before.before in
-    let l = (pass (at_target x)).before in
-    let t = l.before in
-    let f = t.before.before.block in
-    let m = t.multiples-of-sixteen in
-    let a = (entry l).args in
-    less_block C _ _ (get_or a.system.now a.j []) f.result _ _ m.result (factor x) f.ensures m.ensures c.add.ensures
+    let f = c.block-first in
+    let m = c.multiples_of_sixteen-times in
+    let a = c.args in
+    less_block C _ _ (get_or a.system.now a.j []) f.result _ _ m.result (factor c.before.before.before) f.ensures m.ensures c.add.ensures
 
-loop-again : tie.Need-loop-preserved invariant-loop decreases-loop
-loop-again c =
-    let x = c.before.before.before in
-    let w = at_target x in
-    let n = pass w in
-    let l = n.before in
-    let s = entry l in (
-      omega arith,
-      rows_done C (field_on Sixteen) _ _ _ _ _ _ _ _ _ _ _ _ n.loop-test.taken s.pre.0 s.pre.1.1.0 l.loop.inv.1 w.wide.ensures.0
-          x.wide2.ensures.0 (factor x) (c.add.ensures.size ∙ target-wide w) (less c),
-    )
+loop-again : tie.Need-loop-i-preserved invariant-loop decreases-loop
+loop-again c = (
+  omega arith,
+  rows_done C (field_on Sixteen) _ _ _ _ _ _ _ _ _ _ _ _ c.loop-i-test.true c.requires.0 c.requires.1.1.0 c.loop-i.invariant.1 c.wide-t.ensures.0
+      c.wide-x.ensures.0 (factor c.before.before.before) (c.add.ensures.size ∙ target-wide c.before.before.before.before.before.before) (less c),
+)
 
-same_length : tie.Need-same-length invariant-loop decreases-loop
-same_length c = c.before.loop.invariant.1.size
+same_length : tie.Need-shape_of-system invariant-loop decreases-loop
+same_length c = c.loop-i.invariant.1.size
 
 -- the first n of the listed rows have lost their multiples
-abbrev DoneTo : tie.At-loop invariant-loop decreases-loop → ℕ → Type 0
-DoneTo l n = let a = (entry l).args in DoneIn C a.at (a.at + block) a.j n a.places.now a.c.now a.system.now l.loop.system
+abbrev DoneTo : tie.At-loop-i invariant-loop decreases-loop → ℕ → Type 0
+DoneTo l n = let a = l.args in DoneIn C a.at (a.at + block) a.j n a.places.now a.c.now a.system.now l.loop-i.system
 
 -- The loop has ended at i = n, so all listed rows have lost their multiples of row j in this block.
 returns : tie.Need-returns invariant-loop decreases-loop
 returns c =
-    let l = c.before in
-    let e : l.loop.i ≡ (entry l).args.n = omega arith in
-    subst (DoneTo l) e l.loop.invariant.1
+    let e : c.loop-i.i ≡ c.args.n = omega arith in
+    subst (DoneTo c.before) e c.loop-i.invariant.1
 
-pub clear-block-of-sixteen-spec : {M : Type 1} → statement M
-clear-block-of-sixteen-spec =
+pub clear_block_of_sixteen_spec : {M : Type 1} → statement M
+clear_block_of_sixteen_spec =
     tie.close
     (tie.spec
     invariant-loop

@@ -5,15 +5,15 @@ use Rattle.pivots.proofs.one_of.Statement.{statement}
 use Rattle.pivots.proofs.one_of.Tie as tie
 
 -- x is zero, and 0 is answered.
-returns : tie.Need-returns
-returns c = (one_of_zero c.before.args.x c.if1.true, omega arith)
+returns : tie.Need-returns-then-x-eq0
+returns c = (one_of_zero c.args.x c.if-x-eq0.true, omega arith)
 
 -- x is not zero, and 1 is answered.
-returns-2 : tie.Need-returns-2
-returns-2 c = (one_of_other c.before.args.x c.if1.false, omega arith)
+returns-2 : tie.Need-returns
+returns-2 c = (one_of_other c.args.x c.if-x-eq0.false, omega arith)
 
-pub one-of-spec : {M : Type 1} → statement M
-one-of-spec =
+pub one_of_spec : {M : Type 1} → statement M
+one_of_spec =
     tie.close
     (tie.spec
     returns

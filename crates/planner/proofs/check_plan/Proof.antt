@@ -47,79 +47,61 @@ module _ (s : tie.Start) where
   fits-call : Accepts lines → Fits
   fits-call = let a = s.args in fits code a.n a.steps a.reliabilities.now a.plan.now
 
--- the size is checked first
-abbrev sizing : tie.After-symbols → tie.After-size
-sizing c = c.before.before.before.before
+abbrev entry : tie.After-symbols-settled → tie.Start
+entry c = c.before.before.before.before.before.before.before
 
-abbrev entry : tie.After-symbols → tie.Start
-entry c = (sizing c).before.before.before
-
-settled : (c : tie.After-symbols) → Came (lines (entry c)) [] (told_checked c.symbols.result)
+settled : (c : tie.After-symbols-settled) → Came (lines c.before.before.before.before.before.before.before) [] (told_checked c.symbols-settled.result)
 settled c =
-    let whole = c.before in
-    let given = whole.before in
-    start ▸ (sizing c).size.ensures ▸ given.before.steps.ensures ▸ given.entries.ensures ▸ whole.entries2.ensures ▸ c.symbols.ensures
+    start ▸ c.size.ensures ▸ c.steps.ensures ▸ c.entries.ensures ▸ c.entries-2.ensures ▸ c.symbols-settled.ensures
 
 -- the entry, from the check of the columns
-abbrev checking : tie.After-columns-checked → tie.Start
+abbrev checking : tie.After-columns_checked-checked → tie.Start
 checking c = entry c.before
 
-came : (c : tie.After-columns-checked) → Came (lines (checking c) ++ column-line (checking c)) [] (told_checked c.columns-checked.result)
-came c = further (column-line (checking c)) (settled c.before) ▸ c.columns-checked.ensures
+came : (c : tie.After-columns_checked-checked) → Came (lines c.before.before.before.before.before.before.before.before ++ column-line c.before.before.before.before.before.before.before.before) [] (told_checked c.columns_checked-checked.result)
+came c = further (column-line c.before.before.before.before.before.before.before.before) (settled c.before) ▸ c.columns_checked-checked.ensures
 
-columns-checked-requires : tie.Need-columns-checked-requires
+columns-checked-requires : tie.Need-columns_checked-checked-requires
 columns-checked-requires c κs e =
-    let f = fits-call (entry c) (accepted (settled c) e) in
+    let f = fits-call c.before.before.before.before.before.before.before (accepted (settled c) e) in
     let full = f.full in
     (f.sized.1, omega arith)
 
 -- A line of the chain refuses: the whole table gives its refusal, whatever the plan is.
-returns : tie.Need-returns
+returns : tie.Need-returns-in-Refused
 returns c =
-    let w = c.before.before.before in
-    let a = (checking w).args in
-    answers (came w) (ruled a.reliabilities.now a.steps a.plan.now ∷ []) _ c.before.checked.given.1
+    let a = c.args in
+    answers (came c.before) (ruled a.reliabilities.now a.steps a.plan.now ∷ []) _ c.in-Refused.is
 
--- where the chain has passed: the check of the columns, and the entry
-abbrev columned : tie.After-enum-told → tie.After-columns-checked
-columned t = t.before.before
+abbrev passed : tie.In_default → tie.Start
+passed t = checking t.before
 
-abbrev passed : tie.After-enum-told → tie.Start
-passed t = checking (columned t)
-
-fit : (t : tie.After-enum-told) → Fits (passed t)
-fit t = fits-call (passed t) (accepts_front _ (column-line (passed t)) (accepted (came (columned t)) t.enum_told.given.1))
+fit : (t : tie.In_default) → Fits t.before.before.before.before.before.before.before.before.before
+fit t = fits-call t.before.before.before.before.before.before.before.before.before (accepts_front _ (column-line t.before.before.before.before.before.before.before.before.before) (accepted (came t.before) t.in_default.is))
 
 turn-requires : tie.Need-turn-requires
 turn-requires c κs =
-    let t = c.before in
-    let a = (passed t).args in
-    let f = fit t in
+    let a = c.args in
+    let f = fit c.before in
     (bytes_within (code_on a.alphabet) a.n a.plan.now f.sized.1 f.whole, omega arith)
 
-abbrev told : tie.After-turn → tie.After-enum-told
-told l = l.before.before
-
-check-entries-requires : tie.Need-check-entries-requires
+check-entries-requires : tie.Need-check_entries-requires
 check-entries-requires c κs =
-    let l = c.before.before in
-    let a = (passed (told l)).args in
-    let f = fit (told l) in
+    let a = c.args in
+    let f = fit c.before.before.before.before in
     let s = f.sized in
-    (record { some = omega arith; small = s.1; full = f.full }, (turned_costs (code_on a.alphabet) a.n f.whole l.turn.ensures).within)
+    (record { some = omega arith; small = s.1; full = f.full }, (turned_costs (code_on a.alphabet) a.n f.whole c.turn.ensures).within)
 
 -- The chain has passed. The record's entries begin with the plan's bytes, so what their check
 -- answers is what the plan's line makes of the call.
-returns-2 : tie.Need-returns-2
+returns-2 : tie.Need-returns
 returns-2 c =
-    let l = c.before.before.before in
-    let t = told l in
-    let a = (passed t).args in
-    plan_left (came (columned t)) t.enum_told.given.1 a.reliabilities.now a.steps a.plan.now _
-    (turned_bytes (code_on a.alphabet) a.n (fit t).whole l.turn.ensures) c.check-entries.ensures
+    let a = c.args in
+    plan_left (came c.before.before.before.before.before.before) c.in_default.is a.reliabilities.now a.steps a.plan.now _
+    (turned_bytes (code_on a.alphabet) a.n (fit c.before.before.before.before.before).whole c.turn.ensures) c.check_entries.ensures
 
-pub check-plan-spec : {M : Type 1} → statement M
-check-plan-spec =
+pub check_plan_spec : {M : Type 1} → statement M
+check_plan_spec =
     tie.close
     (tie.spec
     (λ c κs. search rules)

@@ -57,71 +57,57 @@ module _ (s : tie.Start) where
   fits-call = fits code given s.args.steps s.args.reliabilities.now
 
 -- the size is checked first, the stored numbers after the reliabilities' length
-abbrev full : tie.After-symbols → tie.After-entries
+abbrev full : tie.After-symbols-settled → tie.After-entries
 full c = c.before.before.before
 
-abbrev sizing : tie.After-symbols → tie.After-size
-sizing c = (full c).before.before
+abbrev entry : tie.After-symbols-settled → tie.Start
+entry c = c.before.before.before.before.before.before.before.before.before
 
-abbrev entry : tie.After-symbols → tie.Start
-entry c = (sizing c).before.before.before.before
-
-settled : (c : tie.After-symbols) → Came (lines (entry c)) [] (told_checked c.symbols.result)
+settled : (c : tie.After-symbols-settled) → Came (lines c.before.before.before.before.before.before.before.before.before) [] (told_checked c.symbols-settled.result)
 settled c =
-    let held = c.before in
-    let whole = full c in
-    let s = entry c in
-    start ▸ (sizing c).size.ensures ▸ whole.before.steps.ensures ▸ whole.entries.ensures
-    ▸ stored_tried (code s) (given s) (told_checked whole.entries.result) held.or.ensures held.before.rightly.ensures ▸ c.symbols.ensures
+    start ▸ c.size.ensures ▸ c.steps.ensures ▸ c.entries.ensures
+    ▸ stored_tried (code c.before.before.before.before.before.before.before.before.before) (given c.before.before.before.before.before.before.before.before.before) (told_checked c.entries.result) c.or.ensures c.rightly.ensures ▸ c.symbols-settled.ensures
 
 -- the entry, from the check of the columns
-abbrev checking : tie.After-columns-checked → tie.Start
+abbrev checking : tie.After-columns_checked-checked → tie.Start
 checking c = entry c.before
 
-came : (c : tie.After-columns-checked) → Came (lines (checking c) ++ column-line (checking c)) [] (told_checked c.columns-checked.result)
-came c = further (column-line (checking c)) (settled c.before) ▸ c.columns-checked.ensures
+came : (c : tie.After-columns_checked-checked) → Came (lines c.before.before.before.before.before.before.before.before.before.before ++ column-line c.before.before.before.before.before.before.before.before.before.before) [] (told_checked c.columns_checked-checked.result)
+came c = further (column-line c.before.before.before.before.before.before.before.before.before.before) (settled c.before) ▸ c.columns_checked-checked.ensures
 
-columns-checked-requires : tie.Need-columns-checked-requires
+columns-checked-requires : tie.Need-columns_checked-checked-requires
 columns-checked-requires c κs e =
-    let f = fits-call (entry c) (accepted (settled c) e) in
+    let f = fits-call c.before.before.before.before.before.before.before.before.before (accepted (settled c) e) in
     let full = f.full in
     (f.sized.1, omega arith)
 
 -- A line of the chain refuses: the whole table gives its refusal, whatever the plan is.
-returns : tie.Need-returns
+returns : tie.Need-returns-in-Refused
 returns c =
-    let w = c.before.before.before in
-    let s = checking w in
-    let a = s.args in
-    answers (came w) (ruled a.reliabilities.now a.steps (bytes_of (code s) (given s)) ∷ []) _ c.before.checked.given.1
+    let a = c.args in
+    answers (came c.before) (ruled a.reliabilities.now a.steps (bytes_of (code c.before.before.before.before.before.before.before.before.before.before.before) (given c.before.before.before.before.before.before.before.before.before.before.before)) ∷ []) _ c.in-Refused.is
 
--- where the chain has passed: the check of the columns, and the entry
-abbrev columned : tie.After-enum-told → tie.After-columns-checked
-columned t = t.before.before
+abbrev passed : tie.In_default → tie.Start
+passed t = checking t.before
 
-abbrev passed : tie.After-enum-told → tie.Start
-passed t = checking (columned t)
+fit : (t : tie.In_default) → Fits t.before.before.before.before.before.before.before.before.before.before.before
+fit t = fits-call t.before.before.before.before.before.before.before.before.before.before.before (accepts_front _ (column-line t.before.before.before.before.before.before.before.before.before.before.before) (accepted (came t.before) t.in_default.is))
 
-fit : (t : tie.After-enum-told) → Fits (passed t)
-fit t = fits-call (passed t) (accepts_front _ (column-line (passed t)) (accepted (came (columned t)) t.enum_told.given.1))
-
-check-entries-requires : tie.Need-check-entries-requires
+check-entries-requires : tie.Need-check_entries-requires
 check-entries-requires t κs =
     let f = fit t in
     let s = f.sized in
-    (record { some = omega arith; small = s.1; full = f.full }, used_within (code (passed t)) (given (passed t)) f.right s.1)
+    (record { some = omega arith; small = s.1; full = f.full }, used_within (code t.before.before.before.before.before.before.before.before.before.before.before) (given t.before.before.before.before.before.before.before.before.before.before.before) f.right s.1)
 
 -- The chain has passed. The plan is the front of the record's entries, so what their check
 -- answers is what the plan's line makes of the call.
-returns-2 : tie.Need-returns-2
+returns-2 : tie.Need-returns
 returns-2 c =
-    let t = c.before in
-    let s = passed t in
-    let a = s.args in
-    plan_left (came (columned t)) t.enum_told.given.1 a.reliabilities.now a.steps (bytes_of (code s) (given s)) _ refl c.check-entries.ensures
+    let a = c.args in
+    plan_left (came c.before.before) c.in_default.is a.reliabilities.now a.steps (bytes_of (code c.before.before.before.before.before.before.before.before.before.before.before.before) (given c.before.before.before.before.before.before.before.before.before.before.before.before)) _ refl c.check_entries.ensures
 
-pub check-plan-of-parts-spec : {M : Type 1} → statement M
-check-plan-of-parts-spec =
+pub check_plan_of_parts_spec : {M : Type 1} → statement M
+check_plan_of_parts_spec =
     tie.close
     (tie.spec
     (λ c κs. search rules)

@@ -39,60 +39,40 @@ module _ (s : tie.Start) where
   code = code_on s.args.alphabet
 
   abbrev lines : List Line
-  lines = let a = s.args in settling code a.n a.steps a.reliabilities.now (length a.out.now)
+  lines = let a = s.args in settling code a.n a.steps a.reliabilities.now (length a.out-1.now)
 
   abbrev column-line : List Line
   column-line = columns code s.args.n s.args.reliabilities.now ∷ []
 
   abbrev Fits : Type 0
-  Fits = let a = s.args in Fit code a.n a.steps a.reliabilities.now (length a.out.now)
+  Fits = let a = s.args in Fit code a.n a.steps a.reliabilities.now (length a.out-1.now)
 
   fits-call : Accepts lines → Fits
-  fits-call = let a = s.args in fits code a.n a.steps a.reliabilities.now (length a.out.now)
+  fits-call = let a = s.args in fits code a.n a.steps a.reliabilities.now (length a.out-1.now)
 
--- the size is checked first
-abbrev sizing : tie.After-entries-room → tie.After-size
-sizing c = c.before.before.before
-
-abbrev entry : tie.After-entries-room → tie.Start
-entry c = (sizing c).before.before.before
-
-settled : (c : tie.After-entries-room) → Came (lines (entry c)) [] (told_checked c.entries-room.result)
+settled : (c : tie.After-entries_room-settled) → Came (lines c.before.before.before.before.before.before) [] (told_checked c.entries_room-settled.result)
 settled c =
-    let given = c.before in
-    start ▸ (sizing c).size.ensures ▸ given.before.steps.ensures ▸ given.entries.ensures ▸ c.entries-room.ensures
+    start ▸ c.size.ensures ▸ c.steps.ensures ▸ c.entries.ensures ▸ c.entries_room-settled.ensures
 
--- the entry, from the check of the columns
-abbrev checking : tie.After-columns-checked → tie.Start
-checking c = entry c.before
+came : (c : tie.After-columns_checked-checked)
+    → (let a = c.args in
+    Came (plan_table (code c.before.before.before.before.before.before.before) a.n a.steps a.reliabilities.now (length a.out-1.now)) [] (told_checked c.columns_checked-checked.result))
+came c = further (column-line c.before.before.before.before.before.before.before) (settled c.before) ▸ c.columns_checked-checked.ensures
 
-came : (c : tie.After-columns-checked)
-    → (let a = (checking c).args in
-    Came (plan_table (code (checking c)) a.n a.steps a.reliabilities.now (length a.out.now)) [] (told_checked c.columns-checked.result))
-came c = further (column-line (checking c)) (settled c.before) ▸ c.columns-checked.ensures
-
-columns-checked-requires : tie.Need-columns-checked-requires
+columns-checked-requires : tie.Need-columns_checked-checked-requires
 columns-checked-requires c κs e =
-    let f = fits-call (entry c) (accepted (settled c) e) in
+    let f = fits-call c.before.before.before.before.before.before (accepted (settled c) e) in
     let full = f.full in
     (f.sized.1, omega arith)
 
 -- A line of the table refuses: the answer is its refusal, and the memory is as it was.
-returns : tie.Need-returns
+returns : tie.Need-returns-in-Refused
 returns c =
-    let w = c.before.before.before in
-    let refusal = c.before.checked.given.1 in
-    (answers (came w) [] _ refusal, stops (came w) [] (λ _ _. (checking w).args.out.now) _ refusal)
+    let refusal = c.in-Refused.is in
+    (answers (came c.before) [] _ refusal, stops (came c.before) [] (λ _ _. c.args.out.now) _ refusal)
 
--- where the chain has passed: the check of the columns, and the entry
-abbrev columned : tie.After-enum-told → tie.After-columns-checked
-columned t = t.before.before
-
-abbrev passed : tie.After-enum-told → tie.Start
-passed t = checking (columned t)
-
-fit : (t : tie.After-enum-told) → Fits (passed t)
-fit t = fits-call (passed t) (accepts_front _ (column-line (passed t)) (accepted (came (columned t)) t.enum_told.given.1))
+fit : (t : tie.In_default) → Fits t.before.before.before.before.before.before.before.before
+fit t = fits-call t.before.before.before.before.before.before.before.before (accepts_front _ (column-line t.before.before.before.before.before.before.before.before) (accepted (came t.before) t.in_default.is))
 
 clear-requires : tie.Need-clear-requires
 clear-requires c κs =
@@ -101,79 +81,66 @@ clear-requires c κs =
     let room = f.spacious in
     omega arith
 
-abbrev told : tie.After-clear → tie.After-enum-told
-told k = k.before.before
-
 -- the reliabilities have as many places in front of the memory
 module _ (k : tie.After-clear) where
   abbrev many : ℕ
-  many = length (passed (told k)).args.reliabilities.now
+  many = length k.args.reliabilities.now
 
   abbrev out₀ : List ℕ
-  out₀ = (passed (told k)).args.out.now
+  out₀ = k.args.out.now
 
   within : many ≤ length out₀
   within =
-      let f = fit (told k) in
+      let f = fit k.before.before in
       let full = f.full in
       let room = f.spacious in
       omega arith
 
-  kept : length k.clear.last.0 ≡ length out₀
-  kept = length_cleared out₀ k.clear.last.0 many within k.clear.ensures
+  kept : length k.clear.new.out ≡ length out₀
+  kept = length_cleared out₀ k.clear.new.out many within k.clear.ensures
 
-  zeros : take many k.clear.last.0 ≡ replicate many 0
-  zeros = cleared_front out₀ k.clear.last.0 many within k.clear.ensures
+  zeros : take many k.clear.new.out ≡ replicate many 0
+  zeros = cleared_front out₀ k.clear.new.out many within k.clear.ensures
 
-  many-zeros : length (take many k.clear.last.0) ≡ many
+  many-zeros : length (take many k.clear.new.out) ≡ many
   many-zeros = ap length zeros ∙ length-replicate many 0
 
-slice-relend-prefix-plan-into : tie.Need-slice-relend-prefix-plan-into
+slice-relend-prefix-plan-into : tie.Need-slice_bounds-plan_into-end
 slice-relend-prefix-plan-into c =
-    let k = c.before.before in
-    let e = kept k in
-    let h = within k in
+    let e = kept c.before.before in
+    let h = within c.before.before in
     omega arith
 
-slice-aggregate-plan-into : tie.Need-slice-aggregate-plan-into
+slice-aggregate-plan-into : tie.Need-slice_bounds-plan_into-end-2
 slice-aggregate-plan-into c = sym (many-zeros c.before.before.before)
 
-plan-into-requires : tie.Need-plan-into-requires
+plan-into-requires : tie.Need-plan_into-done-requires
 plan-into-requires c κs =
-    let k = c.before.before.before in
-    let f = fit (told k) in
+    let f = fit c.before.before.before.before.before in
     let s = f.sized in
-    (record { some = omega arith; small = s.1; full = f.full }, zeros k)
+    (record { some = omega arith; small = s.1; full = f.full }, zeros c.before.before.before)
 
-abbrev cleared : tie.After-plan-into → tie.After-clear
-cleared p = p.before.before.before.before
-
-same_length : tie.Need-same-length
+same_length : tie.Need-shape_of-out
 same_length c =
-    let p = c.before.before in
-    let k = cleared p in
-    let a = (passed (told k)).args in
-    length_front k.clear.last.0 p.plan-into.new.1.1.1.1.0 (many k)
-    (ap length p.plan-into.ensures.1 ∙ length_plan a.reliabilities.now a.steps ∙ sym (many-zeros k)) ∙ kept k
+    let a = c.args in
+    length_front c.clear.new.out c.plan_into-done.new.multiplicities (many c.before.before.before.before.before.before)
+    (ap length c.plan_into-done.ensures.1 ∙ length_plan a.reliabilities.now a.steps ∙ sym (many-zeros c.before.before.before.before.before.before)) ∙ kept c.before.before.before.before.before.before
 
 -- The table accepts: the answer has the rule's steps, the plan stands in front, and behind it
 -- the memory is as it was.
-returns-2 : tie.Need-returns-2
+returns-2 : tie.Need-returns
 returns-2 c =
-    let p = c.before.before in
-    let k = cleared p in
-    let t = told k in
-    let acceptance = t.enum_told.given.1 in
-    let m = came (columned t) in
-    let full = (fit t).full in
-    let behind = kept_behind (out₀ k) k.clear.last.0 (many k) (within k) k.clear.ensures in (
-      ap₂ planned full p.plan-into.ensures.0 ∙ goes_on m [] refused _ acceptance,
-      ap₂ (λ (front behind : List ℕ). front ++ behind) p.plan-into.ensures.1 (behind ∙ ap (λ (j : ℕ). drop j (out₀ k)) full)
-          ∙ goes_on m [] (λ _ _. out₀ k) _ acceptance,
+    let acceptance = c.in_default.is in
+    let m = came c.before.before.before.before.before.before.before.before.before in
+    let full = (fit c.before.before.before.before.before.before.before.before).full in
+    let behind = kept_behind (out₀ c.before.before.before.before.before.before) c.clear.new.out (many c.before.before.before.before.before.before) (within c.before.before.before.before.before.before) c.clear.ensures in (
+      ap₂ planned full c.plan_into-done.ensures.0 ∙ goes_on m [] refused _ acceptance,
+      ap₂ (λ (front behind : List ℕ). front ++ behind) c.plan_into-done.ensures.1 (behind ∙ ap (λ (j : ℕ). drop j (out₀ c.before.before.before.before.before.before)) full)
+          ∙ goes_on m [] (λ _ _. out₀ c.before.before.before.before.before.before) _ acceptance,
     )
 
-pub plan-spec : {M : Type 1} → statement M
-plan-spec =
+pub plan_spec : {M : Type 1} → statement M
+plan_spec =
     tie.close
     (tie.spec
     (λ c κs. search rules)

@@ -5,27 +5,24 @@ use Prim.Native.Nat.{ℕ, ◌-◌, ◌≤◌, ◌<◌}
 use native.Mathlib.Omega.{arith}
 use Rattle.definitions.proofs.Powers.{bound_fits}
 use Rattle.definitions.specs.Bound.{bound}
-use Rattle.polynomial.proofs.Coefficients.{count_small}
+use Rattle.polynomial-leading.proofs.Coefficients.{count_small}
 use borrow.Author.Rules.{rules}
-use Rattle.polynomial.proofs.at_bound.Statement.{statement}
-use Rattle.polynomial.proofs.at_bound.Tie as tie
+use Rattle.polynomial-leading.proofs.at_bound.Statement.{statement}
+use Rattle.polynomial-leading.proofs.at_bound.Tie as tie
 
-count-requires : tie.Need-count-requires
+count-requires : tie.Need-count-count-requires
 count-requires c κs =
-    let s = c.before in
-    let z = s.requires in
-    let low = bound_fits s.args.v z.0 s.args.cost z.1 in
-    let e = c.bound.ensures in
+    let z = c.requires in
+    let low = bound_fits c.args.v z.0 c.args.cost z.1 in
+    let e = c.bound-bound.ensures in
     (z.0, omega arith)
 
-polynomial-requires : tie.Need-polynomial-requires
+polynomial-requires : tie.Need-polynomial-leading-requires
 polynomial-requires c κs =
-    let at_count = c.before.before in
-    let b = at_count.before.bound in
-    let n = at_count.count in
-    let s = at_count.before.before in
-    let a = s.args in
-    let z = s.requires in
+    let b = c.bound in
+    let n = c.count in
+    let a = c.args in
+    let z = c.requires in
     let few = count_small a.v b.result n.result a.cost z.0 z.1 b.ensures n.ensures in
     let room = z.3 in
     record {
@@ -41,8 +38,8 @@ polynomial-requires c κs =
 returns : tie.Need-returns
 returns c = ?
 
-pub at-bound-spec : {M : Type 1} → statement M
-at-bound-spec =
+pub at_bound_spec : {M : Type 1} → statement M
+at_bound_spec =
     tie.close
     (tie.spec
     (λ c κs. search rules)

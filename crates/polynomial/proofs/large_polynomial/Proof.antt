@@ -5,13 +5,13 @@ use borrow.Author.Rules.{rules}
 use Rattle.polynomial.proofs.large_polynomial.Statement.{statement}
 use Rattle.polynomial.proofs.large_polynomial.Tie as tie
 
-polynomial-in-requires : tie.Need-polynomial-in-requires
+polynomial-in-requires : tie.Need-polynomial_in-requires
 polynomial-in-requires c κs =
-    let g = c.before.before.before.requires in
+    let g = c.requires in
     (g, (empty_clear greatest_limit, g.cheap))
 
-pub large-polynomial-spec : {M : Type 1} → statement M
-large-polynomial-spec =
+pub large_polynomial_spec : {M : Type 1} → statement M
+large_polynomial_spec =
     tie.close
     (tie.spec
     (λ c. search rules)

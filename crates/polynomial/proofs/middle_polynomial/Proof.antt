@@ -5,13 +5,12 @@ use borrow.Author.Rules.{rules}
 use Rattle.polynomial.proofs.middle_polynomial.Statement.{statement}
 use Rattle.polynomial.proofs.middle_polynomial.Tie as tie
 
-polynomial-in-requires : tie.Need-polynomial-in-requires
+polynomial-in-requires : tie.Need-polynomial_in-requires
 polynomial-in-requires c κs =
-    let s = c.before.before.before in
-    (s.requires.0, (empty_clear middle_rows, s.requires.1))
+    (c.requires.0, (empty_clear middle_rows, c.requires.1))
 
-pub middle-polynomial-spec : {M : Type 1} → statement M
-middle-polynomial-spec =
+pub middle_polynomial_spec : {M : Type 1} → statement M
+middle_polynomial_spec =
     tie.close
     (tie.spec
     (λ c. search rules)

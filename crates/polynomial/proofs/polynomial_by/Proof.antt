@@ -14,98 +14,74 @@ use borrow.Author.Rules.{rules}
 use Rattle.polynomial.proofs.polynomial_by.Statement.{statement}
 use Rattle.polynomial.proofs.polynomial_by.Tie as tie
 
-abbrev entry : tie.After-matrix-rows → tie.Start
-entry m = m.before.before.before.before
-
-abbrev at_rows : tie.After-first-dependent → tie.After-matrix-rows
-at_rows d = d.before.before.before
-
-abbrev at-column : tie.After-lead → tie.After-first-dependent
-at-column l = l.before.before.before
-
-matrix-rows-requires : tie.Need-matrix-rows-requires
+matrix-rows-requires : tie.Need-matrix_rows-rows-requires
 matrix-rows-requires c κs =
-    let s = c.before.before.before in
-    let g = s.requires.1.0 in
+    let g = c.requires.1.0 in
     let e = rows_priced _ _ _ _ _ _ _ g in (
-      s.requires.0,
+      c.requires.0,
       (
         (g.weighted, degree_small _ _ _ _ _ _ _ g, blocks_fit _ _ _ _ _ _ _ g),
-        (omega arith, clear_from s.args.system.now s.requires.1.1.0 (blocks_for s.args.cost * block)),
+        (omega arith, clear_from c.args.system.now c.requires.1.1.0 (blocks_for c.args.cost * block)),
       ),
     )
 
 -- The zeros that are lent are a system.
-empty : (m : tie.After-matrix-rows) → (let a = (entry m).args in System (code_on a.alphabet) a.system.now)
+empty : (m : tie.After-matrix_rows-rows) → (let a = m.args in System (code_on a.alphabet) a.system.now)
 empty m =
-    let a = (entry m).args in
-    clear_system a.system.now (entry m).requires.1.1.0 (code_on a.alphabet) (field_on a.alphabet)
+    let a = m.args in
+    clear_system a.system.now m.requires.1.1.0 (code_on a.alphabet) (field_on a.alphabet)
 
 -- So are the conditions that are written into them.
-start : (m : tie.After-matrix-rows) → System (code_on (entry m).args.alphabet) m.matrix-rows.new.1.0
+start : (m : tie.After-matrix_rows-rows) → System (code_on m.args.alphabet) m.matrix_rows-rows.new.rows
 start m =
-    let s = entry m in
-    let w = s.args.alphabet in
+    let w = m.args.alphabet in
     let z = sized w in
-    start_system (code_on w) _ _ _ _ _ _ s.pre.1.0 _ _ s.pre.1.1.1 m.matrix-rows.ensures.1 (field_on w) (omega arith) (empty m)
+    start_system (code_on w) _ _ _ _ _ _ m.requires.1.0 _ _ m.requires.1.1.1 m.matrix_rows-rows.ensures.1 (field_on w) (omega arith) (empty m)
 
 -- The system has room for their blocks.
-within : (m : tie.After-matrix-rows) → Within m.matrix-rows.result (blocks_for (entry m).args.cost) m.matrix-rows.new.1.0
+within : (m : tie.After-matrix_rows-rows) → Within m.matrix_rows-rows.result (blocks_for m.args.cost) m.matrix_rows-rows.new.rows
 within m =
-    let s = entry m in
-    start_within _ _ _ _ _ _ _ s.pre.1.0 _ _ s.pre.1.1.1 m.matrix-rows.ensures.1 _ m.matrix-rows.ensures.0
+    start_within _ _ _ _ _ _ _ m.requires.1.0 _ _ m.requires.1.1.1 m.matrix_rows-rows.ensures.1 _ m.matrix_rows-rows.ensures.0
 
-first-dependent-requires : tie.Need-first-dependent-requires
+first-dependent-requires : tie.Need-first_dependent-leading-requires
 first-dependent-requires c κs =
-    let m = c.before.before in
-    (start m, ((entry m).requires.0, within m))
+    (start c.before.before, (c.requires.0, within c.before.before))
 
 -- The column found is the place of a coefficient: there are fewer rows than monomials.
-place : (d : tie.After-first-dependent) → d.first-dependent.result < (entry (at_rows d)).args.count
+place : (d : tie.After-first_dependent-leading) → d.first_dependent-leading.result < d.args.count
 place d =
-    let m = at_rows d in
-    let g = (entry m).pre.1.0 in
+    let g = d.requires.1.0 in
     let e = rows_priced _ _ _ _ _ _ _ g in
     let l = more _ _ _ _ _ _ _ g in
-    let r = m.matrix-rows.ensures.0 in
-    let f = d.first-dependent.ensures.0 in
+    let r = d.matrix_rows-rows.ensures.0 in
+    let f = d.first_dependent-leading.ensures.0 in
     omega arith
 
 lead-requires : tie.Need-lead-requires
 lead-requires c κs =
-    let d = c.before.before in
-    (place d, (entry (at_rows d)).requires.1.0.room)
+    (place c.before.before, c.requires.1.0.room)
 
 solve-requires : tie.Need-solve-requires
 solve-requires c κs =
-    let l = c.before.before.before.before in
-    let d = at-column l in
-    let m = at_rows d in
-    let s = entry m in
-    let e = d.first-dependent.ensures in
+    let e = c.first_dependent-leading.ensures in
     let low = e.0 in
-    let w = within m in
-    let inside : d.first-dependent.result < width = let f = w.fewer in let i = w.inside in omega arith in
-    let there : d.first-dependent.result ≤ length d.first-dependent.last.1.0 = let t = w.there in let k = e.1.0.size in omega arith in
-    let room : d.first-dependent.result ≤ length l.lead.new.1.1.0 = let p = place d in let k = l.lead.ensures.size in let r = s.pre.1.0.room in omega arith in
-    (s.pre.0, (e.1.0.system.symbols, (inside, there, room)))
+    let w = within c.before.before.before.before.before.before.before.before.before in
+    let inside : c.first_dependent-leading.result < width = let f = w.fewer in let i = w.inside in omega arith in
+    let there : c.first_dependent-leading.result ≤ length c.first_dependent-leading.new.system = let t = w.there in let k = e.1.0.size in omega arith in
+    let room : c.first_dependent-leading.result ≤ length c.lead.new.out = let p = place c.before.before.before.before.before.before in let k = c.lead.ensures.size in let r = c.requires.1.0.room in omega arith in
+    (c.requires.0, (e.1.0.system.symbols, (inside, there, room)))
 
 -- The column found is led by 1 and solved for: so its coefficients interpolate, and it is their place.
 returns : tie.Need-returns
 returns c =
-    let v = c.before.before in
-    let l = v.before.before.before.before.before in
-    let d = at-column l in
-    let m = at_rows d in
-    let s = entry m in
-    let w = s.args.alphabet in
+    let w = c.args.alphabet in
     let z = sized w in
-    let e = d.first-dependent.ensures in
-    polynomial_found (code_on w) (field_on w) (omega arith) (λ z. omega arith) _ _ _ _ _ _ s.pre.1.0 _ _ _ (empty m) s.pre.1.1.1 m.matrix-rows.ensures.1 _ _
-    m.matrix-rows.ensures.0 e.0 e.1.0 e.1.1 _ _ l.lead.ensures v.solve.ensures
+    let e = c.first_dependent-leading.ensures in
+    polynomial_found (code_on w) (field_on w) (omega arith) (λ z. omega arith) _ _ _ _ _ _ c.requires.1.0 _ _ _ (empty c.before.before.before.before.before.before.before.before.before.before.before.before) c.requires.1.1.1 c.matrix_rows-rows.ensures.1 _ _
+    c.matrix_rows-rows.ensures.0 e.0 e.1.0 e.1.1 _ _ c.lead.ensures c.solve.ensures
 
-pub polynomial-by-spec : {M : Type 1} → statement M
-polynomial-by-spec =
+pub polynomial_by_spec : {M : Type 1} → statement M
+polynomial_by_spec =
     tie.close
     (tie.spec
     (λ c. search rules)

@@ -12,48 +12,34 @@ use Rattle.polynomial.proofs.polynomial_in.Tie as tie
 
 -- what the entry says of a matrix of symbols of this alphabet
 abbrev GivenOf : tie.Start → Alphabet → Type 0
-GivenOf s w = let a = s.args in Given (code_on w) a.matrix.now a.v a.d a.count a.cost a.out.now
+GivenOf s w = let a = s.args in Given (code_on w) a.matrix.now a.v a.d a.count a.cost a.out-1.now
 
 -- the polynomial of a matrix of symbols of this alphabet
 abbrev FoundOf : tie.Start → ℕ → List ℕ → Alphabet → Type 0
-FoundOf s place after w = let a = s.args in Found (code_on w) a.matrix.now a.v a.d a.out.now place after
+FoundOf s place after w = let a = s.args in Found (code_on w) a.matrix.now a.v a.d a.out-1.now place after
 
-abbrev of-thirty-two : tie.After-products-of-thirty-two → tie.Start
-of-thirty-two p = p.before.before.before.before
-
-abbrev of-sixteen : tie.After-products-of-sixteen → tie.Start
-of-sixteen p = p.before.before.before.before
-
-polynomial-by-requires : tie.Need-polynomial-by-requires
+polynomial-by-requires : tie.Need-polynomial_by-requires
 polynomial-by-requires c κs =
-    let p = c.before.before.before in
-    let s = of-thirty-two p in
-    (p.products-of-thirty-two.ensures, (subst (GivenOf s) p.before.enum_told.given.1 s.pre.0, s.pre.1))
+    (c.products_of_thirty_two-table.ensures, (subst (GivenOf c.before.before.before.before.before.before) c.in-ThirtyTwo.is c.requires.0, c.requires.1))
 
-polynomial-by-requires-2 : tie.Need-polynomial-by-requires-2
+polynomial-by-requires-2 : tie.Need-polynomial_by-requires-2
 polynomial-by-requires-2 c κs =
-    let p = c.before.before.before in
-    let s = of-sixteen p in
-    (p.products-of-sixteen.ensures, (subst (GivenOf s) p.before.enum-told2.given.1 s.pre.0, s.pre.1))
+    (c.products_of_sixteen-table.ensures, (subst (GivenOf c.before.before.before.before.before.before) c.in_default.is c.requires.0, c.requires.1))
 
 -- The alphabet is of 32 symbols: the polynomial found by their table is that of the alphabet.
-returns : tie.Need-returns
+returns : tie.Need-returns-in-ThirtyTwo
 returns c =
-    let r = c.before.before.before in
-    let p = r.before.before.before.before in
-    subst (FoundOf (of-thirty-two p) r.polynomial-by.result r.polynomial-by.new.1.1.1.1.1.1.1.1.0) (sym p.before.enum_told.given.1)
-    r.polynomial-by.ensures
+    subst (FoundOf c.before.before.before.before.before.before.before.before.before.before c.polynomial_by.result c.polynomial_by.new.out) (sym c.in-ThirtyTwo.is)
+    c.polynomial_by.ensures
 
 -- The alphabet is of 16 symbols: the polynomial found by their table is that of the alphabet.
-returns-2 : tie.Need-returns-2
+returns-2 : tie.Need-returns
 returns-2 c =
-    let r = c.before.before.before in
-    let p = r.before.before.before.before in
-    subst (FoundOf (of-sixteen p) r.polynomial-by2.result r.polynomial-by2.new.1.1.1.1.1.1.1.1.0) (sym p.before.enum-told2.given.1)
-    r.polynomial-by2.ensures
+    subst (FoundOf c.before.before.before.before.before.before.before.before.before.before c.polynomial_by-2.result c.polynomial_by-2.new.out) (sym c.in_default.is)
+    c.polynomial_by-2.ensures
 
-pub polynomial-in-spec : {M : Type 1} → statement M
-polynomial-in-spec =
+pub polynomial_in_spec : {M : Type 1} → statement M
+polynomial_in_spec =
     tie.close
     (tie.spec
     (λ c. search rules)

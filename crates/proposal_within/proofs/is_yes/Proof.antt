@@ -17,25 +17,20 @@ abbrev bytes : tie.Start → List ℕ
 bytes s = take ((code_on s.args.alphabet).symbols * s.args.n) s.args.entries.now
 
 -- The coefficients are all zero: a no.
-returns : tie.Need-returns
+returns : tie.Need-returns-then-all_zero
 returns c =
-    let z = c.before in
-    let s = z.before.before.before in
-    let a = s.args in
-    let zero : is_zero a.coefficients.now ≡ true = sym z.all-zero.ensures ∙ c.if1.true in
-    no_of_zeros (code_on a.alphabet) a.v a.degree a.coefficients.now a.n (bytes s) zero
+    let a = c.args in
+    let zero : is_zero a.coefficients.now ≡ true = sym c.all_zero.ensures ∙ c.if-all_zero.true in
+    no_of_zeros (code_on a.alphabet) a.v a.degree a.coefficients.now a.n (bytes c.before.before.before.before) zero
 
 -- They are not: the polynomial decides.
-returns-2 : tie.Need-returns-2
+returns-2 : tie.Need-returns
 returns-2 c =
-    let e = c.before in
-    let z = e.before in
-    let s = z.before.before.before in
-    let a = s.args in
+    let a = c.args in
     let C = code_on a.alphabet in
-    let other : is_zero a.coefficients.now ≡ false = sym z.all-zero.ensures ∙ e.if1.false in
+    let other : is_zero a.coefficients.now ≡ false = sym c.all_zero.ensures ∙ c.if-all_zero.false in
     c.passes.ensures ∙ passes_front C a.n a.v a.degree a.entries.now a.coefficients.now
-    ∙ passing_decides C a.v a.degree a.coefficients.now a.n (bytes s) other
+    ∙ passing_decides C a.v a.degree a.coefficients.now a.n (bytes c.before.before.before.before.before) other
 
-pub is-yes-spec : {M : Type 1} → statement M
-is-yes-spec = tie.close (tie.spec (λ c κs. search rules) returns (λ c κs. search rules) returns-2)
+pub is_yes_spec : {M : Type 1} → statement M
+is_yes_spec = tie.close (tie.spec (λ c κs. search rules) returns (λ c κs. search rules) returns-2)

@@ -37,54 +37,48 @@ abbrev bytes : tie.Start → List ℕ
 bytes s = take ((code_of s).symbols * s.args.n) s.args.entries.now
 
 -- The cost is above the limit: refusal 7, before the degree is looked at, and no memory has changed.
-returns : tie.Need-returns
+returns : tie.Need-returns-then-limit-cost
 returns c =
-    let s = c.before.before.before.before.before in
-    let a = s.args in
-    let paid = s.requires.1.0.paid in
-    refused_by_cost (code_of s) a.n a.k a.limit (bytes s) a.rows.now a.scores.now
-    (within_bound (a.k - 1) (bytes s) a.degree ∷ proposed (code_of s) a.n (a.k - 1) a.degree (bytes s) a.coefficients.now ∷ []) (omega arith)
+    let a = c.args in
+    let paid = c.requires.1.0.paid in
+    refused_by_cost (code_of c.before.before.before.before.before) a.n a.k a.limit (bytes c.before.before.before.before.before) a.rows.now a.scores.now
+    (within_bound (a.k - 1) (bytes c.before.before.before.before.before) a.degree ∷ proposed (code_of c.before.before.before.before.before) a.n (a.k - 1) a.degree (bytes c.before.before.before.before.before) a.coefficients.now ∷ []) (omega arith)
 
-abbrev entry : tie.After-bound → tie.Start
-entry b = let cheap-enough = b.before in cheap-enough.before.before.before.before.before
+abbrev entry : tie.After-bound-bound → tie.Start
+entry b = b.before.before.before.before.before.before
 
 -- The cost of the bytes is within the limit, and the bound is theirs.
-cheap : (b : tie.After-bound) → (let s = entry b in cost (bytes s) ≤ s.args.limit)
-cheap b = let paid = (entry b).requires.1.0.paid in omega arith
+cheap : (b : tie.After-bound-bound) → (cost (bytes b.before.before.before.before.before.before) ≤ b.args.limit)
+cheap b = let paid = b.requires.1.0.paid in omega arith
 
-is_bound : (b : tie.After-bound) → (let s = entry b in b.bound.result ≡ bound (s.args.k - 1) (cost (bytes s)))
-is_bound b = let s = entry b in b.bound.ensures ∙ ap (bound (s.args.k - 1)) s.pre.1.0.paid
+is_bound : (b : tie.After-bound-bound) → (b.bound-bound.result ≡ bound (s.args.k - 1) (cost (bytes b.before.before.before.before.before.before)))
+is_bound b = b.bound-bound.ensures ∙ ap (bound (b.args.k - 1)) b.requires.1.0.paid
 
 -- The degree limit is above the bound: refusal 2, and no memory has changed.
-returns-2 : tie.Need-returns-2
+returns-2 : tie.Need-returns-then-bound-degree
 returns-2 c =
-    let b = c.before in
-    let s = entry b in
-    let a = s.args in
-    let above : bound (a.k - 1) (cost (bytes s)) < a.degree = (let is = is_bound b in omega arith) in
-    refused_by_degree (code_of s) a.n a.k a.limit a.degree a.coefficients.now (bytes s) a.rows.now a.scores.now (cheap b) above
+    let a = c.args in
+    let above : bound (a.k - 1) (cost (bytes c.before.before.before.before.before.before.before)) < a.degree = (let is = is_bound c.before in omega arith) in
+    refused_by_degree (code_of c.before.before.before.before.before.before.before) a.n a.k a.limit a.degree a.coefficients.now (bytes c.before.before.before.before.before.before.before) a.rows.now a.scores.now (cheap c.before) above
 
-abbrev at_bound : tie.After-is-yes → tie.After-bound
+abbrev at_bound : tie.After-is_yes → tie.After-bound-bound
 at_bound y = y.before.before
 
 -- The degree limit is within the bound.
-within : (y : tie.After-is-yes) → (let s = entry (at_bound y) in s.args.degree ≤ bound (s.args.k - 1) (cost (bytes s)))
-within y = let is = is_bound (at_bound y) in omega arith
+within : (y : tie.After-is_yes) → (let s = entry y.before.before in s.args.degree ≤ bound (s.args.k - 1) (cost (bytes s)))
+within y = let is = is_bound y.before.before in omega arith
 
 -- The proposal is a no: refusal 10, and no memory has changed.
-returns-3 : tie.Need-returns-3
+returns-3 : tie.Need-returns-then-not-is_yes
 returns-3 c =
-    let y = c.before in
-    let b = at_bound y in
-    let s = entry b in
-    let a = s.args in
-    let no_of : y.is-yes.result ≡ false = not-true y.is-yes.result c.if3.true in
-    refused_by_proposal (code_of s) a.n a.k a.limit a.degree a.coefficients.now (bytes s) a.rows.now a.scores.now (cheap b) (within y)
-    (sym y.is-yes.ensures ∙ no_of)
+    let a = c.args in
+    let no_of : c.is_yes.result ≡ false = not-true c.is_yes.result c.if-not-is_yes.true in
+    refused_by_proposal (code_of c.before.before.before.before.before.before.before.before.before) a.n a.k a.limit a.degree a.coefficients.now (bytes c.before.before.before.before.before.before.before.before.before) a.rows.now a.scores.now (cheap c.before.before.before) (within c.before)
+    (sym c.is_yes.ensures ∙ no_of)
 
 -- what is known where the columns are made
-module _ (c : tie.After-in-columns) where
-  abbrev asked : tie.After-is-yes
+module _ (c : tie.After-in_columns-columns) where
+  abbrev asked : tie.After-is_yes
   asked = c.before.before
 
   abbrev start : tie.Start
@@ -92,31 +86,31 @@ module _ (c : tie.After-in-columns) where
 
   says_yes : (let a = start.args in is_yes (code_of start) a.n (a.k - 1) a.degree (bytes start) a.coefficients.now ≡ true)
   says_yes =
-      let yes_of : asked.is-yes.result ≡ true = not-false asked.is-yes.result c.before.if3.false in
-      sym asked.is-yes.ensures ∙ yes_of
+      let yes_of : asked.is_yes.result ≡ true = not-false asked.is_yes.result c.if-not-is_yes.false in
+      sym asked.is_yes.ensures ∙ yes_of
 
   full : length (bytes start) ≡ (code_of start).symbols * start.args.n
-  full = length-take-le ((code_of start).symbols * start.args.n) start.args.entries.now start.pre.1.0.within
+  full = length-take-le ((code_of start).symbols * start.args.n) start.args.entries.now start.requires.1.0.within
 
   -- the columns are those of the bytes
-  loaded : c.in-columns.result ≡ matrix_of (code_of start) (bytes start) start.args.n
+  loaded : c.in_columns-columns.result ≡ matrix_of (code_of start) (bytes start) start.args.n
   loaded =
       let a = start.args in
-      columns_front (code_of start) a.n a.cost a.entries.now start.pre.0.sized.2 start.pre.1.0 c.in-columns.result c.in-columns.ensures
+      columns_front (code_of start) a.n a.cost a.entries.now start.requires.0.sized.2 start.requires.1.0 c.in_columns-columns.result c.in_columns-columns.ensures
 
   -- the proposal's roots above the bound can be listed
-  rooted : (let a = start.args in Rooted (code_of start) a.n a.k a.degree (at_bound asked).bound.result a.coefficients.now)
+  rooted : (let a = start.args in Rooted (code_of start) a.n a.k a.degree (at_bound asked).bound-bound.result a.coefficients.now)
   rooted =
       let a = start.args in
-      let f = start.pre.0 in
-      let g = start.pre.1.1 in
+      let f = start.requires.0 in
+      let g = start.requires.1.1 in
       let b = at_bound asked in
       let limit = f.low in
       let price : a.cost ≤ greatest_limit = omega arith in
-      let small = degree_small (a.k - 1) a.cost b.bound.result g.positive price b.bound.ensures in
-      let grows = degree_grows (a.k - 1) a.degree b.bound.result g.positive (omega arith) in
+      let small = degree_small (a.k - 1) a.cost b.bound-bound.result g.positive price b.bound-bound.ensures in
+      let grows = degree_grows (a.k - 1) a.degree b.bound-bound.result g.positive (omega arith) in
       let powers = powers_of_y (a.k - 1) g.positive a.cost price in
-      let same = ap (λ (D : ℕ). D / (a.k - 1)) b.bound.ensures in
+      let same = ap (λ (D : ℕ). D / (a.k - 1)) b.bound-bound.ensures in
       record {
         sized = f.sized;
         few = g.few;
@@ -127,30 +121,27 @@ module _ (c : tie.After-in-columns) where
         nonzero = (yes_means (code_of start) (a.k - 1) a.degree a.coefficients.now a.n (bytes start) says_yes).0;
       }
 
-roots-above-requires : tie.Need-roots-above-requires
+roots-above-requires : tie.Need-roots_above-requires
 roots-above-requires c κs =
-    let k = c.before.before.before in
-    let f = (start k).requires.0 in
-    (rooted k, ((f.room_for_rows, f.room_for_scores), (bytes (start k), full k, loaded k)))
+    let f = (start c.before.before.before).requires.0 in
+    (rooted c.before.before.before, ((f.room_for_rows, f.room_for_scores), (bytes (start c.before.before.before), full c.before.before.before, loaded c.before.before.before)))
 
 -- The roots of the proposal above the bound are listed, and these are all messages above it.
-returns-4 : tie.Need-returns-4
+returns-4 : tie.Need-returns
 returns-4 c =
-    let at-roots = c.before.before.before.before in
-    let k = at-roots.before.before.before.before in
-    let y = asked k in
+    let y = asked c.before.before.before.before.before.before.before.before in
     let b = at_bound y in
-    let s = start k in
+    let s = start c.before.before.before.before.before.before.before.before in
     let a = s.args in
     let C = code_of s in
-    let yes_of = says_yes k in
+    let yes_of = says_yes c.before.before.before.before.before.before.before.before in
     let through = (yes_means C (a.k - 1) a.degree a.coefficients.now a.n (bytes s) yes_of).1 in
     listed_by_proposal C a.n a.k a.limit a.degree a.coefficients.now (bytes s) a.rows.now a.scores.now (cheap b) (within y) yes_of
-    (lists C (field_on a.alphabet) a.n a.k a.degree b.bound.result a.coefficients.now (rooted k) (bytes s) (full k) through (omega arith) _ (is_bound b)
-    (at-roots.roots-above.ensures (bytes s) (full k) (loaded k)))
+    (lists C (field_on a.alphabet) a.n a.k a.degree b.bound-bound.result a.coefficients.now (rooted c.before.before.before.before.before.before.before.before) (bytes s) (full c.before.before.before.before.before.before.before.before) through (omega arith) _ (is_bound b)
+    (c.roots_above.ensures (bytes s) (full c.before.before.before.before.before.before.before.before) (loaded c.before.before.before.before.before.before.before.before)))
 
-pub list-proposed-spec : {M : Type 1} → statement M
-list-proposed-spec =
+pub list_proposed_spec : {M : Type 1} → statement M
+list_proposed_spec =
     tie.close
     (tie.spec
     returns

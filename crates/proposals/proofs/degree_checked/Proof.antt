@@ -9,40 +9,36 @@ use Rattle.proposals.proofs.degree_checked.Statement.{statement}
 use Rattle.proposals.proofs.degree_checked.Tie as tie
 
 -- A line before these has refused, and its refusal stands.
-returns : tie.Need-returns
+returns : tie.Need-returns-in-Refused
 returns c =
-    let a = c.before.before.before.args in
-    kept_twice a.checked (limited (a.k - 1) a.degree) (stated (a.k - 1) a.degree a.given) _ c.before.checked.given.1
+    let a = c.args in
+    kept_twice a.checked (limited (a.k - 1) a.degree) (stated (a.k - 1) a.degree a.given) _ c.in-Refused.is
 
 -- Where what came in has passed there are two message symbols or more.
-weighted : (t : tie.After-enum-told) → 2 ≤ t.before.before.args.k
-weighted t = t.before.before.requires t.enum_told.given.1
+weighted : (t : tie.In_default) → 2 ≤ t.args.k
+weighted t = t.requires t.in_default.is
 
 -- There are more coefficients than 256.
-returns-2 : tie.Need-returns-2
+returns-2 : tie.Need-returns-then-degree-ge-GREATEST_COUNT
 returns-2 c =
-    let t = c.before in
-    let a = t.before.before.args in
-    let w = weighted t in
-    too_many a.checked t.enum_told.given.1 (a.k - 1) a.degree a.given (omega arith) (omega arith)
+    let a = c.args in
+    let w = weighted c.before in
+    too_many a.checked c.in_default.is (a.k - 1) a.degree a.given (omega arith) (omega arith)
 
-sub-count : tie.Need-overflow-sub-count
+sub-count : tie.Need-overflow_sub-k
 sub-count c = let w = weighted c.before in omega arith
 
-count-requires : tie.Need-count-requires
+count-requires : tie.Need-count-count-requires
 count-requires c κs = let w = weighted c.before in (omega arith, omega arith)
 
 -- Both lines are tried by the count.
-returns-3 : tie.Need-returns-3
+returns-3 : tie.Need-returns
 returns-3 c =
-    let few = c.before in
-    let counted = few.before in
-    let t = counted.before.before in
-    let a = t.before.before.args in
-    by_count a.checked t.enum_told.given.1 (a.k - 1) a.degree a.given counted.count.result counted.count.ensures few.or.ensures c.or2.ensures
+    let a = c.args in
+    by_count a.checked c.in_default.is (a.k - 1) a.degree a.given c.count-count.result c.count-count.ensures c.or.ensures c.or-2.ensures
 
-pub degree-checked-spec : {M : Type 1} → statement M
-degree-checked-spec =
+pub degree_checked_spec : {M : Type 1} → statement M
+degree_checked_spec =
     tie.close
     (tie.spec
     (λ c. search rules)

@@ -27,18 +27,15 @@ use Rattle.proposals.proofs.list_of_proposal_of_parts.Statement.{statement}
 use Rattle.proposals.proofs.list_of_proposal_of_parts.Tie as tie
 
 abbrev at-start : tie.After-sizes → tie.Start
-at-start z = let lent = z.before.before.before in lent.before.before.before
+at-start z = z.before.before.before.before.before.before
 
-degree-checked-requires : tie.Need-degree-checked-requires
+degree-checked-requires : tie.Need-degree_checked-requires
 degree-checked-requires c κs e =
-    let a = (at-start c.before).args in
-    priced_fit (code_on a.alphabet) a.n a.k a.limit (accepted (start ▸ c.before.sizes.ensures ▸ c.or.ensures) e)
+    let a = c.args in
+    priced_fit (code_on a.alphabet) a.n a.k a.limit (accepted (start ▸ c.sizes.ensures ▸ c.or-sized.ensures) e)
 
-abbrev at-degree : tie.After-or3 → tie.After-degree-checked
-at-degree c = c.before.before.before.before
-
-abbrev entry : tie.After-or3 → tie.Start
-entry c = at-start (at-degree c).before.before
+abbrev entry : tie.After-or-settled → tie.Start
+entry c = at-start c.before.before.before.before.before.before
 
 abbrev code_of : tie.Start → Code
 code_of s = code_on s.args.alphabet
@@ -71,79 +68,64 @@ settle s =
     let a = s.args in
     held_list_fits (code_of s) (given s) a.k a.limit a.degree a.coefficients.now (length a.rows.now) (length a.scores.now)
 
-settled : (c : tie.After-or3) → Came (front (entry c)) [] (told_checked c.or3.result)
+settled : (c : tie.After-or-settled) → Came (front c.before.before.before.before.before.before.before.before.before.before.before.before) [] (told_checked c.or-settled.result)
 settled c =
-    let d = at-degree c in
-    let stored = c.before.before in
-    let s = entry c in
-    start ▸ d.before.before.sizes.ensures ▸ d.before.or.ensures ▸ refl ▸ d.degree-checked.ensures
-    ▸ stored_tried (code_of s) (given s) (told_checked d.degree-checked.result) stored.or2.ensures stored.before.rightly.ensures
-    ▸ c.before.room.ensures ▸ c.or3.ensures
+    start ▸ c.sizes.ensures ▸ c.or-sized.ensures ▸ refl ▸ c.degree_checked.ensures
+    ▸ stored_tried (code_of c.before.before.before.before.before.before.before.before.before.before.before.before) (given c.before.before.before.before.before.before.before.before.before.before.before.before) (told_checked c.degree_checked.result) c.or.ensures c.rightly.ensures
+    ▸ c.room.ensures ▸ c.or-settled.ensures
 
-symbols-checked-requires : tie.Need-symbols-checked-requires
+symbols-checked-requires : tie.Need-symbols_checked-checked-requires
 symbols-checked-requires c κs e =
-    let f = (settle (entry c) (accepted (settled c) e)).1 in
+    let f = (settle c.before.before.before.before.before.before.before.before.before.before.before.before (accepted (settled c) e)).1 in
     let few = f.few in
     let full = f.full in
     (f.sized.2, omega arith)
 
-came : (c : tie.After-symbols-checked) → (let s = entry c.before in Came (front s ++ rest s) [] (told_checked c.symbols-checked.result))
-came c = further (rest (entry c.before)) (settled c.before) ▸ refl ▸ c.symbols-checked.ensures
+came : (c : tie.After-symbols_checked-checked) → (Came (front c.before.before.before.before.before.before.before.before.before.before.before.before.before ++ rest c.before.before.before.before.before.before.before.before.before.before.before.before.before) [] (told_checked c.symbols_checked-checked.result))
+came c = further (rest c.before.before.before.before.before.before.before.before.before.before.before.before.before) (settled c.before) ▸ refl ▸ c.symbols_checked-checked.ensures
 
 -- A check has refused: its refusal is answered, and no memory has changed.
-returns : tie.Need-returns
+returns : tie.Need-returns-in-Refused
 returns c =
-    let y = c.before.before.before in
-    let s = entry y.before in
-    let a = s.args in
-    refused_by_check (code_of s) a.n a.k (left s) (bytes_of (code_of s) (given s)) a.rows.now a.scores.now (came y) c.before.checked.given.1
+    let a = c.args in
+    refused_by_check (code_of c.before.before.before.before.before.before.before.before.before.before.before.before.before.before) a.n a.k (left c.before.before.before.before.before.before.before.before.before.before.before.before.before.before) (bytes_of (code_of c.before.before.before.before.before.before.before.before.before.before.before.before.before.before) (given c.before.before.before.before.before.before.before.before.before.before.before.before.before.before)) a.rows.now a.scores.now (came c.before) c.in-Refused.is
 
--- from where all checks have passed
-abbrev at-checked : tie.After-enum-told → tie.After-symbols-checked
-at-checked t = t.before.before
+abbrev passed : tie.In_default → tie.Start
+passed t = entry t.before.before
 
-abbrev passed : tie.After-enum-told → tie.Start
-passed t = entry (at-checked t).before
+accepts : (t : tie.In_default) → Accepts (front t.before.before.before.before.before.before.before.before.before.before.before.before.before.before ++ rest t.before.before.before.before.before.before.before.before.before.before.before.before.before.before)
+accepts t = accepted (came t.before) t.in_default.is
 
-accepts : (t : tie.After-enum-told) → Accepts (front (passed t) ++ rest (passed t))
-accepts t = accepted (came (at-checked t)) t.enum_told.given.1
-
-fit : (t : tie.After-enum-told) → Settled (passed t)
-fit t = let s = passed t in settle s (accepts_front (front s) (rest s) (accepts t))
+fit : (t : tie.In_default) → Settled t.before.before.before.before.before.before.before.before.before.before.before.before.before.before
+fit t = settle t.before.before.before.before.before.before.before.before.before.before.before.before.before.before (accepts_front (front t.before.before.before.before.before.before.before.before.before.before.before.before.before.before) (rest t.before.before.before.before.before.before.before.before.before.before.before.before.before.before) (accepts t))
 
 -- no entry is above the greatest level, and each coefficient is a symbol
-symbols-are : (t : tie.After-enum-told)
-    → (let a = (passed t).args in ((j : ℕ) → get_or a.entries.now j 0 ≤ greatest_level) × Symbols (code_of (passed t)) a.coefficients.now)
+symbols-are : (t : tie.In_default)
+    → (let a = t.args in ((j : ℕ) → get_or a.entries.now j 0 ≤ greatest_level) × Symbols (code_of t.before.before.before.before.before.before.before.before.before.before.before.before.before.before) a.coefficients.now)
 symbols-are t =
-    let s = passed t in
-    let a = s.args in
+    let a = t.args in
     let z = (sized a.alphabet).least in
-    symbols_fit (code_of s) (omega arith) a.n a.entries.now a.coefficients.now (accepts_behind (front s) (rest s) (accepts t))
+    symbols_fit (code_of t.before.before.before.before.before.before.before.before.before.before.before.before.before.before) (omega arith) a.n a.entries.now a.coefficients.now (accepts_behind (front t.before.before.before.before.before.before.before.before.before.before.before.before.before.before) (rest t.before.before.before.before.before.before.before.before.before.before.before.before.before.before) (accepts t))
 
-list-proposed-requires : tie.Need-list-proposed-requires
+list-proposed-requires : tie.Need-list_proposed-requires
 list-proposed-requires c κs =
-    let t = c.before.before in
-    let s = passed t in
-    let a = s.args in
-    let f = fit t in
-    let symbol = symbols-are t in
-    let costs = rightly_priced (code_of s) (given s) f.2 f.0.sized.2 in
-    (f.0, (costs, given_entries (code_of s) a.n a.k a.degree a.coefficients.now a.entries.now f.1 symbol.1 costs.within symbol.0))
+    let a = c.args in
+    let f = fit c.before.before in
+    let symbol = symbols-are c.before.before in
+    let costs = rightly_priced (code_of c.before.before.before.before.before.before.before.before.before.before.before.before.before.before.before.before) (given c.before.before.before.before.before.before.before.before.before.before.before.before.before.before.before.before) f.2 f.0.sized.2 in
+    (f.0, (costs, given_entries (code_of c.before.before.before.before.before.before.before.before.before.before.before.before.before.before.before.before) a.n a.k a.degree a.coefficients.now a.entries.now f.1 symbol.1 costs.within symbol.0))
 
 -- All checks have passed: list_proposed tries the lines that are left, and lists, of the record's
 -- bytes.
-returns-2 : tie.Need-returns-2
+returns-2 : tie.Need-returns
 returns-2 c =
-    let at-list = c.before.before.before.before in
-    let t = at-list.before.before.before in
-    let s = passed t in
-    let a = s.args in
-    let C = code_of s in
-    passed_on C a.n a.k (left s) (bytes_of C (given s)) a.rows.now a.scores.now (came (at-checked t)) t.enum_told.given.1
-    refl _ _ _ at-list.list-proposed.ensures
+    let a = c.args in
+    let C = code_of c.before.before.before.before.before.before.before.before.before.before.before.before.before.before.before.before.before.before.before.before.before in
+    passed_on C a.n a.k (left c.before.before.before.before.before.before.before.before.before.before.before.before.before.before.before.before.before.before.before.before.before) (bytes_of C (given c.before.before.before.before.before.before.before.before.before.before.before.before.before.before.before.before.before.before.before.before.before)) a.rows.now a.scores.now (came c.before.before.before.before.before.before.before.before) c.in_default.is
+    refl _ _ _ c.list_proposed.ensures
 
-pub list-of-proposal-of-parts-spec : {M : Type 1} → statement M
-list-of-proposal-of-parts-spec =
+pub list_of_proposal_of_parts_spec : {M : Type 1} → statement M
+list_of_proposal_of_parts_spec =
     tie.close
     (tie.spec
     (λ c κs. search rules)

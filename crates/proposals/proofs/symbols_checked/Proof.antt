@@ -14,48 +14,41 @@ use Rattle.proposals.proofs.symbols_checked.Statement.{statement}
 use Rattle.proposals.proofs.symbols_checked.Tie as tie
 
 -- A line before these has refused, and its refusal stands.
-returns : tie.Need-returns
+returns : tie.Need-returns-in-Refused
 returns c =
-    let a = c.before.before.before.before.before.args in
+    let a = c.args in
     let C = code_on a.alphabet in
-    kept_twice a.checked (entries_of a.entries.now) (runs_on (C.symbols * a.n) (symbols C a.coefficients.now)) _ c.before.checked.given.1
-
-abbrev entry : tie.After-enum-told → tie.Start
-entry t = t.before.before.before.before
+    kept_twice a.checked (entries_of a.entries.now) (runs_on (C.symbols * a.n) (symbols C a.coefficients.now)) _ c.in-Refused.is
 
 -- Where what came in has passed, n positions have at most 992 symbols.
-places-few : (t : tie.After-enum-told) → (code_on (entry t).args.alphabet).symbols * (entry t).args.n ≤ 32 * 31
+places-few : (t : tie.In_default) → (code_on t.args.alphabet).symbols * t.args.n ≤ 32 * 31
 places-few t =
-    let s = entry t in
-    let z = sized s.args.alphabet in
+    let z = sized t.args.alphabet in
     let points = z.points in
     let most = z.most in
-    let small = (s.pre t.enum_told.given.1).0 in
-    mul-le-mul {n₁ = (code_on s.args.alphabet).symbols} {m₁ = s.args.n} {n₂ = 32} {m₂ = 31} (omega arith) (omega arith)
+    let small = (t.requires t.in_default.is).0 in
+    mul-le-mul {n₁ = (code_on t.args.alphabet).symbols} {m₁ = t.args.n} {n₂ = 32} {m₂ = 31} (omega arith) (omega arith)
 
-mul-symbols-of-after : tie.Need-overflow-mul-symbols-of-after
-mul-symbols-of-after c = let few = places-few c.before.before in rw c.symbols2.ensures (omega arith)
+mul-symbols-of-after : tie.Need-overflow_mul-symbols
+mul-symbols-of-after c = let few = places-few c.before.before in rw c.symbols-2.ensures (omega arith)
 
-symbols-of-after-requires : tie.Need-symbols-of-after-requires
+symbols-of-after-requires : tie.Need-symbols_of_after-requires
 symbols-of-after-requires c κs =
-    let t = c.before.before in
-    let few = places-few t in
-    let short = ((entry t).requires t.enum_told.given.1).1 in
-    rw c.symbols2.ensures (omega arith)
+    let few = places-few c.before.before in
+    let short = (c.requires c.in_default.is).1 in
+    rw c.symbols-2.ensures (omega arith)
 
 -- Both lines are tried.
-returns-2 : tie.Need-returns-2
+returns-2 : tie.Need-returns
 returns-2 c =
-    let at-symbols = c.before in
-    let t = at-symbols.before.before in
-    let a = (entry t).args in
+    let a = c.args in
     let C = code_on a.alphabet in
-    tries_two a.checked t.enum_told.given.1 (entries_of a.entries.now) (runs_on (C.symbols * a.n) (symbols C a.coefficients.now))
-    at-symbols.before.symbols.ensures
-    (c.symbols-of-after.ensures ∙ ap (λ (z : ℕ). or_line (told_checked at-symbols.before.symbols.result) (runs_on (z * a.n) (symbols C a.coefficients.now))) at-symbols.symbols2.ensures)
+    tries_two a.checked c.in_default.is (entries_of a.entries.now) (runs_on (C.symbols * a.n) (symbols C a.coefficients.now))
+    c.symbols.ensures
+    (c.symbols_of_after.ensures ∙ ap (λ (z : ℕ). or_line (told_checked c.symbols.result) (runs_on (z * a.n) (symbols C a.coefficients.now))) c.symbols-2.ensures)
 
-pub symbols-checked-spec : {M : Type 1} → statement M
-symbols-checked-spec =
+pub symbols_checked_spec : {M : Type 1} → statement M
+symbols_checked_spec =
     tie.close
     (tie.spec
     (λ c. search rules)

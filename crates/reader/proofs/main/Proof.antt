@@ -7,14 +7,11 @@ use Rattle.streams.specs.declared.Moved.{Moved}
 use Rattle.reader.proofs.main.Statement.{statement}
 use Rattle.reader.proofs.main.Tie as tie
 
-abbrev read-call : tie.After-count → tie.After-read-full
-read-call at_count = at_count.before.before.before
-
 -- as many bytes as are told lie in the memory, so that the part of it that is answered has this length
-read : (at_count : tie.After-count) → IsPrefixLen at_count.count.given.0.0 (read-call at_count).read-full.new.1.0
+read : (at_count : tie.In-Bytes-2) → IsPrefixLen at_count.in-Bytes.count at_count.read_full.new.buf
 read at_count =
-    let call = (read-call at_count).read-full in
-    subst (λ (moved : Moved). Within moved call.last.1.0) at_count.count.given.1 call.ensures
+    let call = at_count.read_full in
+    subst (λ (moved : Moved). Within moved call.last.1.0) at_count.in-Bytes.is call.ensures
 
 pub main_spec : {M : Type 1} → statement M
 main_spec =

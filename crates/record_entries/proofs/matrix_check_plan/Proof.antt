@@ -9,14 +9,13 @@ use Rattle.record_entries.proofs.matrix_check_plan.Tie as tie
 
 planned-requires : tie.Need-planned-requires
 planned-requires c κs =
-    let entry = c.before.before.before.before in
-    let a = entry.args in
+    let a = c.args in
     let h = held a.n a.cost a.totals.now a.entries.now in
-    rw c.check-plan-of-parts.ensures (held_check_narrow a.alphabet h a.steps a.reliabilities.now)
+    rw c.check_plan_of_parts.ensures (held_check_narrow a.alphabet h a.steps a.reliabilities.now)
 
 -- The only end: what crosses to C is what `planner::check_plan_of_parts` answered.
 returns : tie.Need-returns
-returns c = c.planned.ensures ∙ c.before.check-plan-of-parts.ensures
+returns c = c.planned.ensures ∙ c.check_plan_of_parts.ensures
 
-pub matrix-check-plan-spec : {M : Type 1} → statement M
-matrix-check-plan-spec = tie.close (tie.spec (λ c κs. search rules) planned-requires returns)
+pub matrix_check_plan_spec : {M : Type 1} → statement M
+matrix_check_plan_spec = tie.close (tie.spec (λ c κs. search rules) planned-requires returns)

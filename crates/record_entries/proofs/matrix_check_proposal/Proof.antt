@@ -9,14 +9,13 @@ use Rattle.record_entries.proofs.matrix_check_proposal.Tie as tie
 
 proposed-requires : tie.Need-proposed-requires
 proposed-requires c κs =
-    let entry = c.before.before.before.before in
-    let a = entry.args in
+    let a = c.args in
     let h = held a.n a.cost a.totals.now a.entries.now in
-    rw c.check-proposal-of-parts.ensures (held_proposal_narrow a.alphabet h a.k a.degree a.coefficients.now)
+    rw c.check_proposal_of_parts.ensures (held_proposal_narrow a.alphabet h a.k a.degree a.coefficients.now)
 
 -- The only end: what crosses to C is what `proposals::check_proposal_of_parts` answered.
 returns : tie.Need-returns
-returns c = c.proposed.ensures ∙ c.before.check-proposal-of-parts.ensures
+returns c = c.proposed.ensures ∙ c.check_proposal_of_parts.ensures
 
-pub matrix-check-proposal-spec : {M : Type 1} → statement M
-matrix-check-proposal-spec = tie.close (tie.spec (λ c κs. search rules) proposed-requires returns)
+pub matrix_check_proposal_spec : {M : Type 1} → statement M
+matrix_check_proposal_spec = tie.close (tie.spec (λ c κs. search rules) proposed-requires returns)

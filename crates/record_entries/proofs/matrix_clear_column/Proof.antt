@@ -7,23 +7,16 @@ use borrow.Author.Rules.{rules}
 use Rattle.record_entries.proofs.matrix_clear_column.Statement.{statement}
 use Rattle.record_entries.proofs.matrix_clear_column.Tie as tie
 
-abbrev at_call : tie.After-slice-known4 → tie.After-clear-column
-at_call c = c.before.before.before.before
-
-abbrev entry : tie.After-clear-column → tie.Start
-entry c = c.before.before.before.before.before
-
 priced-requires : tie.Need-priced-requires
 priced-requires c κs =
-    let called = at_call c in
-    let a = (entry called).args in
+    let a = c.args in
     let h = held a.n a.cost a.totals.now a.entries.now in
-    rw called.clear_column.ensures.0 (clear_narrow a.alphabet h a.position)
+    rw c.clear_column.ensures.0 (clear_narrow a.alphabet h a.position)
 
 -- The only end: what crosses to C is what `editing::parts::clear_column` answered, and both
 -- memories are as that left them.
 returns : tie.Need-returns
-returns c = rw c.priced.ensures (at_call c.before).clear_column.ensures
+returns c = rw c.priced.ensures c.clear_column.ensures
 
-pub matrix-clear-column-spec : {M : Type 1} → statement M
-matrix-clear-column-spec = tie.close (tie.spec (λ c κs. search rules) priced-requires (λ c. search rules) (λ c. search rules) returns)
+pub matrix_clear_column_spec : {M : Type 1} → statement M
+matrix_clear_column_spec = tie.close (tie.spec (λ c κs. search rules) priced-requires (λ c. search rules) (λ c. search rules) returns)

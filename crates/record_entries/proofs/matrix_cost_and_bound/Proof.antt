@@ -10,14 +10,13 @@ use Rattle.record_entries.proofs.matrix_cost_and_bound.Tie as tie
 
 costed-requires : tie.Need-costed-requires
 costed-requires c κs =
-    let entry = c.before.before.before in
-    let a = entry.args in
+    let a = c.args in
     let h = held a.n a.cost a.totals.now a.entries.now in
-    rw c.cost-and-bound-of-parts.ensures (held_cost_narrow a.alphabet h a.k)
+    rw c.cost_and_bound_of_parts.ensures (held_cost_narrow a.alphabet h a.k)
 
 -- The only end: what crosses to C is what `weights::cost_and_bound_of_parts` answered.
 returns : tie.Need-returns
-returns c = c.costed.ensures ∙ c.before.cost-and-bound-of-parts.ensures
+returns c = c.costed.ensures ∙ c.cost_and_bound_of_parts.ensures
 
-pub matrix-cost-and-bound-spec : {M : Type 1} → statement M
-matrix-cost-and-bound-spec = tie.close (tie.spec (λ c κs. search rules) costed-requires returns)
+pub matrix_cost_and_bound_spec : {M : Type 1} → statement M
+matrix_cost_and_bound_spec = tie.close (tie.spec (λ c κs. search rules) costed-requires returns)

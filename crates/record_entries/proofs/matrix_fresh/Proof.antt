@@ -4,22 +4,18 @@ use borrow.Author.Rules.{rules}
 use Rattle.record_entries.proofs.matrix_fresh.Statement.{statement}
 use Rattle.record_entries.proofs.matrix_fresh.Tie as tie
 
-abbrev at_call : tie.After-slice-known4 → tie.After-fresh
-at_call c = c.before.before.before.before
-
 abbrev entry : tie.After-fresh → tie.Start
 entry c = c.before.before.before.before.before
 
 priced-requires : tie.Need-priced-requires
 priced-requires c κs =
-    let called = at_call c in
-    let a = (entry called).args in
-    rw called.fresh.ensures.0 (fresh_narrow a.alphabet a.n a.totals.now a.entries.now)
+    let a = c.args in
+    rw c.fresh.ensures.0 (fresh_narrow a.alphabet a.n a.totals.now a.entries.now)
 
 -- The only end: what crosses to C is what `editing::parts::fresh` answered, and both memories are
 -- as that left them.
 returns : tie.Need-returns
-returns c = rw c.priced.ensures (at_call c.before).fresh.ensures
+returns c = rw c.priced.ensures c.fresh.ensures
 
-pub matrix-fresh-spec : {M : Type 1} → statement M
-matrix-fresh-spec = tie.close (tie.spec (λ c κs. search rules) priced-requires (λ c. search rules) (λ c. search rules) returns)
+pub matrix_fresh_spec : {M : Type 1} → statement M
+matrix_fresh_spec = tie.close (tie.spec (λ c κs. search rules) priced-requires (λ c. search rules) (λ c. search rules) returns)

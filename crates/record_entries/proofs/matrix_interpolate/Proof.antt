@@ -7,23 +7,16 @@ use borrow.Author.Rules.{rules}
 use Rattle.record_entries.proofs.matrix_interpolate.Statement.{statement}
 use Rattle.record_entries.proofs.matrix_interpolate.Tie as tie
 
-abbrev at_call : tie.After-slice-known2 → tie.After-interpolate-parts
-at_call c = c.before.before
-
-abbrev entry : tie.After-interpolate-parts → tie.Start
-entry c = c.before.before.before.before.before
-
 interpolated-requires : tie.Need-interpolated-requires
 interpolated-requires c κs =
-    let called = at_call c in
-    let a = (entry called).args in
+    let a = c.args in
     let h = held a.n a.cost a.totals.now a.entries.now in
-    held_interpolation_narrow a.alphabet h a.k a.limit a.out.now _ _ called.interpolate-parts.ensures
+    held_interpolation_narrow a.alphabet h a.k a.limit a.out-1.now _ _ c.interpolate_parts.ensures
 
 -- The only end: what `interpolation::interpolate_parts` promises of its answer is true of what
 -- crosses.
 returns : tie.Need-returns
-returns c = rw c.interpolated.ensures (at_call c.before).interpolate-parts.ensures
+returns c = rw c.interpolated.ensures c.interpolate_parts.ensures
 
-pub matrix-interpolate-spec : {M : Type 1} → statement M
-matrix-interpolate-spec = tie.close (tie.spec (λ c κs. search rules) interpolated-requires (λ c. search rules) returns)
+pub matrix_interpolate_spec : {M : Type 1} → statement M
+matrix_interpolate_spec = tie.close (tie.spec (λ c κs. search rules) interpolated-requires (λ c. search rules) returns)

@@ -7,25 +7,21 @@ use borrow.Author.Rules.{rules}
 use Rattle.record_entries.proofs.matrix_list_of_proposal.Statement.{statement}
 use Rattle.record_entries.proofs.matrix_list_of_proposal.Tie as tie
 
-abbrev at_call : tie.After-slice-known4 → tie.After-list-of-proposal-of-parts
-at_call c = c.before.before.before.before
-
-abbrev entry : tie.After-list-of-proposal-of-parts → tie.Start
-entry c = let at-lending = c.before.before.before in at-lending.before.before.before.before.before
+abbrev entry : tie.After-list_of_proposal_of_parts → tie.Start
+entry c = c.before.before.before.before.before.before.before.before
 
 counted-requires : tie.Need-counted-requires
 counted-requires c κs =
-    let called = at_call c in
-    let a = (entry called).args in
+    let a = c.args in
     let h = held a.n a.cost a.totals.now a.entries.now in
-    let promised = called.list-of-proposal-of-parts.ensures in
+    let promised = c.list_of_proposal_of_parts.ensures in
     few_fit promised.0 promised.1.1.1
     (held_proposal_list_narrow a.alphabet h a.k a.limit a.degree a.coefficients.now a.rows.now a.scores.now)
 
 -- The only end: what crosses to C is what `proposals::list_of_proposal_of_parts` answered, and its
 -- promises of both memories and of few rows are handed on.
 returns : tie.Need-returns
-returns c = list_crosses c.counted.ensures (at_call c.before).list-of-proposal-of-parts.ensures
+returns c = list_crosses c.counted.ensures c.list_of_proposal_of_parts.ensures
 
-pub matrix-list-of-proposal-spec : {M : Type 1} → statement M
-matrix-list-of-proposal-spec = tie.close (tie.spec (λ c κs. search rules) counted-requires (λ c. search rules) (λ c. search rules) returns)
+pub matrix_list_of_proposal_spec : {M : Type 1} → statement M
+matrix_list_of_proposal_spec = tie.close (tie.spec (λ c κs. search rules) counted-requires (λ c. search rules) (λ c. search rules) returns)

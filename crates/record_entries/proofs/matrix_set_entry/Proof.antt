@@ -7,23 +7,19 @@ use borrow.Author.Rules.{rules}
 use Rattle.record_entries.proofs.matrix_set_entry.Statement.{statement}
 use Rattle.record_entries.proofs.matrix_set_entry.Tie as tie
 
-abbrev at_call : tie.After-slice-known4 → tie.After-set-entry
-at_call c = c.before.before.before.before
-
-abbrev entry : tie.After-set-entry → tie.Start
+abbrev entry : tie.After-set_entry → tie.Start
 entry c = c.before.before.before.before.before
 
 priced-requires : tie.Need-priced-requires
 priced-requires c κs =
-    let called = at_call c in
-    let a = (entry called).args in
+    let a = c.args in
     let h = held a.n a.cost a.totals.now a.entries.now in
-    rw called.set_entry.ensures.0 (set_narrow a.alphabet h a.position a.symbol a.entry)
+    rw c.set_entry.ensures.0 (set_narrow a.alphabet h a.position a.symbol a.entry)
 
 -- The only end: what crosses to C is what `editing::parts::set_entry` answered, and both memories
 -- are as that left them.
 returns : tie.Need-returns
-returns c = rw c.priced.ensures (at_call c.before).set_entry.ensures
+returns c = rw c.priced.ensures c.set_entry.ensures
 
-pub matrix-set-entry-spec : {M : Type 1} → statement M
-matrix-set-entry-spec = tie.close (tie.spec (λ c κs. search rules) priced-requires (λ c. search rules) (λ c. search rules) returns)
+pub matrix_set_entry_spec : {M : Type 1} → statement M
+matrix_set_entry_spec = tie.close (tie.spec (λ c κs. search rules) priced-requires (λ c. search rules) (λ c. search rules) returns)

@@ -11,60 +11,55 @@ use Rattle.reliabilities.proofs.column_sum.Statement.{statement}
 use Rattle.reliabilities.proofs.column_sum.Tie as tie
 
 -- The total is that of the column's first b reliabilities, each at most 65,535.
-abbrev invariant-loop : tie.invariant-loop
+abbrev invariant-loop : tie.invariant-loop-b
 invariant-loop reliabilities i symbols first total₀ b₀ total b = (b ≤ symbols) × (total ≡ sum b (λ (j : ℕ). get_or reliabilities (first + j) 0)) × (total ≤ 65535 * b)
 
-abbrev decreases-loop : tie.decreases-loop
+abbrev decreases-loop : tie.decreases-loop-b
 decreases-loop reliabilities i symbols first total₀ b₀ total b = symbols - b
 
 -- the column begins, and ends, within the reliabilities
-column : (c : tie.After-symbols invariant-loop decreases-loop)
-    → (let a = c.before.before.args in
-    let q = c.symbols.result in
+column : (c : tie.After-symbols-symbols invariant-loop decreases-loop)
+    → (let a = c.args in
+    let q = c.symbols-symbols.result in
     (q * a.i + q ≤ length a.reliabilities.now) × (q ≤ 32))
 column c =
-    let s = c.before.before in
-    let e = c.symbols.ensures in
-    let f = ap (λ (q : ℕ). q * s.args.i) e in
-    let most = (sized s.args.alphabet).most in
+    let e = c.symbols-symbols.ensures in
+    let f = ap (λ (q : ℕ). q * c.args.i) e in
+    let most = (sized c.args.alphabet).most in
     (omega arith, omega arith)
 
-mul-first : tie.Need-overflow-mul-first invariant-loop decreases-loop
+mul-first : tie.Need-overflow_mul-first invariant-loop decreases-loop
 mul-first c = let h = column c in omega arith
 
-loop-holds : tie.Need-loop-init invariant-loop decreases-loop
+loop-holds : tie.Need-loop-b-init invariant-loop decreases-loop
 loop-holds c = (omega arith, sum_none _, omega arith)
 
-add-long : tie.Need-overflow-add-long invariant-loop decreases-loop
+add-long : tie.Need-overflow_add-first invariant-loop decreases-loop
 add-long c = let h = column c.before.before in omega arith
 
-mul-long : tie.Need-overflow-mul-long invariant-loop decreases-loop
+mul-long : tie.Need-offset_bounds-reliabilities-first invariant-loop decreases-loop
 mul-long c = let h = column c.before.before in omega arith
 
-shared-slice-read-long : tie.Need-shared-slice-read-long invariant-loop decreases-loop
+shared-slice-read-long : tie.Need-bounds-reliabilities-first invariant-loop decreases-loop
 shared-slice-read-long c = let h = column c.before.before.before in omega arith
 
-add_total : tie.Need-overflow-add-total invariant-loop decreases-loop
+add_total : tie.Need-overflow_add-total invariant-loop decreases-loop
 add_total c = let h = (column c.before.before.before.before).1 in omega arith
 
-loop-again : tie.Need-loop-preserved invariant-loop decreases-loop
+loop-again : tie.Need-loop-b-preserved invariant-loop decreases-loop
 loop-again c =
-    let l = c.before.before.before in
-    let small = c.long.ensures.1 in
-    (omega arith, sum_more _ l.loop.b l.loop.total c.long.result l.loop.invariant.1 c.long.ensures.0, omega arith)
+    let small = c.long-total.ensures.1 in
+    (omega arith, sum_more _ c.loop-b.b c.loop-b.total c.long-total.result c.loop-b.invariant.1 c.long-total.ensures.0, omega arith)
 
 -- The loop has ended at b = symbols, so the total is the whole column's.
 returns : tie.Need-returns invariant-loop decreases-loop
 returns c =
-    let l = c.before in
-    let q = l.before in
-    let s = q.before.before in
-    let e : l.loop.b ≡ q.symbols.result = omega arith in
-    l.loop.invariant.1
-    ∙ ap₂ (λ (n x : ℕ). sum n (λ (j : ℕ). get_or s.args.reliabilities.now (x * s.args.i + j) 0)) (e ∙ q.symbols.ensures) q.symbols.ensures
+    let e : c.loop-b.b ≡ c.symbols-symbols.result = omega arith in
+    c.loop-b.invariant.1
+    ∙ ap₂ (λ (n x : ℕ). sum n (λ (j : ℕ). get_or c.args.reliabilities.now (x * c.args.i + j) 0)) (e ∙ c.symbols-symbols.ensures) c.symbols-symbols.ensures
 
-pub column-sum-spec : {M : Type 1} → statement M
-column-sum-spec =
+pub column_sum_spec : {M : Type 1} → statement M
+column_sum_spec =
     tie.close
     (tie.spec
     invariant-loop

@@ -12,52 +12,42 @@ use Rattle.reliabilities.proofs.first_bad_column.Statement.{statement}
 use Rattle.reliabilities.proofs.first_bad_column.Tie as tie
 
 -- No position before this one has reliabilities that sum to more than 4,096.
-abbrev invariant-loop : tie.invariant-loop
+abbrev invariant-loop : tie.invariant-loop-position
 invariant-loop alphabet reliabilities n position₀ position = (j : ℕ) → j < position → bad_column (code_on alphabet) reliabilities j ≡ false
 
-abbrev decreases-loop : tie.decreases-loop
+abbrev decreases-loop : tie.decreases-loop-position
 decreases-loop alphabet reliabilities n position₀ position = n - position
 
-loop-holds : tie.Need-loop-init invariant-loop decreases-loop
+loop-holds : tie.Need-loop-position-init invariant-loop decreases-loop
 loop-holds c j h = absurd (not-suc-le-zero h)
 
-abbrev entry : tie.At-loop invariant-loop decreases-loop → tie.Start invariant-loop decreases-loop
-entry l = l.before.before
-
-column-sum-requires : tie.Need-column-sum-requires invariant-loop decreases-loop
+column-sum-requires : tie.Need-column_sum-requires invariant-loop decreases-loop
 column-sum-requires c κs =
-    let l = c.before in
-    let s = entry l in
-    let C = code_on s.args.alphabet in
-    let w = row_within C.symbols l.loop.position s.args.n (C.symbols * s.args.n) c.loop-test.true (omega arith) in
+    let C = code_on c.args.alphabet in
+    let w = row_within C.symbols c.loop-position.position c.args.n (C.symbols * c.args.n) c.loop-position-test.true (omega arith) in
     omega arith
 
 -- The sum is above 4,096 here, and at no earlier position.
-returns : tie.Need-returns invariant-loop decreases-loop
+returns : tie.Need-returns-then-column_sum-gt-GREATEST_SUM invariant-loop decreases-loop
 returns c =
-    let summed = c.before in
-    let l = summed.before.before in
-    let a = (entry l).args in
-    column_found (code_on a.alphabet) a.reliabilities.now a.n l.loop.position l.loop.invariant summed.column-sum.result
-    summed.before.loop-test.true summed.column-sum.ensures c.if1.true
+    let a = c.args in
+    column_found (code_on a.alphabet) a.reliabilities.now a.n c.loop-position.position c.loop-position.invariant c.column_sum.result
+    c.loop-position-test.true c.column_sum.ensures c.if-column_sum-gt-GREATEST_SUM.true
 
-loop-again : tie.Need-loop-preserved invariant-loop decreases-loop
+loop-again : tie.Need-loop-position-preserved invariant-loop decreases-loop
 loop-again c =
-    let summed = c.before in
-    let l = summed.before.before in
-    let a = (entry l).args in
-    column_passed (code_on a.alphabet) a.reliabilities.now a.n l.loop.position l.loop.invariant summed.column-sum.result
-    summed.column-sum.ensures c.if1.false
+    let a = c.args in
+    column_passed (code_on a.alphabet) a.reliabilities.now a.n c.loop-position.position c.loop-position.invariant c.column_sum.result
+    c.column_sum.ensures c.if-column_sum-gt-GREATEST_SUM.false
 
 -- The loop has passed all positions, so n is answered.
-returns-2 : tie.Need-returns-2 invariant-loop decreases-loop
+returns-2 : tie.Need-returns invariant-loop decreases-loop
 returns-2 c =
-    let l = c.before in
-    let a = (entry l).args in
-    no_column (code_on a.alphabet) a.reliabilities.now a.n l.loop.position l.loop.invariant c.loop-test.false
+    let a = c.args in
+    no_column (code_on a.alphabet) a.reliabilities.now a.n c.loop-position.position c.loop-position.invariant c.loop-position-test.false
 
-pub first-bad-column-spec : {M : Type 1} → statement M
-first-bad-column-spec =
+pub first_bad_column_spec : {M : Type 1} → statement M
+first_bad_column_spec =
     tie.close
     (tie.spec
     invariant-loop

@@ -44,80 +44,58 @@ module _ (C : Code) (D k : ℕ) where
   size-passed : Accepts early → Accepts (size C k ∷ [])
   size-passed (next s (next e end)) = next s end
 
-abbrev entry : tie.After-or → tie.Start
-entry c = c.before.before.before
-
-came-early : (c : tie.After-or)
-    → (let a = (entry c).args in Came (early (code_on a.alphabet) a.degree a.k) [] (told_checked c.or.result))
-came-early c = start ▸ c.before.size.ensures ▸ c.or.ensures
+came-early : (c : tie.After-or-sized)
+    → (let a = c.args in Came (early (code_on a.alphabet) a.degree a.k) [] (told_checked c.or-sized.result))
+came-early c = start ▸ c.size.ensures ▸ c.or-sized.ensures
 
 -- The first chain refuses, and the table gives the same line.
-returns : tie.Need-returns
+returns : tie.Need-returns-in-Refused
 returns c =
-    let w = c.before.before.before in
-    let a = (entry w).args in
-    let line = given (came-early w) c.before.sized.given.1 in
+    let a = c.args in
+    let line = given (came-early c.before) c.in-Refused.is in
     gives refused_at passed (early-given (code_on a.alphabet) a.degree a.k a.coefficients.now a.room line)
 
-abbrev first-chain : tie.After-enum-told → tie.After-or
-first-chain t = t.before.before
+early-accepts : (t : tie.In_default)
+    → (let a = t.args in Accepts (early (code_on a.alphabet) a.degree a.k))
+early-accepts t = accepted (came-early t.before) t.in_default.is
 
-early-accepts : (t : tie.After-enum-told)
-    → (let a = (entry (first-chain t)).args in Accepts (early (code_on a.alphabet) a.degree a.k))
-early-accepts t = accepted (came-early (first-chain t)) t.enum_told.given.1
+fit : (t : tie.In_default) → (let a = t.args in (2 ≤ a.k) × (a.degree < greatest_count))
+fit t = let a = t.args in early-passed (code_on a.alphabet) a.degree a.k (early-accepts t)
 
-fit : (t : tie.After-enum-told) → (let a = (entry (first-chain t)).args in (2 ≤ a.k) × (a.degree < greatest_count))
-fit t = let a = (entry (first-chain t)).args in early-passed (code_on a.alphabet) a.degree a.k (early-accepts t)
-
-sub-v : tie.Need-overflow-sub-v
+sub-v : tie.Need-overflow_sub-v
 sub-v c = let f = fit c in omega arith
 
-count-requires : tie.Need-count-requires
+count-requires : tie.Need-count-stated-requires
 count-requires c κs = let f = fit c in (omega arith, omega arith)
 
-div-room : tie.Need-nonzero-div-room
+div-room : tie.Need-nonzero_div-degree
 div-room c = let f = fit c.before.before.before in omega arith
 
 room-requires : tie.Need-room-requires
 room-requires c κs = let f = fit c.before.before.before in omega arith
 
-abbrev counted : tie.After-or3 → tie.After-count
-counted c = c.before.before
-
-abbrev second-chain : tie.After-or4 → tie.After-or3
-second-chain c = c.before.before.before.before
-
-abbrev between : tie.After-or4 → tie.After-enum-told
-between c = (counted (second-chain c)).before
-
-came-late : (c : tie.After-or4)
-    → (let a = (entry (first-chain (between c))).args in
-    Came (late (code_on a.alphabet) a.degree a.k a.coefficients.now a.room) [] (told_checked c.or4.result))
+came-late : (c : tie.After-or-3)
+    → (let a = c.args in
+    Came (late (code_on a.alphabet) a.degree a.k a.coefficients.now a.room) [] (told_checked c.or-3.result))
 came-late c =
-    let zero = c.before in
-    let symbols = zero.before in
-    let room = symbols.before in
-    let given = room.before in
-    let few = given.before in
-    let n = few.before.count.ensures in
-    let q = (entry (first-chain (between c))).args.coefficients.now in
-    start ▸ (few.or2.ensures ∙ ap (λ (x : ℕ). or_line passed (line 2 (ltb greatest_count x))) n)
-    ▸ (given.or3.ensures ∙ ap (λ (x : ℕ). or_line (told_checked few.or2.result) (line 3 (not (eqb (length q) x)))) n)
-    ▸ room.room.ensures
-    ▸ symbols.symbols-of.ensures
-    ▸ (c.or4.ensures ∙ ap (λ (b : Bool). or_line (told_checked symbols.symbols-of.result) (line 8 b)) zero.all-zero.ensures)
+    let n = c.count-stated.ensures in
+    let q = c.args.coefficients.now in
+    start ▸ (c.or.ensures ∙ ap (λ (x : ℕ). or_line passed (line 2 (ltb greatest_count x))) n)
+    ▸ (c.or-2.ensures ∙ ap (λ (x : ℕ). or_line (told_checked c.or.result) (line 3 (not (eqb (length q) x)))) n)
+    ▸ c.room.ensures
+    ▸ c.symbols_of.ensures
+    ▸ (c.or-3.ensures ∙ ap (λ (b : Bool). or_line (told_checked c.symbols_of.result) (line 8 b)) c.all_zero.ensures)
 
 -- The second chain has tried the lines that are left of the table, and the size before them has passed.
-returns-2 : tie.Need-returns-2
+returns-2 : tie.Need-returns
 returns-2 c =
-    let t = between c in
-    let a = (entry (first-chain t)).args in
+    let a = c.args in
     let C = code_on a.alphabet in
     let left = late C a.degree a.k a.coefficients.now a.room in
-    all_tried (came-late c) ∙ front_passes refused_at passed left (size-passed C a.degree a.k (early-accepts t))
+    all_tried (came-late c) ∙ front_passes refused_at passed left (size-passed C a.degree a.k (early-accepts c.before.before.before.before.before.before.before))
 
-pub checked-spec : {M : Type 1} → statement M
-checked-spec =
+pub checked_spec : {M : Type 1} → statement M
+checked_spec =
     tie.close
     (tie.spec
     (λ c κs. search rules)

@@ -40,44 +40,35 @@ module _ (C : Code) (pos : 0 < C.symbols) (D k : ℕ) (q : List ℕ) (room : ℕ
     nonzero = z;
   }
 
-abbrev entry : tie.After-checked → tie.Start
-entry c = c.before.before.before
-
-came : (c : tie.After-checked)
-    → (let a = (entry c).args in
-    Came (roots_table (code_on a.alphabet) a.degree a.k a.coefficients.now (length a.out.now)) [] (told_checked c.checked.result))
-came c = has_tried _ c.checked.ensures
+came : (c : tie.After-checked-checked)
+    → (let a = c.args in
+    Came (roots_table (code_on a.alphabet) a.degree a.k a.coefficients.now (length a.out-1.now)) [] (told_checked c.checked-checked.result))
+came c = has_tried _ c.checked-checked.ensures
 
 -- A line of the table is given: its refusal, and the lent memory is as it was.
-returns : tie.Need-returns
+returns : tie.Need-returns-in-Refused
 returns c =
-    let w = c.before.before.before in
-    let refused = c.before.checked2.given.1 in
-    (answers (came w) [] _ refused, stops (came w) [] (λ _ _. (entry w).args.out.now) _ refused)
+    let refused = c.in-Refused.is in
+    (answers (came c.before) [] _ refused, stops (came c.before) [] (λ _ _. c.args.out.now) _ refused)
 
-roots-into-requires : tie.Need-roots-into-requires
+roots-into-requires : tie.Need-roots_into-requires
 roots-into-requires c κs =
-    let t = c.before in
-    let w = t.before.before in
-    let a = (entry w).args in
+    let a = c.args in
     let some : 0 < (code_on a.alphabet).symbols = let z = (sized a.alphabet).least in omega arith in
-    let accepts = accepted (came w) t.enum_told.given.1 in
-    let f = fits (code_on a.alphabet) some a.degree a.k a.coefficients.now (length a.out.now) accepts in
+    let accepts = accepted (came c.before.before) c.in_default.is in
+    let f = fits (code_on a.alphabet) some a.degree a.k a.coefficients.now (length a.out-1.now) accepts in
     ((f.sized.0, f.sized.1, f.few), ((f.full, f.spacious), (f.symbols, f.nonzero)))
 
 -- The table accepts the call, so its answer and its memory are those of the search.
-returns-2 : tie.Need-returns-2
+returns-2 : tie.Need-returns
 returns-2 c =
-    let r = c.before.before in
-    let t = r.before.before in
-    let w = t.before.before in
-    let passed = t.enum_told.given.1 in (
-      ap counted r.roots-into.ensures.0 ∙ goes_on (came w) [] refused _ passed,
-      r.roots-into.ensures.1 ∙ goes_on (came w) [] (λ _ _. (entry w).args.out.now) _ passed,
+    let passed = c.in_default.is in (
+      ap counted c.roots_into.ensures.0 ∙ goes_on (came c.before.before.before.before.before) [] refused _ passed,
+      c.roots_into.ensures.1 ∙ goes_on (came c.before.before.before.before.before) [] (λ _ _. c.args.out.now) _ passed,
     )
 
-pub roots-spec : {M : Type 1} → statement M
-roots-spec =
+pub roots_spec : {M : Type 1} → statement M
+roots_spec =
     tie.close
     (tie.spec
     (λ c κs. search rules)

@@ -15,58 +15,43 @@ use Rattle.rows.proofs.all_new.Statement.{statement}
 use Rattle.rows.proofs.all_new.Tie as tie
 
 -- Each row before row j is new, and row 0 is one of them.
-abbrev invariant-loop : tie.invariant-loop
+abbrev invariant-loop : tie.invariant-loop-j
 invariant-loop k rows count j₀ j = (1 ≤ j) × (every j (is_new k rows) ≡ true)
 
-abbrev decreases-loop : tie.decreases-loop
+abbrev decreases-loop : tie.decreases-loop-j
 decreases-loop k rows count j₀ j = count - j
-
-abbrev at-loop : tie.After-is-new invariant-loop decreases-loop → tie.At-loop invariant-loop decreases-loop
-at-loop c = c.before.before
-
-abbrev entry : tie.At-loop invariant-loop decreases-loop → tie.Start invariant-loop decreases-loop
-entry c = c.before.before
 
 abbrev new : tie.Start invariant-loop decreases-loop → ℕ → Bool
 new s = is_new s.args.k s.args.rows.now
 
-loop-holds : tie.Need-loop-init invariant-loop decreases-loop
+loop-holds : tie.Need-loop-j-init invariant-loop decreases-loop
 loop-holds c =
-    let a = c.before.args in
+    let a = c.args in
     let none_before = every_none (λ (i : ℕ). not (same (row_at a.k a.rows.now i) (row_at a.k a.rows.now 0))) in
     (omega arith, every_more (new c.before) 0 (every_none (new c.before)) none_before)
 
-is-new-requires : tie.Need-is-new-requires invariant-loop decreases-loop
-is-new-requires c κs =
-    let l = c.before in
-    let s = entry l in (
-      l.loop.invariant.0,
-      row_fits s.args.k s.args.count l.loop.j (length s.args.rows.now) s.pre (omega arith),
-    )
+is-new-requires : tie.Need-is_new-requires invariant-loop decreases-loop
+is-new-requires c κs = (
+  c.loop-j.invariant.0,
+  row_fits c.args.k c.args.count c.loop-j.j (length c.args.rows.now) c.requires (omega arith),
+)
 
 -- Row j is not new, and j is below the count: not all rows are new.
-returns : tie.Need-returns invariant-loop decreases-loop
+returns : tie.Need-returns-then-not-is_new invariant-loop decreases-loop
 returns c =
-    let n = c.before in
-    let l = at-loop n in
-    let s = entry l in
-    sym (every_but (new s) s.args.count l.loop.j (omega arith) (sym n.is-new.ensures ∙ not-true _ c.if1.true))
+    sym (every_but (new c.before.before.before.before.before) c.args.count c.loop-j.j (omega arith) (sym c.is_new.ensures ∙ c.if-not-is_new.true))
 
-loop-again : tie.Need-loop-preserved invariant-loop decreases-loop
+loop-again : tie.Need-loop-j-preserved invariant-loop decreases-loop
 loop-again c =
-    let n = c.before in
-    let l = at-loop n in
-    (omega arith, every_more (new (entry l)) l.loop.j l.loop.inv.1 (sym n.is-new.ensures ∙ not-false _ c.if1.false))
+    (omega arith, every_more (new c.before.before.before.before.before) c.loop-j.j c.loop-j.invariant.1 (sym c.is_new.ensures ∙ c.if-not-is_new.false))
 
 -- The loop has ended at the count or above it, so each row below the count is new.
-returns-2 : tie.Need-returns-2 invariant-loop decreases-loop
+returns-2 : tie.Need-returns invariant-loop decreases-loop
 returns-2 c =
-    let l = c.before in
-    let s = entry l in
-    sym (every_of (new s) s.args.count (λ i h. every_at (new s) l.loop.j i l.loop.invariant.1 (omega arith)))
+    sym (every_of (new c.before.before.before) c.args.count (λ i h. every_at (new c.before.before.before) c.loop-j.j i c.loop-j.invariant.1 (omega arith)))
 
-pub all-new-spec : {M : Type 1} → statement M
-all-new-spec =
+pub all_new_spec : {M : Type 1} → statement M
+all_new_spec =
     tie.close
     (tie.spec
     invariant-loop

@@ -9,37 +9,33 @@ use Rattle.rows.proofs.first_difference.Statement.{statement}
 use Rattle.rows.proofs.first_difference.Tie as tie
 
 -- The messages agree at each place before i.
-abbrev invariant-loop : tie.invariant-loop
+abbrev invariant-loop : tie.invariant-loop-i
 invariant-loop f g i₀ i = (i ≤ length f) × ((j : ℕ) → j < i → get_or f j 0 ≡ get_or g j 0)
 
-abbrev decreases-loop : tie.decreases-loop
+abbrev decreases-loop : tie.decreases-loop-i
 decreases-loop f g i₀ i = length f - i
 
-abbrev at-loop : tie.After-shared-slice-known2 invariant-loop decreases-loop → tie.At-loop invariant-loop decreases-loop
-at-loop c = c.before.before.before
-
-loop-holds : tie.Need-loop-init invariant-loop decreases-loop
+loop-holds : tie.Need-loop-i-init invariant-loop decreases-loop
 loop-holds c = (omega arith, λ j h. let z : ⊥ = omega arith in absurd z)
 
-shared-slice-read-if1-2 : tie.Need-shared-slice-read-if1-2 invariant-loop decreases-loop
-shared-slice-read-if1-2 c = let e = (at-loop c).before.requires in omega arith
+shared-slice-read-if1-2 : tie.Need-bounds-g-i invariant-loop decreases-loop
+shared-slice-read-if1-2 c = let e = c.requires in omega arith
 
 -- The messages agree before i, and the symbols at i are not equal.
-returns : tie.Need-returns invariant-loop decreases-loop
-returns c = record { within = omega arith; agree = (at-loop c.before).loop.inv.1; differ = λ h. c.if1.true }
+returns : tie.Need-returns-then-f-i invariant-loop decreases-loop
+returns c = record { within = omega arith; agree = c.loop-i.invariant.1; differ = λ h. c.if-f-i.true }
 
-loop-again : tie.Need-loop-preserved invariant-loop decreases-loop
+loop-again : tie.Need-loop-i-preserved invariant-loop decreases-loop
 loop-again c =
-    let l = at-loop c.before in
-    let a = l.before.args in
-    (omega arith, agree_more a.f.now a.g.now l.loop.i l.loop.inv.1 c.if1.false)
+    let a = c.args in
+    (omega arith, agree_more a.f.now a.g.now c.loop-i.i c.loop-i.invariant.1 c.if-f-i.false)
 
 -- The loop has ended at the length: the messages agree up to there, and no symbol follows.
-returns-2 : tie.Need-returns-2 invariant-loop decreases-loop
-returns-2 c = record { within = omega arith; agree = c.before.loop.invariant.1; differ = λ h. let z : ⊥ = omega arith in absurd z }
+returns-2 : tie.Need-returns invariant-loop decreases-loop
+returns-2 c = record { within = omega arith; agree = c.loop-i.invariant.1; differ = λ h. let z : ⊥ = omega arith in absurd z }
 
-pub first-difference-spec : {M : Type 1} → statement M
-first-difference-spec =
+pub first_difference_spec : {M : Type 1} → statement M
+first_difference_spec =
     tie.close
     (tie.spec
     invariant-loop

@@ -18,62 +18,47 @@ abbrev beforeNext : ℕ → List ℕ → List ℕ → ℕ → Bool
 beforeNext k rows scores i = row_before k rows scores i (i + 1)
 
 -- Each of the first i rows comes before the next, and the last row has no next.
-abbrev invariant-loop : tie.invariant-loop
+abbrev invariant-loop : tie.invariant-loop-i
 invariant-loop k rows scores i₀ i = (i ≤ length scores - 1) × (every i (beforeNext k rows scores) ≡ true)
 
-abbrev decreases-loop : tie.decreases-loop
+abbrev decreases-loop : tie.decreases-loop-i
 decreases-loop k rows scores i₀ i = length scores - i
-
-abbrev entry : tie.At-loop invariant-loop decreases-loop → tie.Start invariant-loop decreases-loop
-entry c = c.before.before.before
-
-abbrev at-loop : tie.After-row-before invariant-loop decreases-loop → tie.At-loop invariant-loop decreases-loop
-at-loop c = c.before.before
 
 abbrev ordered : tie.Start invariant-loop decreases-loop → ℕ → Bool
 ordered s = beforeNext s.args.k s.args.rows.now s.args.scores.now
 
-loop-holds : tie.Need-loop-init invariant-loop decreases-loop
+loop-holds : tie.Need-loop-i-init invariant-loop decreases-loop
 loop-holds c = (omega arith, every_none (ordered c.before.before))
 
-add-loop : tie.Need-overflow-add-loop invariant-loop decreases-loop
-add-loop c = let g = (entry c).well-formed in let h = c.loop.invariant.0 in omega arith
+add-loop : tie.Need-overflow_add-i invariant-loop decreases-loop
+add-loop c = let g = c.well_formed in let h = c.loop-i.invariant.0 in omega arith
 
-row-before-requires : tie.Need-row-before-requires invariant-loop decreases-loop
+row-before-requires : tie.Need-row_before-requires invariant-loop decreases-loop
 row-before-requires c κs =
-    let l = c.before in
-    let s = entry l in
-    let fits = row_fits s.args.k (length s.args.scores.now) in (
-      fits l.loop.i (length s.args.rows.now) s.pre (omega arith),
-      fits (l.loop.i + 1) (length s.args.rows.now) s.pre (omega arith),
+    let fits = row_fits c.args.k (length c.args.scores.now) in (
+      fits c.loop-i.i (length c.args.rows.now) c.requires (omega arith),
+      fits (c.loop-i.i + 1) (length c.args.rows.now) c.requires (omega arith),
       omega arith,
       omega arith,
     )
 
 -- Row i does not come before row i + 1, so the list is not in order.
-returns : tie.Need-returns invariant-loop decreases-loop
+returns : tie.Need-returns-then-not-row_before invariant-loop decreases-loop
 returns c =
-    let b = c.before in
-    let l = at-loop b in
-    let s = entry l in
-    sym (every_but (ordered s) (length s.args.scores.now - 1) l.loop.i (omega arith) (sym b.row_before.ensures ∙ not-true _ c.if1.true))
+    sym (every_but (ordered c.before.before.before.before.before.before) (length c.args.scores.now - 1) c.loop-i.i (omega arith) (sym c.row_before.ensures ∙ c.if-not-row_before.true))
 
-loop-again : tie.Need-loop-preserved invariant-loop decreases-loop
+loop-again : tie.Need-loop-i-preserved invariant-loop decreases-loop
 loop-again c =
-    let b = c.before in
-    let l = at-loop b in
-    (omega arith, every_more (ordered (entry l)) l.loop.i l.loop.inv.1 (sym b.row_before.ensures ∙ not-false _ c.if1.false))
+    (omega arith, every_more (ordered c.before.before.before.before.before.before) c.loop-i.i c.loop-i.invariant.1 (sym c.row_before.ensures ∙ c.if-not-row_before.false))
 
 -- The loop has ended at the last row, or at 0 where there is none: all rows are in order.
-returns-2 : tie.Need-returns-2 invariant-loop decreases-loop
+returns-2 : tie.Need-returns invariant-loop decreases-loop
 returns-2 c =
-    let l = c.before in
-    let s = entry l in
-    let end : l.loop.i ≡ length s.args.scores.now - 1 = omega arith in
-    sym (ap (λ (n : ℕ). every n (ordered s)) (sym end) ∙ l.loop.invariant.1)
+    let end : c.loop-i.i ≡ length c.args.scores.now - 1 = omega arith in
+    sym (ap (λ (n : ℕ). every n (ordered c.before.before.before.before)) (sym end) ∙ c.loop-i.invariant.1)
 
-pub in-order-spec : {M : Type 1} → statement M
-in-order-spec =
+pub in_order_spec : {M : Type 1} → statement M
+in_order_spec =
     tie.close
     (tie.spec
     invariant-loop

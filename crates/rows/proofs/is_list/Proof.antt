@@ -10,44 +10,38 @@ use borrow.Author.Tests.{eqb-true, not-true, not-false}
 use Rattle.rows.proofs.is_list.Statement.{statement}
 use Rattle.rows.proofs.is_list.Tie as tie
 
-abbrev entry : tie.After-is-product → tie.Start
-entry c = c.before.before.before
-
 -- The rows are not k symbols a score, so the page's first test fails.
-returns : tie.Need-returns
-returns c = rw (sym c.before.is-product.ensures ∙ not-true _ c.if1.true)
+returns : tie.Need-returns-then-not-is_product
+returns c = rw (sym c.is_product.ensures ∙ c.if-not-is_product.true)
 
 -- The rows are k symbols a score.
-shape : (c : tie.Else1) → (let a = (entry c.before).args in eqb (length a.rows.now) (a.k * length a.scores.now) ≡ true)
-shape c = sym c.before.is-product.ensures ∙ not-false _ c.if1.false
+shape : (c : tie.Else-not-is_product) → (let a = c.args in eqb (length a.rows.now) (a.k * length a.scores.now) ≡ true)
+shape c = sym c.is_product.ensures ∙ c.if-not-is_product.false
 
-full : (c : tie.Else1) → (let a = (entry c.before).args in a.k * length a.scores.now ≤ length a.rows.now)
+full : (c : tie.Else-not-is_product) → (let a = c.args in a.k * length a.scores.now ≤ length a.rows.now)
 full c =
-    let a = (entry c.before).args in
+    let a = c.args in
     let e = eqb-true (length a.rows.now) (a.k * length a.scores.now) (shape c) in
     omega arith
 
-in-order-requires : tie.Need-in-order-requires
+in-order-requires : tie.Need-in_order-requires
 in-order-requires c κs = full c
 
 -- The shape fits and the rows are not in order, so the page's second test fails.
-returns-2 : tie.Need-returns-2
+returns-2 : tie.Need-returns-then-not-in_order
 returns-2 c =
-    let at-order = c.before in
-    rw (shape at-order.before, sym at-order.in_order.ensures ∙ not-true _ c.if2.true)
+    rw (shape c.before.before, sym c.in_order.ensures ∙ c.if-not-in_order.true)
 
-all-new-requires : tie.Need-all-new-requires
+all-new-requires : tie.Need-all_new-requires
 all-new-requires c κs = full c.before.before
 
 -- The shape and the order fit: whether a message is repeated decides alone, and `all_new` tells it.
-returns-3 : tie.Need-returns-3
+returns-3 : tie.Need-returns
 returns-3 c =
-    let ordered = c.before in
-    let at-order = ordered.before in
-    rw (shape at-order.before, sym at-order.in_order.ensures ∙ not-false _ ordered.if2.false) c.all_new.ensures
+    rw (shape c.before.before.before, sym c.in_order.ensures ∙ c.if-not-in_order.false) c.all_new.ensures
 
-pub is-list-spec : {M : Type 1} → statement M
-is-list-spec =
+pub is_list_spec : {M : Type 1} → statement M
+is_list_spec =
     tie.close
     (tie.spec
     (λ c κs. search rules)

@@ -10,23 +10,20 @@ use Rattle.rows.specs.Rows.{list_line}
 use Rattle.rows.proofs.list_checked.Statement.{statement}
 use Rattle.rows.proofs.list_checked.Tie as tie
 
-is-list-requires : tie.Need-is-list-requires
-is-list-requires c κs = c.before.before.before.before.requires c.enum_told.given.1
+is-list-requires : tie.Need-is_list-requires
+is-list-requires c κs = c.requires c.in-Passed.is
 
 -- A refusal came in: it goes out, and the line of the list changes nothing of it.
-returns : tie.Need-returns
+returns : tie.Need-returns-in-Refused
 returns c =
-    let at-match = c.before.before in
-    let a = at-match.before.before.before.args in
-    refusal_kept a.checked (list_line a.k a.rows.now a.scores.now) _ c.before.checked.given.1
+    let a = c.args in
+    refusal_kept a.checked (list_line a.k a.rows.now a.scores.now) _ c.in-Refused.is
 
 -- Nothing was refused yet: the answer of `is_list` is the test of the list's line.
-returns-2 : tie.Need-returns-2
+returns-2 : tie.Need-returns-in-Passed
 returns-2 c =
-    let at_test = c.before in
-    let passed = at_test.before in
     c.or.ensures
-    ∙ ap₂ (λ (o : Outcome) (b : Bool). or_line o (line 3 (not b))) (sym (ap told_checked passed.enum_told.given.1)) at_test.is-list.ensures
+    ∙ ap₂ (λ (o : Outcome) (b : Bool). or_line o (line 3 (not b))) (sym (ap told_checked c.in-Passed.is)) c.is_list.ensures
 
-pub list-checked-spec : {M : Type 1} → statement M
-list-checked-spec = tie.close (tie.spec (λ c. search rules) (λ c. search rules) is-list-requires (λ c κs. search rules) returns returns-2)
+pub list_checked_spec : {M : Type 1} → statement M
+list_checked_spec = tie.close (tie.spec (λ c. search rules) (λ c. search rules) is-list-requires (λ c κs. search rules) returns returns-2)

@@ -9,32 +9,27 @@ use Rattle.rows.specs.Rows.{comes_before}
 use Rattle.rows.proofs.row_before.Statement.{statement}
 use Rattle.rows.proofs.row_before.Tie as tie
 
-abbrev at-scores : tie.After-row → tie.After-shared-slice-known4
-at-scores c = c.before.before
-
-abbrev entry : tie.After-shared-slice-known4 → tie.Start
+abbrev entry : tie.After-shared_slice_known-4-1 → tie.Start
 entry c = c.before.before.before.before
 
 -- The scores differ, so the row with the greater score comes first.
-returns : tie.Need-returns
-returns c = rw (ne_eqb _ _ c.if1.true)
+returns : tie.Need-returns-then-one-other
+returns c = rw (ne_eqb _ _ c.if-one-other.true)
 
-comes-before-requires : tie.Need-comes-before-requires
+comes-before-requires : tie.Need-comes_before-requires
 comes-before-requires c κs =
-    let s = entry (at-scores c.before) in
+    let s = entry c.before.before.before in
     let a = s.args in
-    ap length c.before.row.ensures.0 ∙ row_length a.k a.rows.now a.i s.pre.0
-    ∙ sym (ap length c.row2.ensures.0 ∙ row_length a.k a.rows.now a.j s.pre.1)
+    ap length c.row.ensures.0 ∙ row_length a.k a.rows.now a.i s.requires.0
+    ∙ sym (ap length c.row-2.ensures.0 ∙ row_length a.k a.rows.now a.j s.requires.1)
 
 -- The scores are equal, so the order of the two messages decides.
-returns-2 : tie.Need-returns-2
+returns-2 : tie.Need-returns
 returns-2 c =
-    let at-row2 = c.before in
-    let at_row = at-row2.before in
-    rw (eq-eqb _ _ at_row.before.if1.false) (c.comes-before.ensures ∙ ap₂ comes_before at_row.row.ensures.0 at-row2.row2.ensures.0)
+    rw (eq-eqb _ _ c.if-one-other.false) (c.comes_before.ensures ∙ ap₂ comes_before c.row.ensures.0 c.row-2.ensures.0)
 
-pub row-before-spec : {M : Type 1} → statement M
-row-before-spec =
+pub row_before_spec : {M : Type 1} → statement M
+row_before_spec =
     tie.close
     (tie.spec
     (λ c. search rules)

@@ -5,29 +5,22 @@ use borrow.Author.Rules.{rules}
 use Rattle.shares.proofs.better.Statement.{statement}
 use Rattle.shares.proofs.better.Tie as tie
 
-abbrev entry : tie.After-times → tie.Start
-entry kept = kept.before.before.before.before.before
-
 -- The later place's product is greater: it beats the earlier one.
-returns : tie.Need-returns
+returns : tie.Need-returns-then-kept-new
 returns c =
-    let new = c.before in
-    let kept = new.before.before.before in
-    let a = (entry kept).args in
-    later_wins a.reliabilities.now a.multiplicities.now a.earlier a.later kept.times.result new.times2.result
-    kept.times.ensures new.times2.ensures (omega arith)
+    let a = c.args in
+    later_wins a.reliabilities.now a.multiplicities.now a.earlier a.later c.times-kept.result c.times-new.result
+    c.times-kept.ensures c.times-new.ensures (omega arith)
 
 -- It is not: the later place does not beat the earlier one, which is answered, also where they tie.
-returns-2 : tie.Need-returns-2
+returns-2 : tie.Need-returns-else-kept-new
 returns-2 c =
-    let new = c.before in
-    let kept = new.before.before.before in
-    let a = (entry kept).args in
-    earlier_wins a.reliabilities.now a.multiplicities.now a.earlier a.later kept.times.result new.times2.result
-    kept.times.ensures new.times2.ensures (omega arith)
+    let a = c.args in
+    earlier_wins a.reliabilities.now a.multiplicities.now a.earlier a.later c.times-kept.result c.times-new.result
+    c.times-kept.ensures c.times-new.ensures (omega arith)
 
-pub better-spec : {M : Type 1} → statement M
-better-spec =
+pub better_spec : {M : Type 1} → statement M
+better_spec =
     tie.close
     (tie.spec
     (λ c. search rules)

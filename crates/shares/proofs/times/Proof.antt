@@ -7,12 +7,12 @@ use borrow.Author.Rules.{rules}
 use Rattle.shares.proofs.times.Statement.{statement}
 use Rattle.shares.proofs.times.Tie as tie
 
-mul-result : tie.Need-overflow-mul-result
+mul-result : tie.Need-overflow_mul-result
 mul-result c = product_fits _ _ (omega arith) (omega arith)
 
 -- Both numbers are only made wider, so their product is the promised one.
 returns : tie.Need-returns
-returns c = ap₂ (λ (a b : ℕ). a * (b + 1)) c.before.long.ensures.0 c.wide.ensures.0
+returns c = ap₂ (λ (a b : ℕ). a * (b + 1)) c.long.ensures.0 c.wide.ensures.0
 
-pub times-spec : {M : Type 1} → statement M
-times-spec = tie.close (tie.spec (λ c κs. search rules) (λ c κs. search rules) (λ c. search rules) mul-result returns)
+pub times_spec : {M : Type 1} → statement M
+times_spec = tie.close (tie.spec (λ c κs. search rules) (λ c κs. search rules) (λ c. search rules) mul-result returns)

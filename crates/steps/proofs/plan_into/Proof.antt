@@ -10,27 +10,22 @@ use Rattle.alphabet.specs.Codes.{most_positions}
 use Rattle.steps.proofs.plan_into.Statement.{statement}
 use Rattle.steps.proofs.plan_into.Tie as tie
 
-abbrev entry : tie.After-positions → tie.Start
-entry c = c.before.before.before
-
-fits : (c : tie.After-positions) → c.positions.result ≤ most_positions
+fits : (c : tie.After-positions-positions) → c.positions-positions.result ≤ most_positions
 fits c =
-    let e = c.positions.ensures in
-    let z = sized (entry c).args.alphabet in
+    let e = c.positions-positions.ensures in
+    let z = sized c.args.alphabet in
     omega arith
 
 -- what is lent has them
-lent : (c : tie.After-positions) → length (take c.positions.result (replicate {A = ℕ} most_positions 0)) ≡ c.positions.result
-lent c = length-take-le c.positions.result (replicate most_positions 0) (fits c)
+lent : (c : tie.After-positions-positions) → length (take c.positions-positions.result (replicate {A = ℕ} most_positions 0)) ≡ c.positions-positions.result
+lent c = length-take-le c.positions-positions.result (replicate most_positions 0) (fits c)
 
-plan-with-requires : tie.Need-plan-with-requires
+plan-with-requires : tie.Need-plan_with-requires
 plan-with-requires c κs =
-    let p = c.before.before in
-    let s = entry p in
-    (s.pre.0, s.pre.1, lent p ∙ p.positions.ensures)
+    (c.requires.0, c.requires.1, lent c.before.before ∙ c.positions-positions.ensures)
 
-pub plan-into-spec : {M : Type 1} → statement M
-plan-into-spec =
+pub plan_into_spec : {M : Type 1} → statement M
+plan_into_spec =
     tie.close
     (tie.spec
     (λ c κs. search rules)

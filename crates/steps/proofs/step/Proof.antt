@@ -16,111 +16,89 @@ use Rattle.steps.proofs.step.Tie as tie
 abbrev lending : tie.After-best-arg2 → tie.Start
 lending c = c.before.before.before.before.before
 
-abbrev entry : tie.After-best → tie.Start
+abbrev entry : tie.After-best-b → tie.Start
 entry b = lending b.before
 
 -- The best entry has no reliability: the plan stops, and nothing has changed.
-returns : tie.Need-returns
+returns : tie.Need-returns-then-reliabilities-b-eq0
 returns c =
-    let b = c.before.before in
-    let s = entry b in
-    let a = s.args in
-    let left = no_reliability a.reliabilities.now a.multiplicities.now b.best.result b.best.ensures.0 c.if1.true in
-    (left.0, (left.1, s.pre.2))
+    let a = c.args in
+    let left = no_reliability a.reliabilities.now a.multiplicities.now c.best-b.result c.best-b.ensures.0 c.if-reliabilities-b-eq0.true in
+    (left.0, (left.1, c.requires.2))
 
 -- The best entry stands at 5: the plan stops, and nothing has changed.
-returns-2 : tie.Need-returns-2
+returns-2 : tie.Need-returns-then-multiplicities-b-eq-GREATEST_ENTRY
 returns-2 c =
-    let e = c.before.before in
-    let b = e.before.before in
-    let s = entry b in
-    let a = s.args in
-    let left = at_greatest a.reliabilities.now a.multiplicities.now b.best.result b.best.ensures.0 e.if1.false (omega arith) in
-    (left.0, (left.1, s.pre.2))
+    let a = c.args in
+    let left = at_greatest a.reliabilities.now a.multiplicities.now c.best-b.result c.best-b.ensures.0 c.if-reliabilities-b-eq0.false (omega arith) in
+    (left.0, (left.1, c.requires.2))
 
-add-multiplicities : tie.Need-overflow-add-multiplicities
+add-multiplicities : tie.Need-overflow_add-multiplicities
 add-multiplicities c =
-    let b = c.before.before.before.before.before in
-    let s = entry b in
-    let low = s.pre.1 b.best.result in
+    let low = c.requires.1 c.best-b.result in
     omega arith
-
--- the entry has a reliability, and is below 5
-abbrev raising : tie.After-symbols → tie.Else2
-raising c = c.before.before
-
-abbrev found : tie.After-symbols → tie.After-best
-found c = (raising c).before.before.before.before
 
 -- the column of the best entry
 column : (c : tie.After-symbols)
-    → (let s = entry (found c) in
+    → (let s = entry c.before.before.before.before.before.before in
     let code = code_on s.args.alphabet in
-    let place = (found c).best.result in
+    let place = c.best-b.result in
     let i = place / c.symbols.result in
     (i < s.args.n) × (code.symbols * i ≤ place) × (place < code.symbols * i + code.symbols))
 column c =
-    let s = entry (found c) in
-    let full = s.pre.0.weights.full in
-    let within = (found c).best.ensures.1 in
+    let s = entry c.before.before.before.before.before.before in
+    let full = s.requires.0.weights.full in
+    let within = c.best-b.ensures.1 in
     let least = (sized s.args.alphabet).least in
-    column_of_lem (code_on s.args.alphabet) c.symbols.result s.args.n (found c).best.result c.symbols.ensures (omega arith) (omega arith)
+    column_of_lem (code_on s.args.alphabet) c.symbols.result s.args.n c.best-b.result c.symbols.ensures (omega arith) (omega arith)
 
-div-i : tie.Need-nonzero-div-i
+div-i : tie.Need-nonzero_div-i
 div-i c =
     let e = c.symbols.ensures in
-    let least = (sized (entry (found c)).args.alphabet).least in
+    let least = (sized c.args.alphabet).least in
     omega arith
 
-best-of-column-requires : tie.Need-best-of-column-requires
+best-of-column-requires : tie.Need-best_of_column-requires
 best-of-column-requires c κs =
-    let q = c.before in
-    let s = entry (found q) in
-    let small = s.pre.0.weights.small in
-    let full = s.pre.0.weights.full in
-    let h = column q in
+    let s = entry c.before.before.before.before.before.before in
+    let small = s.requires.0.weights.small in
+    let full = s.requires.0.weights.full in
+    let h = column c in
     let a = s.args in
     let whole = row_within (code_on a.alphabet).symbols _ a.n (length a.reliabilities.now) h.0 (omega arith) in
-    (omega arith, whole, length-set s.args.multiplicities.now (found q).best.result _ ∙ s.pre.0.as_many)
+    (omega arith, whole, length-set s.args.multiplicities.now c.best-b.result _ ∙ s.requires.0.as_many)
 
-mul-leaders : tie.Need-overflow-mul-leaders
+mul-leaders : tie.Need-offset_bounds-leaders-i
 mul-leaders c =
-    let q = c.before.before in
-    let s = entry (found q) in
-    let small = s.pre.0.weights.small in
+    let s = entry c.before.before.before.before.before.before.before in
+    let small = s.requires.0.weights.small in
     let z = sized s.args.alphabet in
-    let h = (column q).0 in
+    let h = (column c.before).0 in
     omega arith
 
-slice-write-leaders : tie.Need-slice-write-leaders
+slice-write-leaders : tie.Need-bounds-leaders-i
 slice-write-leaders c =
-    let q = c.before.before in
-    let s = entry (found q) in
-    let small = s.pre.0.weights.small in
-    let leaders = s.pre.2.full in
-    let h = (column q).0 in
+    let s = entry c.before.before.before.before.before.before.before in
+    let small = s.requires.0.weights.small in
+    let leaders = s.requires.2.full in
+    let h = (column c.before).0 in
     omega arith
 
 -- The best entry is raised: the leader of its column is looked for again, the others still lead.
-returns-3 : tie.Need-returns-3
+returns-3 : tie.Need-returns
 returns-3 c =
-    let q = c.before.before in
-    let low = raising q in
-    let some = low.before.before in
-    let b = found q in
-    let s = entry b in
-    let a = s.args in
-    let place = b.best.result in
-    let small = s.pre.0.weights.small in
-    let h = column q in
+    let a = c.args in
+    let place = c.best-b.result in
+    let small = c.requires.0.weights.small in
+    let h = column c.before in
     let r = a.reliabilities.now in
     let m = a.multiplicities.now in
-    let left = raised r m place b.best.ensures.0 some.if1.left low.if2.left in (
+    let left = raised r m place c.best-b.ensures.0 c.if-reliabilities-b-eq0.false c.if-multiplicities-b-eq-GREATEST_ENTRY.false in (
       left.0,
       (
         left.1,
-        led_again (code_on a.alphabet) r m a.leaders.now a.n (place / q.symbols.result) place _ c.best-of-column.result s.pre.2
-            h.1 h.2 (omega arith) c.best-of-column.ensures,
+        led_again (code_on a.alphabet) r m a.leaders.now a.n (place / c.symbols.result) place _ c.best_of_column.result c.requires.2
+            h.1 h.2 (omega arith) c.best_of_column.ensures,
       ),
     )
 

@@ -10,53 +10,46 @@ use Rattle.streams.proofs.read_full.Statement.{statement}
 use Rattle.streams.proofs.read_full.Tie as tie
 
 -- The memory has kept its length, and as many bytes as were read lie within it.
-abbrev invariant-loop : tie.invariant-loop
+abbrev invariant-loop : tie.invariant-loop-done
 invariant-loop fd buf₀ done₀ buf done = (length buf ≡ length buf₀) × (done ≤ length buf)
 
 -- each turn that goes on leaves fewer bytes to be read
-abbrev decreases-loop : tie.decreases-loop
+abbrev decreases-loop : tie.decreases-loop-done
 decreases-loop fd buf₀ done₀ buf done = length buf - done
 
--- where the rest has come back from the call that moved bytes, and where its turn began
-abbrev rest_back : tie.After-more invariant-loop decreases-loop → tie.After-buf invariant-loop decreases-loop
-rest_back at_more = at_more.before.before.before
+abbrev turn : tie.In-Bytes-2 invariant-loop decreases-loop → tie.At-loop-done invariant-loop decreases-loop
+turn at_more = at_more.before.before.before.before.before.before
 
-abbrev turn : tie.After-more invariant-loop decreases-loop → tie.At-loop invariant-loop decreases-loop
-turn at_more = (rest_back at_more).before.before.before.before
-
-within : (at_more : tie.After-more invariant-loop decreases-loop)
-    → (let loop = (turn at_more).loop in
-    loop.done + at_more.more.given.0.0 ≤ length loop.buf)
+within : (at_more : tie.In-Bytes-2 invariant-loop decreases-loop)
+    → (let loop = at_more.loop-done in
+    loop.done + at_more.in-Bytes.more ≤ length loop.buf)
 within at_more =
-    let loop = (turn at_more).loop in
-    let back = rest_back at_more in
-    let read = back.before.read_Some in
-    moved_within loop.done at_more.more.given.0.0 loop.buf read.last.1.0 read.result loop.inv.1 back.buf.given.0 at_more.more.given.1 read.ensures
+    let loop = at_more.loop-done in
+    let read = at_more.read_Some in
+    moved_within loop.done at_more.in-Bytes.more loop.buf read.last.1.0 read.result loop.invariant.1 at_more.buf-1.given.0 at_more.in-Bytes.is read.ensures
 
-add_done : tie.Need-overflow-add-done invariant-loop decreases-loop
-add_done c = omega (arith, within c.before.before)
+add_done : tie.Need-overflow_add-done invariant-loop decreases-loop
+add_done c = omega (arith, within c.before)
 
-loop-less : tie.Need-loop-smaller invariant-loop decreases-loop
+loop-less : tie.Need-loop-done-smaller invariant-loop decreases-loop
 loop-less c =
-    let at_more = c.before.before in
-    omega (arith, within at_more, (rest_back at_more).buf.given.1)
+    omega (arith, within c.before, c.buf-1.given.1)
 
-loop-again : tie.Need-loop-preserved invariant-loop decreases-loop
+loop-again : tie.Need-loop-done-preserved invariant-loop decreases-loop
 loop-again c =
-    let at_more = c.before.before in
-    let same = (rest_back at_more).buf.given.1 in
-    (omega (arith, same), omega (arith, within at_more, same))
+    let same = c.buf-1.given.1 in
+    (omega (arith, same), omega (arith, within c.before, same))
 
 -- The loop has ended because the memory is full.
-returns-2 : tie.Need-returns-2 invariant-loop decreases-loop
-returns-2 c = prefix_len_of_le c.before.loop.done c.before.loop.buf (omega arith)
+returns-2 : tie.Need-returns-after-loop-done invariant-loop decreases-loop
+returns-2 c = prefix_len_of_le c.loop-done.done c.loop-done.buf (omega arith)
 
 -- A call moved nothing, so the input has ended: what was read before lies within the memory still.
-returns-3 : tie.Need-returns-3 invariant-loop decreases-loop
-returns-3 c = prefix_len_of_le _ _ (omega (arith, (rest_back c.before.before).buf.given.1))
+returns-3 : tie.Need-returns-then-more-eq0 invariant-loop decreases-loop
+returns-3 c = prefix_len_of_le _ _ (omega (arith, c.buf-1.given.1))
 
-pub read-full-spec : {M : Type 1} → statement M
-read-full-spec =
+pub read_full_spec : {M : Type 1} → statement M
+read_full_spec =
     tie.close
     (tie.spec
     invariant-loop

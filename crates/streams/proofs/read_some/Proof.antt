@@ -7,15 +7,15 @@ use Rattle.streams.proofs.read_some.Statement.{statement}
 use Rattle.streams.proofs.read_some.Tie as tie
 
 -- A call may change the bytes of the memory, but not their number.
-abbrev invariant-loop : tie.invariant-loop
+abbrev invariant-loop : tie.invariant-loop-left
 invariant-loop fd buf₀ left₀ buf left = length buf ≡ length buf₀
 
 -- each turn leaves one try fewer
-abbrev decreases-loop : tie.decreases-loop
+abbrev decreases-loop : tie.decreases-loop-left
 decreases-loop fd buf₀ left₀ buf left = left
 
-pub read-some-spec : {M : Type 1} → statement M
-read-some-spec =
+pub read_some_spec : {M : Type 1} → statement M
+read_some_spec =
     tie.close
     (tie.spec
     invariant-loop

@@ -11,36 +11,36 @@ use Rattle.streams.proofs.write_all.Statement.{statement}
 use Rattle.streams.proofs.write_all.Tie as tie
 
 -- As many bytes as were written lie within the memory.
-abbrev invariant-loop : tie.invariant-loop
+abbrev invariant-loop : tie.invariant-loop-done
 invariant-loop fd buf done₀ done = done ≤ length buf
 
 -- each turn that goes on leaves fewer bytes to be written
-abbrev decreases-loop : tie.decreases-loop
+abbrev decreases-loop : tie.decreases-loop-done
 decreases-loop fd buf done₀ done = length buf - done
 
 -- where the turn began whose call took bytes, and the whole memory
-abbrev turn : tie.After-taken invariant-loop decreases-loop → tie.At-loop invariant-loop decreases-loop
-turn at-taken = at-taken.before.before.before.before.before
+abbrev turn : tie.In-Bytes-2 invariant-loop decreases-loop → tie.At-loop-done invariant-loop decreases-loop
+turn at-taken = at-taken.before.before.before.before
 
-abbrev whole : tie.After-taken invariant-loop decreases-loop → List ℕ
-whole at-taken = (turn at-taken).before.before.args.buf.now
+abbrev whole : tie.In-Bytes-2 invariant-loop decreases-loop → List ℕ
+whole at-taken = at-taken.args.buf.now
 
-within : (at-taken : tie.After-taken invariant-loop decreases-loop) → (turn at-taken).loop.done + at-taken.taken.given.0.0 ≤ length (whole at-taken)
+within : (at-taken : tie.In-Bytes-2 invariant-loop decreases-loop) → at-taken.loop-done.done + at-taken.in-Bytes.taken ≤ length (whole at-taken)
 within at-taken =
-    let loop = (turn at-taken).loop in
+    let loop = at-taken.loop-done in
     let buf = whole at-taken in
     let rest = mid_of loop.done (length buf - loop.done) buf in
-    let written = at-taken.before.before.write-some in
-    moved_within loop.done at-taken.taken.given.0.0 buf rest written.result loop.inv refl at-taken.taken.given.1 written.ensures
+    let written = at-taken.write_some in
+    moved_within loop.done at-taken.in-Bytes.taken buf rest written.result loop.invariant refl at-taken.in-Bytes.is written.ensures
 
-add_done : tie.Need-overflow-add-done invariant-loop decreases-loop
-add_done c = omega (arith, within c.before.before)
+add_done : tie.Need-overflow_add-done invariant-loop decreases-loop
+add_done c = omega (arith, within c.before)
 
-loop-less : tie.Need-loop-smaller invariant-loop decreases-loop
-loop-less c = omega (arith, within c.before.before)
+loop-less : tie.Need-loop-done-smaller invariant-loop decreases-loop
+loop-less c = omega (arith, within c.before)
 
-pub write-all-spec : {M : Type 1} → statement M
-write-all-spec =
+pub write_all_spec : {M : Type 1} → statement M
+write_all_spec =
     tie.close
     (tie.spec
     invariant-loop

@@ -5,15 +5,15 @@ use Rattle.streams.proofs.write_some.Statement.{statement}
 use Rattle.streams.proofs.write_some.Tie as tie
 
 -- Nothing changes from turn to turn but the tries that are left.
-abbrev invariant-loop : tie.invariant-loop
+abbrev invariant-loop : tie.invariant-loop-left
 invariant-loop fd buf left₀ left = Unit {0}
 
 -- each turn leaves one try fewer
-abbrev decreases-loop : tie.decreases-loop
+abbrev decreases-loop : tie.decreases-loop-left
 decreases-loop fd buf left₀ left = left
 
-pub write-some-spec : {M : Type 1} → statement M
-write-some-spec =
+pub write_some_spec : {M : Type 1} → statement M
+write_some_spec =
     tie.close
     (tie.spec
     invariant-loop

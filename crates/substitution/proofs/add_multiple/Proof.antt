@@ -18,67 +18,62 @@ use Rattle.substitution.proofs.add_multiple.Statement.{statement}
 use Rattle.substitution.proofs.add_multiple.Tie as tie
 
 -- Before column a, entry `to` has its multiple in all columns before it; all entries are symbols.
-abbrev invariant-loop : tie.invariant-loop
+abbrev invariant-loop : tie.invariant-loop-a
 invariant-loop alphabet table p₀ h w to from g a₀ p a =
     (a ≤ w) × (length p ≡ length p₀) × Symbols (code_on alphabet) p × Added (code_on alphabet) h w a to from g p₀ p
 
-abbrev decreases-loop : tie.decreases-loop
+abbrev decreases-loop : tie.decreases-loop-a
 decreases-loop alphabet table p₀ h w to from g a₀ p a = w - a
 
-loop-holds : tie.Need-loop-init invariant-loop decreases-loop
+loop-holds : tie.Need-loop-a-init invariant-loop decreases-loop
 loop-holds c =
-    let s = c.before.before in
-    let a = s.args in
-    (omega arith, refl, s.requires.1.0, added_none (code_on a.alphabet) a.h a.w a.to a.from a.g a.p.now)
+    let a = c.args in
+    (omega arith, refl, c.requires.1.0, added_none (code_on a.alphabet) a.h a.w a.to a.from a.g a.p.now)
 
-abbrev entry : tie.At-loop invariant-loop decreases-loop → tie.Start invariant-loop decreases-loop
+abbrev entry : tie.At-loop-a invariant-loop decreases-loop → tie.Start invariant-loop decreases-loop
 entry l = l.before.before.before
 
 -- entry `from` of the column is in the array, and `to` is before it
-within : (c : tie.In-loop invariant-loop decreases-loop)
-    → (let a = (entry c.before).args in c.before.loop.a * a.h + a.from < a.w * a.h)
+within : (c : tie.In-loop-a invariant-loop decreases-loop)
+    → (let a = c.args in c.loop-a.a * a.h + a.from < a.w * a.h)
 within c =
-    let a = (entry c.before).args in
-    place_within a.h c.before.loop.a a.from a.w (omega arith) (omega arith)
+    let a = c.args in
+    place_within a.h c.loop-a.a a.from a.w (omega arith) (omega arith)
 
-mul-column : tie.Need-overflow-mul-column invariant-loop decreases-loop
+mul-column : tie.Need-overflow_mul-column invariant-loop decreases-loop
 mul-column c = let i = within c in omega arith
 
-add-look : tie.Need-overflow-add-look invariant-loop decreases-loop
+add-look : tie.Need-overflow_add-column invariant-loop decreases-loop
 add-look c = let i = within c in omega arith
 
-slice-read-look : tie.Need-slice-read-look invariant-loop decreases-loop
+slice-read-look : tie.Need-bounds-p-column invariant-loop decreases-loop
 slice-read-look c = let i = within c.before in omega arith
 
 look-requires : tie.Need-look-requires invariant-loop decreases-loop
 look-requires c κs =
-    let l = c.before.before in
-    let s = entry l in
-    (s.pre.0, (s.pre.1.1.3, l.loop.invariant.2 (l.loop.a * s.args.h + s.args.from)))
+    (c.requires.0, (c.requires.1.1.3, c.loop-a.invariant.2 (c.loop-a.a * c.args.h + c.args.from)))
 
-add-p : tie.Need-overflow-add-p invariant-loop decreases-loop
+add-p : tie.Need-overflow_add-p invariant-loop decreases-loop
 add-p c = let i = within c.before.before in omega arith
 
-slice-read-p : tie.Need-slice-read-p invariant-loop decreases-loop
+slice-read-p : tie.Need-bounds-p-column-in-loop-a invariant-loop decreases-loop
 slice-read-p c = let i = within c.before.before.before in omega arith
 
-slice-write-p : tie.Need-slice-write-p invariant-loop decreases-loop
+slice-write-p : tie.Need-bounds-p-column-in-loop-a-2 invariant-loop decreases-loop
 slice-write-p c = let i = within c.before.before.before in omega arith
 
-loop-again : tie.Need-loop-preserved invariant-loop decreases-loop
+loop-again : tie.Need-loop-a-preserved invariant-loop decreases-loop
 unfolding sum_of
 loop-again c =
-    let at-loop = c.before.before.before.before in
-    let l = at-loop.loop in
-    let s = entry at-loop in
-    let a = s.args in
+    let l = c.loop-a in
+    let a = c.args in
     let C = code_on a.alphabet in
     let F = field_on a.alphabet in
     let x = get_or l.p (l.a * a.h + a.to) 0 in
     let y = get_or l.p (l.a * a.h + a.from) 0 in
-    let product = times_symbol C F a.g y s.pre.1.1.3 (l.invariant.2 (l.a * a.h + a.from)) in
+    let product = times_symbol C F a.g y c.requires.1.1.3 (l.invariant.2 (l.a * a.h + a.from)) in
     let sum = plus_symbol C F x (C.times a.g y) (l.invariant.2 (l.a * a.h + a.to)) product in
-    let e = ap (bit_xor x) c.before.look.ensures in (
+    let e = ap (bit_xor x) c.look.ensures in (
       omega arith,
       length-set l.p _ _ ∙ l.invariant.1,
       set_symbols C l.p _ _ (rw e sum) l.invariant.2,
@@ -86,20 +81,20 @@ loop-again c =
           (omega arith) (omega arith) (omega arith) (λ k. let z : ⊥ = omega arith in z) (omega arith) e,
     )
 
-same_length : tie.Need-same-length invariant-loop decreases-loop
-same_length c = c.before.loop.invariant.1
+same_length : tie.Need-shape_of-p invariant-loop decreases-loop
+same_length c = c.loop-a.invariant.1
 
 -- The loop has ended at a = w: the multiple is added in all columns.
 returns : tie.Need-returns invariant-loop decreases-loop
 returns c =
-    let l = c.before.loop in
-    let a = (entry c.before).args in
+    let l = c.loop-a in
+    let a = c.args in
     let end : l.a ≡ a.w = omega arith in
     let all = subst (λ (n : ℕ). Added (code_on a.alphabet) a.h a.w n a.to a.from a.g a.p.now l.p) end l.invariant.3 in
     (all, l.invariant.2)
 
-pub add-multiple-spec : {M : Type 1} → statement M
-add-multiple-spec =
+pub add_multiple_spec : {M : Type 1} → statement M
+add_multiple_spec =
     tie.close
     (tie.spec
     invariant-loop

@@ -10,37 +10,31 @@ use Rattle.substitution.proofs.first_other.Statement.{statement}
 use Rattle.substitution.proofs.first_other.Tie as tie
 
 -- Before place i all entries that were looked at are zero.
-abbrev invariant-loop : tie.invariant-loop
+abbrev invariant-loop : tie.invariant-loop-i
 invariant-loop p n i₀ i = (i ≤ n) × ((j : ℕ) → j < i → is_other p j ≡ false)
 
-abbrev decreases-loop : tie.decreases-loop
+abbrev decreases-loop : tie.decreases-loop-i
 decreases-loop p n i₀ i = n - i
 
-loop-holds : tie.Need-loop-init invariant-loop decreases-loop
+loop-holds : tie.Need-loop-i-init invariant-loop decreases-loop
 loop-holds c = (omega arith, λ j h. absurd (not-suc-le-zero h))
 
 -- Entry i is not zero, and all before it are: it is the first.
-returns : tie.Need-returns invariant-loop decreases-loop
+returns : tie.Need-returns-then-p-i-ne0 invariant-loop decreases-loop
 returns c =
-    let l = c.before.before.before in
-    let s = l.before in
-    other_found s.args.p.now s.args.n l.loop.i (omega arith) l.loop.invariant.1 c.if1.true
+    other_found c.args.p.now c.args.n c.loop-i.i (omega arith) c.loop-i.invariant.1 c.if-p-i-ne0.true
 
-loop-again : tie.Need-loop-preserved invariant-loop decreases-loop
+loop-again : tie.Need-loop-i-preserved invariant-loop decreases-loop
 loop-again c =
-    let l = c.before.before.before in
-    let s = l.before in
-    (omega arith, zero_passed s.args.p.now s.args.n l.loop.i l.loop.invariant.1 c.if1.false)
+    (omega arith, zero_passed c.args.p.now c.args.n c.loop-i.i c.loop-i.invariant.1 c.if-p-i-ne0.false)
 
 -- The loop has ended at i = n: all n entries are zero, and n is the answer.
-returns-2 : tie.Need-returns-2 invariant-loop decreases-loop
+returns-2 : tie.Need-returns invariant-loop decreases-loop
 returns-2 c =
-    let l = c.before in
-    let s = l.before in
-    none_other s.args.p.now s.args.n l.loop.i l.loop.invariant.0 (omega arith) l.loop.invariant.1
+    none_other c.args.p.now c.args.n c.loop-i.i c.loop-i.invariant.0 (omega arith) c.loop-i.invariant.1
 
-pub first-other-spec : {M : Type 1} → statement M
-first-other-spec =
+pub first_other_spec : {M : Type 1} → statement M
+first_other_spec =
     tie.close
     (tie.spec
     invariant-loop

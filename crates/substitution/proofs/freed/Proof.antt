@@ -25,19 +25,18 @@ abbrev column : tie.Start → ℕ → ℕ
 column s i = i / s.args.h * s.args.h
 
 -- the first column that is not zero begins in the array
-within : (o : tie.After-first-other) → column o.before o.first-other.result ≤ size o.before
+within : (o : tie.After-first_other-first) → column o.before o.first_other-first.result ≤ size o.before
 within o =
-    let s = o.before in
-    let low = div-mul-le_self o.first-other.result s.args.h in
-    let e = o.first-other.ensures in
-    let b = smallest_le (is_other s.args.p.now) (size s) in
+    let low = div-mul-le_self o.first_other-first.result o.args.h in
+    let e = o.first_other-first.ensures in
+    let b = smallest_le (is_other o.args.p.now) (size o.before) in
     omega arith
 
-mul-moved : tie.Need-overflow-mul-moved
+mul-moved : tie.Need-overflow_mul-first
 mul-moved c = let i = within c in omega arith
 
 moved-requires : tie.Need-moved-requires
-moved-requires c κs = (within c, c.before.requires.1, c.before.requires.2)
+moved-requires c κs = (within c, c.requires.1, c.requires.2)
 
 -- what is moved, if the first entry other than zero is at i
 abbrev Moved : tie.Start → List ℕ → ℕ → Type 0
@@ -46,16 +45,14 @@ Moved s r i = r ≡ take (size s - column s i) (drop (column s i) s.args.p.now) 
 -- The columns before the first that is not zero are gone, and the entries are those of the array, or zeros.
 returns : tie.Need-returns
 returns c =
-    let o = c.before in
-    let s = o.before in
-    let a = s.args in
+    let a = c.args in
     let r = c.moved.result in
-    let i = smallest (is_other a.p.now) (size s) in
-    let e = subst (Moved s r) o.first-other.ensures c.moved.ensures in (
-      (λ w. freed_moved (code_on w) a.h a.w s.requires.0 a.p.now s.requires.2 s.requires.1 r e),
-      λ w sp. subst (Symbols (code_on w)) (sym e) (copied_symbols (code_on w) (field_on w) a.p.now (size s - column s i) (column s i) places sp),
+    let i = smallest (is_other a.p.now) (size c.before.before) in
+    let e = subst (Moved c.before.before r) c.first_other-first.ensures c.moved.ensures in (
+      (λ w. freed_moved (code_on w) a.h a.w c.requires.0 a.p.now c.requires.2 c.requires.1 r e),
+      λ w sp. subst (Symbols (code_on w)) (sym e) (copied_symbols (code_on w) (field_on w) a.p.now (size c.before.before - column c.before.before i) (column c.before.before i) places sp),
     )
 
-pub freed-spec : {M : Type 1} → statement M
-freed-spec =
+pub freed_spec : {M : Type 1} → statement M
+freed_spec =
     tie.close (tie.spec (λ c. search rules) (λ c κs. search rules) (λ c. search rules) mul-moved moved-requires returns)

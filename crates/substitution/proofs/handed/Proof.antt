@@ -6,10 +6,9 @@ use Rattle.substitution.proofs.handed.Tie as tie
 -- What is substituted is freed: that is what the search hands on, and it is symbols again.
 returns : tie.Need-returns
 returns c =
-    let at_call = c.before.before in
-    let q = at_call.substituted in
-    let w = at_call.before.before.args.alphabet in
+    let q = c.substituted-q in
+    let w = c.args.alphabet in
     ((q.result, q.ensures.1, q.ensures.0, c.freed.ensures.0 w), c.freed.ensures.1 w q.ensures.1)
 
-pub handed-spec : {M : Type 1} → statement M
-handed-spec = tie.close (tie.spec (λ c κs. search rules) (λ c κs. search rules) returns)
+pub handed_spec : {M : Type 1} → statement M
+handed_spec = tie.close (tie.spec (λ c κs. search rules) (λ c κs. search rules) returns)

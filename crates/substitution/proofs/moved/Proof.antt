@@ -12,32 +12,29 @@ use Rattle.substitution.proofs.moved.Statement.{statement}
 use Rattle.substitution.proofs.moved.Tie as tie
 
 -- Before round i the first i entries from `from` on are at the front, and zeros follow.
-abbrev invariant-loop : tie.invariant-loop
+abbrev invariant-loop : tie.invariant-loop-i
 invariant-loop p from n q₀ i₀ q i = (i ≤ n - from) × (q ≡ take i (drop from p) ++ drop i (zeros places))
 
-abbrev decreases-loop : tie.decreases-loop
+abbrev decreases-loop : tie.decreases-loop-i
 decreases-loop p from n q₀ i₀ q i = n - i
 
-loop-holds : tie.Need-loop-init invariant-loop decreases-loop
+loop-holds : tie.Need-loop-i-init invariant-loop decreases-loop
 unfolding zeros
 loop-holds c = (omega arith, refl)
 
-loop-again : tie.Need-loop-preserved invariant-loop decreases-loop
+loop-again : tie.Need-loop-i-preserved invariant-loop decreases-loop
 loop-again c =
-    let l = c.before.before in
-    let s = l.before in
     let z = length_zeros places in
-    (omega arith, copied_more s.args.p.now (zeros places) l.loop.q s.args.from l.loop.i (omega arith) (omega arith) l.loop.invariant.1)
+    (omega arith, copied_more c.args.p.now (zeros places) c.loop-i.q c.args.from c.loop-i.i (omega arith) (omega arith) c.loop-i.invariant.1)
 
 -- The loop has ended at i = n - from: all that moves has moved.
 returns : tie.Need-returns invariant-loop decreases-loop
 returns c =
-    let l = c.before in
-    let e : l.loop.i ≡ l.before.args.n - l.before.args.from = omega arith in
-    rw e at l.loop.invariant.1
+    let e : c.loop-i.i ≡ c.args.n - c.args.from = omega arith in
+    rw e at c.loop-i.invariant.1
 
-pub moved-spec : {M : Type 1} → statement M
-moved-spec =
+pub moved_spec : {M : Type 1} → statement M
+moved_spec =
     tie.close
     (tie.spec
     invariant-loop

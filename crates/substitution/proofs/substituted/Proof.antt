@@ -12,24 +12,21 @@ use Rattle.substitution.proofs.substituted.Tie as tie
 
 shift-requires : tie.Need-shift-requires
 shift-requires c κs =
-    let s = c.before.before in
-    let full : length s.args.p ≡ places = search rules in
-    (s.requires.0, (s.requires.1.0, (s.requires.1.1.0, omega arith, s.requires.1.1.1)))
+    let full : length c.args.p ≡ places = search rules in
+    (c.requires.0, (c.requires.1.0, (c.requires.1.1.0, omega arith, c.requires.1.1.1)))
 
 -- Shifted columns, spread, are the substitution; `spread` keeps the symbols that `shift` promises.
 returns : tie.Need-returns
 returns c =
-    let at-shift = c.before.before.before in
-    let x = at-shift.shift in
-    let s = at-shift.before.before.before in
-    let a = s.args in
+    let x = c.shift in
+    let a = c.args in
     let q = c.spread in (
-      spread_shifted (code_on a.alphabet) (field_on a.alphabet) a.h a.w a.g a.p x.new.1.1.0 q.result s.requires.1.1.1 s.requires.1.0 x.ensures.0 q.ensures.0,
+      spread_shifted (code_on a.alphabet) (field_on a.alphabet) a.h a.w a.g a.p x.new.1.1.0 q.result c.requires.1.1.1 c.requires.1.0 x.ensures.0 q.ensures.0,
       q.ensures.1 a.alphabet x.ensures.1,
     )
 
-pub substituted-spec : {M : Type 1} → statement M
-substituted-spec =
+pub substituted_spec : {M : Type 1} → statement M
+substituted_spec =
     tie.close
     (tie.spec
     (λ c. search rules)

@@ -14,12 +14,12 @@ abbrev Ruled : List ℕ → Alphabet → Type 0
 Ruled table w = Inverses (code_on w) table
 
 -- The alphabet has sixteen symbols, and the table holds their inverses.
-returns : tie.Need-returns
-returns c = subst (Ruled c.inverses-of-sixteen.result) (sym c.before.enum_told.given.1) c.inverses-of-sixteen.ensures
+returns : tie.Need-returns-in-Sixteen
+returns c = subst (Ruled c.inverses_of_sixteen.result) (sym c.in-Sixteen.is) c.inverses_of_sixteen.ensures
 
 -- The alphabet has thirty-two symbols, and the table holds their inverses.
-returns-2 : tie.Need-returns-2
-returns-2 c = subst (Ruled c.inverses-of-thirty-two.result) (sym c.before.enum-told2.given.1) c.inverses-of-thirty-two.ensures
+returns-2 : tie.Need-returns-in-ThirtyTwo
+returns-2 c = subst (Ruled c.inverses_of_thirty_two.result) (sym c.in-ThirtyTwo.is) c.inverses_of_thirty_two.ensures
 
-pub inverses-spec : {M : Type 1} → statement M
-inverses-spec = tie.close (tie.spec (λ c. search rules) (λ c κs. search rules) (λ c. search rules) (λ c κs. search rules) returns returns-2)
+pub inverses_spec : {M : Type 1} → statement M
+inverses_spec = tie.close (tie.spec (λ c. search rules) (λ c κs. search rules) (λ c. search rules) (λ c κs. search rules) returns returns-2)

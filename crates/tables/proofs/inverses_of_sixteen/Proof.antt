@@ -14,5 +14,5 @@ returns : tie.Need-returns
 unfolding every smallest sum_of double shifted
 returns c = inverses_right_lem (code_on Sixteen) _ tt
 
-pub inverses-of-sixteen-spec : {M : Type 1} → statement M
-inverses-of-sixteen-spec = tie.close (tie.spec returns)
+pub inverses_of_sixteen_spec : {M : Type 1} → statement M
+inverses_of_sixteen_spec = tie.close (tie.spec returns)

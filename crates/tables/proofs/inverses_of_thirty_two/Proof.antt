@@ -14,5 +14,5 @@ returns : tie.Need-returns
 unfolding every smallest sum_of double shifted
 returns c = inverses_right_lem (code_on ThirtyTwo) _ tt
 
-pub inverses-of-thirty-two-spec : {M : Type 1} → statement M
-inverses-of-thirty-two-spec = tie.close (tie.spec returns)
+pub inverses_of_thirty_two_spec : {M : Type 1} → statement M
+inverses_of_thirty_two_spec = tie.close (tie.spec returns)

@@ -16,41 +16,35 @@ entry c = c.before.before.before
 
 -- The row of a lies within the table.
 row : (c : tie.After-wide)
-    → (let symbols = c.before.symbols.result in c.wide.result * symbols + symbols ≤ length (entry c).args.table.now)
+    → (let symbols = c.symbols-symbols.result in c.wide.result * symbols + symbols ≤ length c.args.table.now)
 row c =
-    let s = entry c in
-    let e = c.before.symbols.ensures in
+    let e = c.symbols-symbols.ensures in
     let a = c.wide.ensures.0 in
-    let r = row_below c.before.symbols.result c.wide.result (omega arith) in
-    let w = rw (sym e) at s.pre.0.whole in
+    let r = row_below c.symbols-symbols.result c.wide.result (omega arith) in
+    let w = rw (sym e) at c.requires.0.whole in
     omega arith
 
-mul-result : tie.Need-overflow-mul-result
+mul-result : tie.Need-overflow_mul-result
 mul-result c = let r = row c in omega arith
 
-add-result : tie.Need-overflow-add-result
+add-result : tie.Need-overflow_add-result
 add-result c = let r = row c.before in omega arith
 
-shared-slice-read-result : tie.Need-shared-slice-read-result
+shared-slice-read-result : tie.Need-bounds-table-wide
 shared-slice-read-result c =
-    let at-wide2 = c.before in
-    let at_wide = at-wide2.before in
-    let r = row at_wide in
-    let e = at_wide.before.symbols.ensures in
-    let b = at-wide2.wide2.ensures.0 in
+    let r = row c.before.before in
+    let e = c.symbols-symbols.ensures in
+    let b = c.wide-2.ensures.0 in
     omega arith
 
 -- The place that was read is a·q + b, q the number of symbols, where the rule has the product.
 returns : tie.Need-returns
 unfolding Products
 returns c =
-    let at-wide2 = c.before in
-    let at_wide = at-wide2.before in
-    let s = entry at_wide in
-    let a = s.args in
-    ap₂ (λ (x q : ℕ). get_or a.table.now (x * q + at-wide2.wide2.result) 0) at_wide.wide.ensures.0 at_wide.before.symbols.ensures
-    ∙ ap (λ (y : ℕ). get_or a.table.now (a.a * (code_on a.alphabet).symbols + y) 0) at-wide2.wide2.ensures.0
-    ∙ s.pre.0.rule a.a a.b s.pre.1.0 s.pre.1.1
+    let a = c.args in
+    ap₂ (λ (x q : ℕ). get_or a.table.now (x * q + c.wide-2.result) 0) c.wide.ensures.0 c.symbols-symbols.ensures
+    ∙ ap (λ (y : ℕ). get_or a.table.now (a.a * (code_on a.alphabet).symbols + y) 0) c.wide-2.ensures.0
+    ∙ c.requires.0.rule a.a a.b c.requires.1.0 c.requires.1.1
 
 pub look_spec : {M : Type 1} → statement M
 look_spec =

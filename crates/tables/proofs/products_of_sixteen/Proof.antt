@@ -13,5 +13,5 @@ returns : tie.Need-returns
 unfolding every sum_of double shifted
 returns c = record { rule = products_right_lem (code_on Sixteen) _ tt; whole = omega arith }
 
-pub products-of-sixteen-spec : {M : Type 1} → statement M
-products-of-sixteen-spec = tie.close (tie.spec returns)
+pub products_of_sixteen_spec : {M : Type 1} → statement M
+products_of_sixteen_spec = tie.close (tie.spec returns)

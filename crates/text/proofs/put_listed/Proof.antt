@@ -10,18 +10,15 @@ use Rattle.text.proofs.put_listed.Tie as tie
 -- The three texts are the line of the count, and the number has at most twenty digits.
 returns : tie.Need-returns
 returns c =
-    let at-feed = c.before.before in
-    let at_count = at-feed.before.before.before.before.before in
-    let at-word = at_count.before.before.before.before in
-    let a = at-word.before.before.before.before.args in
-    let word = at-word.put.ensures in
-    let count = at_count.put-decimal.ensures in
-    let feed = at-feed.put2.ensures in
-    let within : a.at ≤ length a.out.now = omega arith in
+    let a = c.args in
+    let word = c.put-named.ensures in
+    let count = c.put_decimal-counted.ensures in
+    let feed = c.put.ensures in
+    let within : a.at ≤ length a.out-1.now = omega arith in
     (puts_in_turn within (begun ▸ word ▸ count.0 ▸ feed), omega arith)
 
-pub put-listed-spec : {M : Type 1} → statement M
-put-listed-spec =
+pub put_listed_spec : {M : Type 1} → statement M
+put_listed_spec =
     tie.close
     (tie.spec
     (λ c. search rules)

@@ -8,9 +8,6 @@ use borrow.Author.Rules.{rules}
 use Rattle.text.proofs.put_row_of.Statement.{statement}
 use Rattle.text.proofs.put_row_of.Tie as tie
 
-abbrev entry : tie.After-long → tie.Start
-entry at-score = at-score.before.before.before.before.before
-
 -- a row has no more symbols than the longest row of either alphabet
 few_symbols : (at-start : tie.Start) → at-start.args.k ≤ most_positions
 few_symbols at-start =
@@ -19,28 +16,24 @@ few_symbols at-start =
     let most = z.most in
     omega arith
 
-put-row-requires : tie.Need-put-row-requires
+put-row-requires : tie.Need-put_row-requires
 put-row-requires c κs =
-    let at-start = entry c.before.before in
-    let a = at-start.args in
-    let few = few_symbols at-start in
+    let a = c.args in
+    let few = few_symbols c.before.before.before.before.before.before.before in
     let long = lent_row_length a.rows.now a.k a.j (omega arith) in
     omega arith
 
 -- The line that is put is that of row j, with its score.
 returns : tie.Need-returns
 returns c =
-    let at-put = c.before.before in
-    let at-score = at-put.before.before.before in
-    let at-start = entry at-score in
-    let a = at-start.args in
-    let score = at-score.long in
-    let put = at-put.put-row in
-    row_put (code_on a.alphabet) a.k a.rows.now a.scores.now a.out.now put.new.1.0 a.at a.j score.result put.result
-    (few_symbols at-start) score.ensures.0 (omega arith) put.ensures.0 put.ensures.1
+    let a = c.args in
+    let score = c.long-score in
+    let put = c.put_row in
+    row_put (code_on a.alphabet) a.k a.rows.now a.scores.now a.out-1.now put.new.1.0 a.at a.j score.result put.result
+    (few_symbols c.before.before.before.before.before.before.before.before.before.before) score.ensures.0 (omega arith) put.ensures.0 put.ensures.1
 
-pub put-row-of-spec : {M : Type 1} → statement M
-put-row-of-spec =
+pub put_row_of_spec : {M : Type 1} → statement M
+put_row_of_spec =
     tie.close
     (tie.spec
     (λ c. search rules)

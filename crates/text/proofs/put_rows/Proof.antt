@@ -12,53 +12,45 @@ use Rattle.text.proofs.put_rows.Statement.{statement}
 use Rattle.text.proofs.put_rows.Tie as tie
 
 -- The lines of the first j rows are put, and they end within the room of j longest lines.
-abbrev invariant-loop : tie.invariant-loop
+abbrev invariant-loop : tie.invariant-loop-j
 invariant-loop alphabet out₀ at k count rows scores end₀ j₀ out end j =
     (j ≤ count) × (end ≤ at + longest_row_room * j) × Puts out₀ at (row_lines (code_on alphabet) k rows scores j) end out
 
-abbrev decreases-loop : tie.decreases-loop
+abbrev decreases-loop : tie.decreases-loop-j
 decreases-loop alphabet out₀ at k count rows scores end₀ j₀ out end j = count - j
 
-loop-holds : tie.Need-loop-init invariant-loop decreases-loop
+loop-holds : tie.Need-loop-j-init invariant-loop decreases-loop
 loop-holds c =
-    let a = c.before.before.before.args in
-    (omega arith, omega arith, lines_begun (code_on a.alphabet) a.k a.rows.now a.scores.now a.out.now a.at)
+    let a = c.args in
+    (omega arith, omega arith, lines_begun (code_on a.alphabet) a.k a.rows.now a.scores.now a.out-1.now a.at)
 
-abbrev entry : tie.At-loop invariant-loop decreases-loop → tie.Start invariant-loop decreases-loop
-entry at-loop = at-loop.before.before.before.before
-
-put-row-of-requires : tie.Need-put-row-of-requires invariant-loop decreases-loop
+put-row-of-requires : tie.Need-put_row_of-end-requires invariant-loop decreases-loop
 put-row-of-requires c κs =
-    let at-loop = c.before.before in
-    let a = (entry at-loop).args in
-    let within = row_within a.k at-loop.loop.j a.count (length a.rows.now) (omega arith) (omega arith) in
+    let a = c.args in
+    let within = row_within a.k c.loop-j.j a.count (length a.rows.now) (omega arith) (omega arith) in
     omega arith
 
-loop-again : tie.Need-loop-preserved invariant-loop decreases-loop
+loop-again : tie.Need-loop-j-preserved invariant-loop decreases-loop
 loop-again c =
-    let at-put = c.before.before in
-    let at-loop = at-put.before.before.before in
-    let a = (entry at-loop).args in
-    let l = at-loop.loop in
-    let put = at-put.put-row-of in
-    let within : a.at ≤ length a.out.now = omega arith in
-    let lines = lines_more (code_on a.alphabet) a.k a.rows.now a.scores.now a.out.now l.out put.new.1.0 a.at l.end put.result l.j
+    let a = c.args in
+    let l = c.loop-j in
+    let put = c.put_row_of-end in
+    let within : a.at ≤ length a.out-1.now = omega arith in
+    let lines = lines_more (code_on a.alphabet) a.k a.rows.now a.scores.now a.out-1.now l.out put.new.1.0 a.at l.end put.result l.j
     within l.invariant.2 put.ensures.0 in
     (omega arith, omega arith, lines)
 
-same_length : tie.Need-same-length invariant-loop decreases-loop
-same_length c = c.before.loop.invariant.2.1
+same_length : tie.Need-shape_of-out invariant-loop decreases-loop
+same_length c = c.loop-j.invariant.2.1
 
 -- The loop has ended at j = count, so the lines of all rows are put.
 returns : tie.Need-returns invariant-loop decreases-loop
 returns c =
-    let at-loop = c.before in
-    let at-start = entry at-loop in
-    let all : at-loop.loop.j ≡ at-start.args.count = omega arith in
-    rw all at at-loop.loop.invariant.2
+    let all : c.loop-j.j ≡ c.args.count = omega arith in
+    rw all at c.loop-j.invariant.2
 
-pub put-rows-spec : {M : Type 1} → statement M
-put-rows-spec =
+pub put_rows_spec : {M : Type 1} → statement M
+put_rows_spec =
     tie.close
     (tie.spec
     invariant-loop

@@ -17,37 +17,28 @@ textOn w at-start = symbol_text (code_on w) at-start.args.x
 -- both promises, from the digits that were put: on the alphabet w they are the symbol's text
 digits-put : (at-start : tie.Start) (w : Alphabet) (digits after : List ℕ) (end : ℕ)
     → (let a = at-start.args in
-    a.alphabet ≡ w → digits ≡ textOn w at-start → length digits ≤ 2 → Puts a.out.now a.at digits end after
-    → Puts a.out.now a.at (textOn a.alphabet at-start) end after × (end ≤ a.at + 2))
+    a.alphabet ≡ w → digits ≡ textOn w at-start → length digits ≤ 2 → Puts a.out-1.now a.at digits end after
+    → Puts a.out-1.now a.at (textOn a.alphabet at-start) end after × (end ≤ a.at + 2))
 digits-put at-start w digits after end on same few puts =
     let a = at-start.args in
     let e : digits ≡ textOn a.alphabet at-start = same ∙ ap (λ (v : Alphabet). textOn v at-start) (sym on) in
     let last : end ≡ a.at + length digits = puts.0 in
-    (subst (λ (words : List ℕ). Puts a.out.now a.at words end after) e puts, omega arith)
+    (subst (λ (words : List ℕ). Puts a.out-1.now a.at words end after) e puts, omega arith)
 
 -- Thirty-two symbols: two digits are put.
-returns : tie.Need-returns
+returns : tie.Need-returns-in-ThirtyTwo
 returns c =
-    let at-put = c.before.before in
-    let second = at-put.before.before.before in
-    let first = second.before in
-    let at-alphabet = first.before in
-    let at-start = at-alphabet.before.before.before in
-    let two = ap₂ (λ (a b : ℕ). a ∷ b ∷ []) first.digit.ensures second.digit2.ensures in
-    digits-put at-start _ _ at-put.put.new.0 at-put.put.result at-alphabet.enum_told.given.1 two (omega arith) at-put.put.ensures
+    let two = ap₂ (λ (a b : ℕ). a ∷ b ∷ []) c.digit-first.ensures c.digit.ensures in
+    digits-put c.before.before.before.before.before.before.before.before.before _ _ c.put.new.out c.put.result c.in-ThirtyTwo.is two (omega arith) c.put.ensures
 
 -- Sixteen symbols: one digit is put.
-returns-2 : tie.Need-returns-2
+returns-2 : tie.Need-returns
 returns-2 c =
-    let at-put = c.before.before in
-    let first = at-put.before.before.before in
-    let at-alphabet = first.before in
-    let at-start = at-alphabet.before.before.before in
-    let one = ap (λ (a : ℕ). a ∷ []) first.digit3.ensures in
-    digits-put at-start _ _ at-put.put2.new.0 at-put.put2.result at-alphabet.enum-told2.given.1 one (omega arith) at-put.put2.ensures
+    let one = ap (λ (a : ℕ). a ∷ []) c.digit-2.ensures in
+    digits-put c.before.before.before.before.before.before.before.before _ _ c.put-2.new.out c.put-2.result c.in_default.is one (omega arith) c.put-2.ensures
 
-pub put-symbol-spec : {M : Type 1} → statement M
-put-symbol-spec =
+pub put_symbol_spec : {M : Type 1} → statement M
+put_symbol_spec =
     tie.close
     (tie.spec
     (λ c. search rules)

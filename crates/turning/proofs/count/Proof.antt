@@ -6,11 +6,8 @@ use Rattle.matrix.proofs.Columns.{places_within}
 use Rattle.turning.proofs.count.Statement.{statement}
 use Rattle.turning.proofs.count.Tie as tie
 
-abbrev entry : tie.After-lay-totals → tie.Start
-entry t = t.before.before.before.before
-
 cost-requires : tie.Need-cost-requires
-cost-requires c κs = let m = places_within (entry c.before.before).args.alphabet in omega arith
+cost-requires c κs = let m = places_within c.args.alphabet in omega arith
 
 pub count_spec : {M : Type 1} → statement M
 count_spec = tie.close (tie.spec (λ c κs. search rules) cost-requires (λ c. search rules) (λ c. search rules))

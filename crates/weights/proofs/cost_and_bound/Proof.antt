@@ -29,60 +29,47 @@ record Fit (C : Code) (n k : ℕ) (m : List ℕ) : Type 0 where
 fits : (C : Code) (n k : ℕ) (m : List ℕ) → Accepts (cost_table C n k m) → Fit C n k m
 fits C n k m (next s (next e (next a end))) = record { sizes = sizes_mean C n k s; full = entries_mean _ m e; low = above_means greatest_level m a }
 
-abbrev entry : tie.After-symbols → tie.Start
-entry c = c.before.before.before.before
-
-came : (c : tie.After-symbols)
-    → (let a = (entry c).args in Came (cost_table (code_on a.alphabet) a.n a.k a.matrix.now) [] (told_checked c.symbols.result))
-came c = start ▸ c.before.before.sizes.ensures ▸ c.before.entries.ensures ▸ c.symbols.ensures
+came : (c : tie.After-symbols-checked)
+    → (let a = c.args in Came (cost_table (code_on a.alphabet) a.n a.k a.matrix.now) [] (told_checked c.symbols-checked.result))
+came c = start ▸ c.sizes.ensures ▸ c.entries.ensures ▸ c.symbols-checked.ensures
 
 -- A line of the table refuses: the answer is its refusal.
-returns : tie.Need-returns
-returns c = answers (came c.before.before.before) [] _ c.before.checked.given.1
+returns : tie.Need-returns-in-Refused
+returns c = answers (came c.before) [] _ c.in-Refused.is
 
-abbrev passed : tie.After-enum-told → tie.Start
-passed t = entry t.before.before
-
-fit : (t : tie.After-enum-told) → (let a = (passed t).args in Fit (code_on a.alphabet) a.n a.k a.matrix.now)
+fit : (t : tie.In_default) → (let a = t.args in Fit (code_on a.alphabet) a.n a.k a.matrix.now)
 fit t =
-    let a = (passed t).args in
-    fits (code_on a.alphabet) a.n a.k a.matrix.now (accepted (came t.before.before) t.enum_told.given.1)
+    let a = t.args in
+    fits (code_on a.alphabet) a.n a.k a.matrix.now (accepted (came t.before) t.in_default.is)
 
 -- so the bytes have room
-room : (t : tie.After-enum-told) → (let a = (passed t).args in length a.matrix.now ≤ places (code_on a.alphabet))
+room : (t : tie.In_default) → (let a = t.args in length a.matrix.now ≤ places (code_on a.alphabet))
 room t =
-    let a = (passed t).args in
+    let a = t.args in
     bytes_within (code_on a.alphabet) a.n a.matrix.now (fit t).sizes.2 (fit t).full
 
-abbrev told : tie.After-turn → tie.After-enum-told
-told c = c.before.before
+sub-bound : tie.Need-overflow_sub-k
+sub-bound c = let s = (fit c.before.before.before).sizes in omega arith
 
-sub-bound : tie.Need-overflow-sub-bound
-sub-bound c = let s = (fit (told c.before)).sizes in omega arith
-
-bound-requires : tie.Need-bound-requires
+bound-requires : tie.Need-bound-bound-requires
 bound-requires c κs =
-    let l = c.before in
-    let t = told l in
-    let f = fit t in
-    let a = (passed t).args in
+    let f = fit c.before.before.before in
+    let a = c.args in
     let s = f.sizes in
-    let paid = l.turn.ensures.paid in
+    let paid = c.turn-cost.ensures.paid in
     let z = sized a.alphabet in
     let w = places_within a.alphabet in
-    let small = cost_small (code_on a.alphabet) a.matrix.now (room t) f.low in
+    let small = cost_small (code_on a.alphabet) a.matrix.now (room c.before.before.before) f.low in
     (omega arith, omega arith)
 
 -- The table accepts: the record's cost is that of the bytes, and the bound is that of this cost.
-returns-2 : tie.Need-returns-2
+returns-2 : tie.Need-returns
 returns-2 c =
-    let l = c.before.before in
-    let t = told l in
-    let a = (passed t).args in
-    costed_is (came t.before.before) t.enum_told.given.1 a.k _ c.bound.result a.matrix.now l.turn.ensures.paid c.bound.ensures
+    let a = c.args in
+    costed_is (came c.before.before.before.before.before) c.in_default.is a.k _ c.bound-bound.result a.matrix.now c.turn-cost.ensures.paid c.bound-bound.ensures
 
-pub cost-and-bound-spec : {M : Type 1} → statement M
-cost-and-bound-spec =
+pub cost_and_bound_spec : {M : Type 1} → statement M
+cost_and_bound_spec =
     tie.close
     (tie.spec
     (λ c κs. search rules)

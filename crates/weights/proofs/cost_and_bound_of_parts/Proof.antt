@@ -40,63 +40,44 @@ module _ (s : tie.Start) where
   abbrev given : Held
   given = let a = s.args in held a.n a.cost a.totals.now a.entries.now
 
--- the sizes are checked first
-abbrev sizing : tie.After-symbols → tie.After-sizes
-sizing c = c.before.before.before
-
-abbrev entry : tie.After-symbols → tie.Start
-entry c = (sizing c).before.before.before
-
-came : (c : tie.After-symbols)
-    → (let s = entry c in Came (held_cost_table (code s) (given s) s.args.k) [] (told_checked c.symbols.result))
+came : (c : tie.After-symbols-checked)
+    → (Came (held_cost_table (code c.before.before.before.before.before.before) (given c.before.before.before.before.before.before) c.args.k) [] (told_checked c.symbols-checked.result))
 came c =
-    let s = entry c in
-    let stored = c.before in
-    let sizes = (sizing c).sizes in
-    start ▸ sizes.ensures ▸ stored_tried (code s) (given s) (told_checked sizes.result) stored.or.ensures stored.before.rightly.ensures
-    ▸ c.symbols.ensures
+    let sizes = c.sizes in
+    start ▸ sizes.ensures ▸ stored_tried (code c.before.before.before.before.before.before) (given c.before.before.before.before.before.before) (told_checked sizes.result) c.or.ensures c.rightly.ensures
+    ▸ c.symbols-checked.ensures
 
 -- A line of the table refuses: the answer is its refusal.
-returns : tie.Need-returns
-returns c = answers (came c.before.before.before) [] _ c.before.checked.given.1
+returns : tie.Need-returns-in-Refused
+returns c = answers (came c.before) [] _ c.in-Refused.is
 
--- where the chain has passed: its last check, and the entry
-abbrev checked : tie.After-enum-told → tie.After-symbols
-checked t = t.before.before
+fit : (t : tie.In_default) → (Fit (code t.before.before.before.before.before.before.before) (given t.before.before.before.before.before.before.before) t.args.k)
+fit t = fits (code t.before.before.before.before.before.before.before) (given t.before.before.before.before.before.before.before) t.args.k (accepted (came t.before) t.in_default.is)
 
-abbrev passed : tie.After-enum-told → tie.Start
-passed t = entry (checked t)
-
-fit : (t : tie.After-enum-told) → (let s = passed t in Fit (code s) (given s) s.args.k)
-fit t = let s = passed t in fits (code s) (given s) s.args.k (accepted (came (checked t)) t.enum_told.given.1)
-
-sub-bound : tie.Need-overflow-sub-bound
+sub-bound : tie.Need-overflow_sub-k
 sub-bound c = let s = (fit c).sized in omega arith
 
-bound-requires : tie.Need-bound-requires
+bound-requires : tie.Need-bound-bound-requires
 bound-requires c κs =
     let f = fit c in
     let s = f.sized in
     let full = f.right.full in
     let e = f.right.cost_is in
-    let at-start = passed c in
-    let z = sized at-start.args.alphabet in
-    let most = places_within at-start.args.alphabet in
-    let small = cost_small (code at-start) (given at-start).entries (omega arith) f.low in
+    let z = sized c.args.alphabet in
+    let most = places_within c.args.alphabet in
+    let small = cost_small (code c.before.before.before.before.before.before.before) (given c.before.before.before.before.before.before.before).entries (omega arith) f.low in
     (omega arith, omega arith)
 
 -- The table accepts: the stored cost is that of the record's
 -- bytes, and the bound is that of this cost.
-returns-2 : tie.Need-returns-2
+returns-2 : tie.Need-returns
 returns-2 c =
-    let t = c.before in
-    let s = passed t in
-    let f = fit t in
-    let paid = cost_bytes (code s) (given s) f.right f.sized.2 in
-    costed_is (came (checked t)) t.enum_told.given.1 s.args.k _ c.bound.result (bytes_of (code s) (given s)) paid c.bound.ensures
+    let f = fit c.before in
+    let paid = cost_bytes (code c.before.before.before.before.before.before.before.before) (given c.before.before.before.before.before.before.before.before) f.right f.sized.2 in
+    costed_is (came c.before.before) c.in_default.is c.args.k _ c.bound-bound.result (bytes_of (code c.before.before.before.before.before.before.before.before) (given c.before.before.before.before.before.before.before.before)) paid c.bound-bound.ensures
 
-pub cost-and-bound-of-parts-spec : {M : Type 1} → statement M
-cost-and-bound-of-parts-spec =
+pub cost_and_bound_of_parts_spec : {M : Type 1} → statement M
+cost_and_bound_of_parts_spec =
     tie.close
     (tie.spec
     (λ c κs. search rules)

@@ -42,79 +42,56 @@ module _ (s : tie.Start) where
   code = code_on s.args.alphabet
 
   abbrev lines : List Line
-  lines = let a = s.args in settling code a.n a.level a.reliabilities.now (length a.out.now)
+  lines = let a = s.args in settling code a.n a.level a.reliabilities.now (length a.out-1.now)
 
   abbrev column-line : List Line
   column-line = columns code s.args.n s.args.reliabilities.now ∷ []
 
   abbrev Fits : Type 0
-  Fits = let a = s.args in Fit code a.n a.level a.reliabilities.now (length a.out.now)
+  Fits = let a = s.args in Fit code a.n a.level a.reliabilities.now (length a.out-1.now)
 
   fits-call : Accepts lines → Fits
-  fits-call = let a = s.args in fits code a.n a.level a.reliabilities.now (length a.out.now)
+  fits-call = let a = s.args in fits code a.n a.level a.reliabilities.now (length a.out-1.now)
 
--- the size is checked first
-abbrev sizing : tie.After-entries-room → tie.After-size
-sizing c = c.before.before.before
-
-abbrev entry : tie.After-entries-room → tie.Start
-entry c = (sizing c).before.before.before
-
-settled : (c : tie.After-entries-room) → Came (lines (entry c)) [] (told_checked c.entries-room.result)
+settled : (c : tie.After-entries_room-settled) → Came (lines c.before.before.before.before.before.before) [] (told_checked c.entries_room-settled.result)
 settled c =
-    let given = c.before in
-    start ▸ (sizing c).size.ensures ▸ given.before.level.ensures ▸ given.entries.ensures ▸ c.entries-room.ensures
+    start ▸ c.size.ensures ▸ c.level.ensures ▸ c.entries.ensures ▸ c.entries_room-settled.ensures
 
--- the entry, from the check of the columns
-abbrev checking : tie.After-columns-checked → tie.Start
-checking c = entry c.before
+came : (c : tie.After-columns_checked-checked)
+    → (let a = c.args in
+    Came (multiplicities_table (code c.before.before.before.before.before.before.before) a.n a.level a.reliabilities.now (length a.out-1.now)) [] (told_checked c.columns_checked-checked.result))
+came c = further (column-line c.before.before.before.before.before.before.before) (settled c.before) ▸ c.columns_checked-checked.ensures
 
-came : (c : tie.After-columns-checked)
-    → (let s = checking c in
-    let a = s.args in
-    Came (multiplicities_table (code s) a.n a.level a.reliabilities.now (length a.out.now)) [] (told_checked c.columns-checked.result))
-came c = further (column-line (checking c)) (settled c.before) ▸ c.columns-checked.ensures
-
-columns-checked-requires : tie.Need-columns-checked-requires
-columns-checked-requires c κs e = let f = fits-call (entry c) (accepted (settled c) e) in (f.small, omega arith)
+columns-checked-requires : tie.Need-columns_checked-checked-requires
+columns-checked-requires c κs e = let f = fits-call c.before.before.before.before.before.before (accepted (settled c) e) in (f.small, omega arith)
 
 -- A line of the table refuses: the answer is its refusal, and the memory is as it was.
-returns : tie.Need-returns
+returns : tie.Need-returns-in-Refused
 returns c =
-    let w = c.before.before.before in
-    let refusal = c.before.checked.given.1 in
-    (answers (came w) [] _ refusal, stops (came w) [] (λ _ _. (checking w).args.out.now) _ refusal)
+    let refusal = c.in-Refused.is in
+    (answers (came c.before) [] _ refusal, stops (came c.before) [] (λ _ _. c.args.out.now) _ refusal)
 
--- where the chain has passed: the check of the columns, and the entry
-abbrev columned : tie.After-enum-told → tie.After-columns-checked
-columned t = t.before.before
+fit : (t : tie.In_default) → Fits t.before.before.before.before.before.before.before.before
+fit t = fits-call t.before.before.before.before.before.before.before.before (accepts_front _ (column-line t.before.before.before.before.before.before.before.before) (accepted (came t.before) t.in_default.is))
 
-abbrev passed : tie.After-enum-told → tie.Start
-passed t = checking (columned t)
-
-fit : (t : tie.After-enum-told) → Fits (passed t)
-fit t = fits-call (passed t) (accepts_front _ (column-line (passed t)) (accepted (came (columned t)) t.enum_told.given.1))
-
-multiplicities-into-requires : tie.Need-multiplicities-into-requires
+multiplicities-into-requires : tie.Need-multiplicities_into-requires
 multiplicities-into-requires c κs = let f = fit c.before in (f.low, omega arith)
 
 -- The table accepts: the multiplicities stand in front, and there are as many as the line of the
 -- entries says.
-returns-2 : tie.Need-returns-2
+returns-2 : tie.Need-returns
 returns-2 c =
-    let m = c.before.before in
-    let t = m.before.before in
-    let a = (passed t).args in
-    let full = (fit t).full in
-    let on = came (columned t) in
-    let acceptance = t.enum_told.given.1 in (
-      ap counted full ∙ goes_on on [] refused (counted ((code (passed t)).symbols * a.n)) acceptance,
-      m.multiplicities-into.ensures ∙ ap (λ (j : ℕ). matrix a.level a.reliabilities.now ++ drop j a.out.now) full
-          ∙ goes_on on [] (λ _ _. a.out.now) _ acceptance,
+    let a = c.args in
+    let full = (fit c.before.before.before.before).full in
+    let on = came c.before.before.before.before.before in
+    let acceptance = c.in_default.is in (
+      ap counted full ∙ goes_on on [] refused (counted ((code c.before.before.before.before.before.before.before.before.before.before.before.before).symbols * a.n)) acceptance,
+      c.multiplicities_into.ensures ∙ ap (λ (j : ℕ). matrix a.level a.reliabilities.now ++ drop j a.out-1.now) full
+          ∙ goes_on on [] (λ _ _. a.out-1.now) _ acceptance,
     )
 
-pub multiplicities-spec : {M : Type 1} → statement M
-multiplicities-spec =
+pub multiplicities_spec : {M : Type 1} → statement M
+multiplicities_spec =
     tie.close
     (tie.spec
     (λ c κs. search rules)

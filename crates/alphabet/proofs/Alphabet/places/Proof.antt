@@ -13,12 +13,12 @@ abbrev placesOn : Alphabet → ℕ
 placesOn w = places (code_on w)
 
 -- Sixteen symbols at fifteen positions are 240 places.
-returns : tie.Need-returns
-returns c = sym (ap placesOn c.enum_told.given.1)
+returns : tie.Need-returns-in-Sixteen
+returns c = sym (ap placesOn c.in-Sixteen.is)
 
 -- Thirty-two symbols at thirty-one positions are 992 places.
-returns-2 : tie.Need-returns-2
-returns-2 c = sym (ap placesOn c.enum-told2.given.1)
+returns-2 : tie.Need-returns-in-ThirtyTwo
+returns-2 c = sym (ap placesOn c.in-ThirtyTwo.is)
 
-pub places-spec : {M : Type 1} → statement M
-places-spec = tie.close (tie.spec (λ c. search rules) (λ c. search rules) returns returns-2)
+pub places_spec : {M : Type 1} → statement M
+places_spec = tie.close (tie.spec (λ c. search rules) (λ c. search rules) returns returns-2)

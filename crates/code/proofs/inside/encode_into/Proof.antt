@@ -11,12 +11,6 @@ use borrow.Author.Rules.{rules}
 use Rattle.code.proofs.inside.encode_into.Statement.{statement}
 use Rattle.code.proofs.inside.encode_into.Tie as tie
 
-abbrev entry-of-thirty-two : tie.After-products-of-thirty-two → tie.Start
-entry-of-thirty-two c = c.before.before.before.before.before
-
-abbrev entry-of-sixteen : tie.After-products-of-sixteen → tie.Start
-entry-of-sixteen c = c.before.before.before.before.before
-
 abbrev Given : tie.Start → Alphabet → Type 0
 Given s w = Symbols (code_on w) s.args.f.now
 
@@ -24,34 +18,26 @@ Given s w = Symbols (code_on w) s.args.f.now
 abbrev Written : tie.Start → List ℕ → Alphabet → Type 0
 Written s out w = out ≡ codeword (code_on w) s.args.n s.args.f.now ++ drop s.args.n s.args.out.now
 
-points-into-requires : tie.Need-points-into-requires
+points-into-requires : tie.Need-points_into-requires
 points-into-requires c κs =
-    let at_table = c.before.before in
-    let s = entry-of-thirty-two at_table in
-    (at_table.products-of-thirty-two.ensures, (subst (Given s) at_table.before.enum_told.given.1 s.pre.0, s.pre.1))
+    (c.products_of_thirty_two-table.ensures, (subst (Given c.before.before.before.before.before.before) c.in-ThirtyTwo.is c.requires.0, c.requires.1))
 
 -- The alphabet has thirty-two symbols, and `points_into` wrote the codeword over it.
-returns : tie.Need-returns
+returns : tie.Need-returns-in-ThirtyTwo
 returns c =
-    let at-points = c.before.before in
-    let at_table = at-points.before.before.before in
-    subst (Written (entry-of-thirty-two at_table) _) (sym at_table.before.enum_told.given.1) at-points.points-into.ensures
+    subst (Written c.before.before.before.before.before.before.before.before.before _) (sym c.in-ThirtyTwo.is) c.points_into.ensures
 
-points-into-requires-2 : tie.Need-points-into-requires-2
+points-into-requires-2 : tie.Need-points_into-requires-2
 points-into-requires-2 c κs =
-    let at_table = c.before.before in
-    let s = entry-of-sixteen at_table in
-    (at_table.products-of-sixteen.ensures, (subst (Given s) at_table.before.enum-told2.given.1 s.pre.0, s.pre.1))
+    (c.products_of_sixteen-table.ensures, (subst (Given c.before.before.before.before.before.before) c.in_default.is c.requires.0, c.requires.1))
 
 -- The alphabet has sixteen symbols, and `points_into` wrote the codeword over it.
-returns-2 : tie.Need-returns-2
+returns-2 : tie.Need-returns
 returns-2 c =
-    let at-points = c.before.before in
-    let at_table = at-points.before.before.before in
-    subst (Written (entry-of-sixteen at_table) _) (sym at_table.before.enum-told2.given.1) at-points.points-into2.ensures
+    subst (Written c.before.before.before.before.before.before.before.before.before _) (sym c.in_default.is) c.points_into-2.ensures
 
-pub encode-into-spec : {M : Type 1} → statement M
-encode-into-spec =
+pub encode_into_spec : {M : Type 1} → statement M
+encode_into_spec =
     tie.close
     (tie.spec
     (λ c. search rules)

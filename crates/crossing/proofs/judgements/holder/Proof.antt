@@ -4,12 +4,12 @@ use Rattle.crossing.proofs.judgements.holder.Statement.{statement}
 use Rattle.crossing.proofs.judgements.holder.Tie as tie
 
 -- There are no scores: list 2.
-returns : tie.Need-returns
-returns c = rw (eq-eqb _ _ c.if1.true)
+returns : tie.Need-returns-then-scores-eq0
+returns c = rw (eq-eqb _ _ c.if-scores-eq0.true)
 
 -- There is a score: list 1.
-returns-2 : tie.Need-returns-2
-returns-2 c = rw (ne_eqb _ _ c.if1.false)
+returns-2 : tie.Need-returns
+returns-2 c = rw (ne_eqb _ _ c.if-scores-eq0.false)
 
-pub holder-spec : {M : Type 1} → statement M
-holder-spec = tie.close (tie.spec returns returns-2)
+pub holder_spec : {M : Type 1} → statement M
+holder_spec = tie.close (tie.spec returns returns-2)

@@ -13,28 +13,24 @@ use Rattle.crossing.specs.Part.{judgement_of, part_answer}
 use Rattle.opening.proofs.Opening.{open_sized}
 use Rattle.opening.specs.Handing.{is_open}
 
-abbrev entry : tie.After-judged → tie.Start
-entry c = c.before.before.before.before
-
 -- what was judged is the page's verdict
 verdict : (c : tie.After-judged)
-    → (let a = (entry c).args in
+    → (let a = c.args in
     judgement_of c.judged.result ≡ judge_answer (code_on a.alphabet) a.k a.rows.now a.scores.now a.lead)
-verdict c = c.judged.ensures ∙ c.before.judge.ensures
+verdict c = c.judged.ensures ∙ c.judge.ensures
 
-told-part-requires : tie.Need-told-part-requires
+told-part-requires : tie.Need-told_part-requires
 told-part-requires c κs opens =
-    let a = (entry c).args in
+    let a = c.args in
     let small = open_sized (code_on a.alphabet) a.k a.rows.now a.scores.now a.lead (sym (ap is_open (verdict c)) ∙ opens) in
     let size = sized a.alphabet in
     omega arith
 
--- The only end: `told_part` tells the part of what was judged, which is the page's verdict.
+-- The only end: `told_part` tells the part of what was c.before, which is the page's verdict.
 returns : tie.Need-returns
 returns c =
-    let judged = c.before in
-    let k = (entry judged).args.k in
-    c.Told-Part.ensures ∙ ap (λ (answer : Answer). part_answer answer 1 k) (verdict judged)
+    let k = c.args.k in
+    c.Told-Part.ensures ∙ ap (λ (answer : Answer). part_answer answer 1 k) (verdict c.before)
 
-pub part-spec : {M : Type 1} → statement M
-part-spec = tie.close (tie.spec (λ c κs. search rules) (λ c κs. search rules) told-part-requires returns)
+pub part_spec : {M : Type 1} → statement M
+part_spec = tie.close (tie.spec (λ c κs. search rules) (λ c κs. search rules) told-part-requires returns)

@@ -14,33 +14,27 @@ use Rattle.crossing.specs.Part.{judgement_of, part_answer}
 use Rattle.opening.proofs.Opening.{both_open_sized}
 use Rattle.opening.specs.Handing.{is_open}
 
-abbrev entry : tie.After-judged → tie.Start
-entry c = let at-verdict = c.before in at-verdict.before.before.before.before.before
-
 -- what was judged is the page's verdict
-verdict : (c : tie.After-judged)
-    → (let a = (entry c).args in
-    judgement_of c.judged.result
+verdict : (c : tie.After-judged-verdict)
+    → (let a = c.args in
+    judgement_of c.judged-verdict.result
     ≡ both_answer (code_on a.alphabet) a.first a.rows.now a.scores.now a.second a.others.now a.other-scores.now a.lead)
-verdict c = c.judged.ensures ∙ c.before.judge_both.ensures
+verdict c = c.judged-verdict.ensures ∙ c.judge_both.ensures
 
-told-part-requires : tie.Need-told-part-requires
+told-part-requires : tie.Need-told_part-requires
 told-part-requires c κs opens =
-    let judged = c.before in
-    let a = (entry judged).args in
+    let a = c.args in
     let small = both_open_sized (code_on a.alphabet) a.first a.rows.now a.scores.now a.second a.others.now a.other-scores.now a.lead
-    (sym (ap is_open (verdict judged)) ∙ opens) in
+    (sym (ap is_open (verdict c.before)) ∙ opens) in
     let size = sized a.alphabet in
     omega arith
 
--- The only end: `told_part` tells the part of what was judged, the page's verdict, and of the list
+-- The only end: `told_part` tells the part of what was c.before.before, the page's verdict, and of the list
 -- that `holder` names.
 returns : tie.Need-returns
 returns c =
-    let at-holder = c.before in
-    let judged = at-holder.before in
-    let k = (entry judged).args.first.k in
-    c.Told-Part.ensures ∙ ap₂ (λ (answer : Answer) (list : ℕ). part_answer answer list k) (verdict judged) at-holder.holder.ensures
+    let k = c.args.first.k in
+    c.Told-Part.ensures ∙ ap₂ (λ (answer : Answer) (list : ℕ). part_answer answer list k) (verdict c.before.before) c.holder.ensures
 
-pub part-of-both-spec : {M : Type 1} → statement M
-part-of-both-spec = tie.close (tie.spec (λ c κs. search rules) (λ c κs. search rules) (λ c κs. search rules) told-part-requires returns)
+pub part_of_both_spec : {M : Type 1} → statement M
+part_of_both_spec = tie.close (tie.spec (λ c κs. search rules) (λ c κs. search rules) (λ c κs. search rules) told-part-requires returns)

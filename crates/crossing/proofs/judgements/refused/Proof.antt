@@ -7,13 +7,11 @@ use borrow.Author.Rules.{rules}
 use Rattle.crossing.proofs.judgements.refused.Statement.{statement}
 use Rattle.crossing.proofs.judgements.refused.Tie as tie
 
--- The only end: the number is narrowed and the place is widened, and both stay what the refusal
+-- The only end: the c.before is narrowed and the c.before.before is widened, and both stay what the refusal
 -- tells.
 returns : tie.Need-returns
 returns c =
-    let number = c.before in
-    let place = number.before in
-    ap₂ refused (c.narrow.ensures ∙ number.number.ensures.0) place.place.ensures ∙ sym (told_is place.before.args.r)
+    ap₂ refused (c.narrow.ensures ∙ c.number.ensures.0) c.place.ensures ∙ sym (told_is c.args.r)
 
-pub refused-spec : {M : Type 1} → statement M
-refused-spec = tie.close (tie.spec (λ c κs. search rules) (λ c κs. search rules) (λ c κs. search rules) returns)
+pub refused_spec : {M : Type 1} → statement M
+refused_spec = tie.close (tie.spec (λ c κs. search rules) (λ c κs. search rules) (λ c κs. search rules) returns)

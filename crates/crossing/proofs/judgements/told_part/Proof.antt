@@ -5,15 +5,15 @@ use Rattle.crossing.proofs.judgements.told_part.Statement.{statement}
 use Rattle.crossing.proofs.judgements.told_part.Tie as tie
 
 narrow-requires : tie.Need-narrow-requires
-narrow-requires c κs = c.before.before.requires (eq-eqb _ _ c.if1.true)
+narrow-requires c κs = c.requires (eq-eqb _ _ c.if-verdict-eq1.true)
 
 -- Open: the list and k, which is narrow there by what is asked.
-returns : tie.Need-returns
-returns c = rw (eq-eqb _ _ c.before.if1.true, c.narrow.ensures)
+returns : tie.Need-returns-then-verdict-eq1
+returns c = rw (eq-eqb _ _ c.if-verdict-eq1.true, c.narrow.ensures)
 
 -- Any other verdict: 0 and 0.
-returns-2 : tie.Need-returns-2
-returns-2 c = rw (ne_eqb _ _ c.if1.false)
+returns-2 : tie.Need-returns
+returns-2 c = rw (ne_eqb _ _ c.if-verdict-eq1.false)
 
-pub told-part-spec : {M : Type 1} → statement M
-told-part-spec = tie.close (tie.spec narrow-requires returns returns-2)
+pub told_part_spec : {M : Type 1} → statement M
+told_part_spec = tie.close (tie.spec narrow-requires returns returns-2)

@@ -25,11 +25,8 @@ abbrev code : tie.Start → Code
 code s = code_on s.args.alphabet
 
 -- where both sizes are checked
-abbrev sizes : tie.After-or3 → tie.After-or
-sizes c = let first-right = c.before.before in first-right.before.before.before.before
-
-abbrev entry : tie.After-or3 → tie.Start
-entry c = let at_size = (sizes c).before in at_size.before.before.before.before.before
+abbrev sizes : tie.After-or-checked → tie.After-or
+sizes c = c.before.before.before.before.before.before
 
 abbrev handed : tie.Start → Held
 handed s = held s.args.n s.args.cost s.args.totals.now s.args.entries.now
@@ -50,44 +47,30 @@ rest s = in_or_out (code s) (s.args.entries.now ∷ s.args.other_entries.now ∷
 abbrev after : tie.Start → Held
 after s = held_of (code s) s.args.n (sum s)
 
-came : (c : tie.After-or3) → Came (front (entry c)) [] (told_checked c.or3.result)
+came : (c : tie.After-or-checked) → Came (front c.before.before.before.before.before.before.before.before.before.before) [] (told_checked c.or-checked.result)
 came c =
-    let s = entry c in
-    let second = c.before in
-    let tried = second.before in
-    let first = tried.before in
-    let sized = sizes c in
-    start ▸ sized.before.size.ensures ▸ sized.or.ensures
-    ▸ stored_tried (code s) (handed s) (told_checked sized.or.result) tried.or2.ensures first.rightly.ensures
-    ▸ stored_tried (code s) (other s) (told_checked tried.or2.result) c.or3.ensures second.rightly2.ensures
+    start ▸ c.size.ensures ▸ c.or.ensures
+    ▸ stored_tried (code c.before.before.before.before.before.before.before.before.before.before) (handed c.before.before.before.before.before.before.before.before.before.before) (told_checked c.or.result) c.or-2.ensures c.rightly.ensures
+    ▸ stored_tried (code c.before.before.before.before.before.before.before.before.before.before) (other c.before.before.before.before.before.before.before.before.before.before) (told_checked c.or-2.result) c.or-checked.ensures c.rightly-2.ensures
 
 -- The chain refuses: its refusal is that of the table, and the parts are as they came.
-returns : tie.Need-returns
+returns : tie.Need-returns-in-Refused
 returns c =
-    let checked = c.before.before.before in
-    let s = entry checked in
-    parts_promised (edit_refused (came checked) (rest s) (handed s) (after s) c.before.checked.given.1)
+    parts_promised (edit_refused (came c.before) (rest c.before.before.before.before.before.before.before.before.before.before.before) (handed c.before.before.before.before.before.before.before.before.before.before.before) (after c.before.before.before.before.before.before.before.before.before.before.before) c.in-Refused.is)
 
 -- what passes the chain has the right numbers, both records
 fits : (s : tie.Start) → Accepts (front s) → (rightly (code s) (handed s) ≡ true) × (rightly (code s) (other s) ≡ true)
 fits s (next n (next m (next h (next o end)))) = (not-false _ h, not-false _ o)
 
-add-right-requires : tie.Need-add-right-requires
+add-right-requires : tie.Need-add_right-requires
 add-right-requires c κs =
-    let passed = c.before.before in
-    let checked = passed.before.before in
-    let s = entry checked in
-    let right = fits s (accepted (came checked) passed.enum_told.given.1) in
-    (right.0, (rightly_means (code s) (other s) right.1).full)
+    let right = fits c.before.before.before.before.before.before.before.before.before.before.before.before.before (accepted (came c.before.before.before) c.in_default.is) in
+    (right.0, (rightly_means (code c.before.before.before.before.before.before.before.before.before.before.before.before.before) (other c.before.before.before.before.before.before.before.before.before.before.before.before.before) right.1).full)
 
--- The chain is passed: what `add_right` promises of the last line is what the whole table makes.
-returns-2 : tie.Need-returns-2
+-- The chain is c.before.before.before.before.before.before.before: what `add_right` promises of the last line is what the whole table makes.
+returns-2 : tie.Need-returns
 returns-2 c =
-    let done = c.before.before.before.before in
-    let passed = done.before.before.before in
-    let checked = passed.before.before in
-    let s = entry checked in
-    parts_promised (edit_goes_on (came checked) (rest s) (handed s) (after s) passed.enum_told.given.1 done.add_right.ensures)
+    parts_promised (edit_goes_on (came c.before.before.before.before.before.before.before.before) (rest c.before.before.before.before.before.before.before.before.before.before.before.before.before.before.before.before.before.before) (handed c.before.before.before.before.before.before.before.before.before.before.before.before.before.before.before.before.before.before) (after c.before.before.before.before.before.before.before.before.before.before.before.before.before.before.before.before.before.before) c.in_default.is c.add_right.ensures)
 
 pub add_spec : {M : Type 1} → statement M
 add_spec =

@@ -24,12 +24,6 @@ use Rattle.editing.proofs.parts.clear_column.Tie as tie
 abbrev code : tie.Start → Code
 code s = code_on s.args.alphabet
 
-abbrev placed : tie.After-or → tie.After-placed
-placed c = c.before.before.before.before
-
-abbrev entry : tie.After-or → tie.Start
-entry c = (placed c).before.before.before
-
 abbrev handed : tie.Start → Held
 handed s = held s.args.n s.args.cost s.args.totals.now s.args.entries.now
 
@@ -46,18 +40,15 @@ rest s = in_or_out (code s) (s.args.entries.now ∷ cleared s ∷ []) ∷ []
 abbrev after : tie.Start → Held
 after s = held_of (code s) s.args.n (cleared s)
 
-came : (c : tie.After-or) → Came (front (entry c)) [] (told_checked c.or.result)
+came : (c : tie.After-or-checked) → Came (front c.before.before.before.before.before) [] (told_checked c.or-checked.result)
 came c =
-    let s = entry c in
-    let at_place = (placed c).placed in
-    start ▸ refl ▸ at_place.ensures ▸ stored_tried (code s) (handed s) (told_checked at_place.result) c.or.ensures c.before.rightly.ensures
+    let at_place = c.placed in
+    start ▸ refl ▸ at_place.ensures ▸ stored_tried (code c.before.before.before.before.before) (handed c.before.before.before.before.before) (told_checked at_place.result) c.or-checked.ensures c.rightly.ensures
 
 -- The chain refuses: its refusal is that of the table, and the parts are as they came.
-returns : tie.Need-returns
+returns : tie.Need-returns-in-Refused
 returns c =
-    let checked = c.before.before.before in
-    let s = entry checked in
-    parts_promised (edit_refused (came checked) (rest s) (handed s) (after s) c.before.checked.given.1)
+    parts_promised (edit_refused (came c.before) (rest c.before.before.before.before.before.before) (handed c.before.before.before.before.before.before) (after c.before.before.before.before.before.before) c.in-Refused.is)
 
 -- what the lines of the chain say where they are passed
 record Fit (s : tie.Start) : Type 0 where
@@ -72,23 +63,19 @@ fits s (next n (next p (next h end))) = record {
   right = not-false _ h;
 }
 
-fit : (passed : tie.After-enum-told) → Fit (entry passed.before.before)
-fit passed = let checked = passed.before.before in fits (entry checked) (accepted (came checked) passed.enum_told.given.1)
+fit : (passed : tie.In_default) → Fit passed.before.before.before.before.before.before
+fit passed = fits passed.before.before.before.before.before.before (accepted (came passed.before) passed.in_default.is)
 
-clear-right-requires : tie.Need-clear-right-requires
+clear-right-requires : tie.Need-clear_right-requires
 clear-right-requires c κs = let f = fit c.before.before in ((f.sized.1, f.at), f.right)
 
--- The chain is passed: what `clear_right` promises of the last line is what the whole table makes.
-returns-2 : tie.Need-returns-2
+-- The chain is c.before.before.before.before.before.before.before: what `clear_right` promises of the last line is what the whole table makes.
+returns-2 : tie.Need-returns
 returns-2 c =
-    let done = c.before.before.before.before in
-    let passed = done.before.before.before in
-    let checked = passed.before.before in
-    let s = entry checked in
-    parts_promised (edit_goes_on (came checked) (rest s) (handed s) (after s) passed.enum_told.given.1 done.clear-right.ensures)
+    parts_promised (edit_goes_on (came c.before.before.before.before.before.before.before.before) (rest c.before.before.before.before.before.before.before.before.before.before.before.before.before) (handed c.before.before.before.before.before.before.before.before.before.before.before.before.before) (after c.before.before.before.before.before.before.before.before.before.before.before.before.before) c.in_default.is c.clear_right.ensures)
 
-pub clear-column-spec : {M : Type 1} → statement M
-clear-column-spec =
+pub clear_column_spec : {M : Type 1} → statement M
+clear_column_spec =
     tie.close
     (tie.spec
     (λ c κs. search rules)

@@ -23,7 +23,7 @@ use Rattle.editing.proofs.parts.fresh.Tie as tie
 abbrev code : tie.Start → Code
 code s = code_on s.args.alphabet
 
-abbrev entry : tie.After-lent → tie.Start
+abbrev entry : tie.After-lent-checked → tie.Start
 entry c = c.before.before.before.before.before
 
 abbrev handed : tie.Start → Held
@@ -36,15 +36,13 @@ after s = held_of (code s) s.args.n (no_entries (code s))
 abbrev table : tie.Start → List Line
 table s = lent_table (code s) s.args.n s.args.totals.now s.args.entries.now
 
-came : (c : tie.After-lent) → Came (table (entry c)) [] (told_checked c.lent.result)
-came c = start ▸ refl ▸ refl ▸ c.lent.ensures
+came : (c : tie.After-lent-checked) → Came (table c.before.before.before) [] (told_checked c.lent-checked.result)
+came c = start ▸ refl ▸ refl ▸ c.lent-checked.ensures
 
 -- A line refuses: its refusal is that of the table, and the parts are as they came.
-returns : tie.Need-returns
+returns : tie.Need-returns-in-Refused
 returns c =
-    let checked = c.before.before.before in
-    let s = entry checked in
-    parts_promised (edit_refused (came checked) [] (handed s) (after s) c.before.checked.given.1)
+    parts_promised (edit_refused (came c.before) [] (handed c.before.before.before.before) (after c.before.before.before.before) c.in-Refused.is)
 
 -- the parts have the lengths of a record
 abbrev Sized : tie.Start → Type 0
@@ -54,42 +52,37 @@ fits : (s : tie.Start) → Accepts (table s) → Sized s
 fits s (next n (next t (next e end))) = (entries_mean _ s.args.totals.now t, entries_mean _ s.args.entries.now e)
 
 -- the entry of what passed every line
-abbrev begun : tie.After-enum-told → tie.Start
-begun passed = entry passed.before.before
+abbrev begun : tie.In_default → tie.Start
+begun passed = entry passed.before
 
-sized : (passed : tie.After-enum-told) → Sized (begun passed)
-sized passed = fits (begun passed) (accepted (came passed.before.before) passed.enum_told.given.1)
+sized : (passed : tie.In_default) → Sized passed.before.before.before.before
+sized passed = fits passed.before.before.before.before (accepted (came passed.before) passed.in_default.is)
 
-abbrev passed : tie.After-clear → tie.After-enum-told
+abbrev passed : tie.After-clear → tie.In_default
 passed cleared = cleared.before.before
 
 -- zeros lie in all places
-no-entries : (c : tie.After-clear) → c.clear.new.0 ≡ no_entries (code (begun (passed c)))
+no-entries : (c : tie.After-clear) → c.clear.new.out ≡ no_entries (code c.before.before.before.before.before.before)
 no-entries c =
-    let s = begun (passed c) in
-    laid_fresh (code s) s.args.entries.now c.clear.new.0 (sized (passed c)).1 c.clear.ensures
+    let s = begun c.before.before in
+    laid_fresh (code s) s.args.entries.now c.clear.new.out (sized c.before.before).1 c.clear.ensures
 
 count-requires : tie.Need-count-requires
 count-requires c κs =
-    let cleared = c.before.before.before.before in
-    let s = begun (passed cleared) in
-    ((sized (passed cleared)).0, ap length (no-entries cleared) ∙ length-replicate {A = ℕ} (places (code s)) 0)
+    let s = begun c.before.before.before.before.before in
+    ((sized c.before.before.before.before.before).0, ap length (no-entries c.before.before.before) ∙ length-replicate {A = ℕ} (places (code s)) 0)
 
 -- Every line is passed: the entries are none, and the totals and the cost are those that were
 -- counted.
-returns-2 : tie.Need-returns-2
+returns-2 : tie.Need-returns
 returns-2 c =
-    let counting = c.before.before in
-    let counted = counting.count.ensures in
-    let cleared = counting.before.before.before.before.before in
-    let told = passed cleared in
-    let s = begun told in
-    let none = no-entries cleared in
-    parts_promised (edit_goes_on (came told.before.before) [] (handed s) (after s) told.enum_told.given.1
-    (edit_counted (code s) (handed s) s.args.n (no_entries (code s)) (counted.0 ∙ ap cost none) (counted.1 ∙ ap (totals_of (code s)) none) none))
+    let counted = c.count.ensures in
+    let none = no-entries c.before.before.before.before.before.before in
+    parts_promised (edit_goes_on (came c.before.before.before.before.before.before.before.before.before) [] (handed c.before.before.before.before.before.before.before.before.before.before.before.before) (after c.before.before.before.before.before.before.before.before.before.before.before.before) c.in_default.is
+    (edit_counted (code c.before.before.before.before.before.before.before.before.before.before.before.before) (handed c.before.before.before.before.before.before.before.before.before.before.before.before) c.args.n (no_entries (code c.before.before.before.before.before.before.before.before.before.before.before.before)) (counted.0 ∙ ap cost none) (counted.1 ∙ ap (totals_of (code c.before.before.before.before.before.before.before.before.before.before.before.before)) none) none))
 
-pub fresh-spec : {M : Type 1} → statement M
-fresh-spec =
+pub fresh_spec : {M : Type 1} → statement M
+fresh_spec =
     tie.close
     (tie.spec
     (λ c κs. search rules)

@@ -15,16 +15,12 @@ use Rattle.editing.proofs.parts.lent.Tie as tie
 abbrev more : ℕ → Outcome → ℕ → Outcome
 more given o stated = or_line o (line 3 (not (eqb given stated)))
 
--- The only end: the outcome is that of size, then of the count of totals, then of that of entries.
+-- The only end: the outcome is that of size, then of the count of c.before.before, then of that of entries.
 returns : tie.Need-returns
 returns c =
-    let places = c.before in
-    let totals = places.before in
-    let positions = totals.before in
-    let sized = positions.before in
-    let a = sized.before.before.before.args in
-    let two-lines = totals.or.ensures ∙ ap₂ (more (length a.totals.now)) sized.size.ensures positions.positions.ensures in
-    c.or2.ensures ∙ ap₂ (more (length a.entries.now)) two-lines places.places.ensures
+    let a = c.args in
+    let two-lines = c.or.ensures ∙ ap₂ (more (length a.totals.now)) c.size.ensures c.positions.ensures in
+    c.or-2.ensures ∙ ap₂ (more (length a.entries.now)) two-lines c.places.ensures
 
 pub lent_spec : {M : Type 1} → statement M
 lent_spec = tie.close (tie.spec (λ c κs. search rules) (λ c κs. search rules) (λ c κs. search rules) (λ c κs. search rules) (λ c κs. search rules) returns)

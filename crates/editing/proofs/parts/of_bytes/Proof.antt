@@ -23,13 +23,6 @@ use Rattle.editing.proofs.parts.of_bytes.Tie as tie
 abbrev code : tie.Start → Code
 code s = code_on s.args.alphabet
 
--- where the lent parts are checked
-abbrev parts-lent : tie.After-symbols → tie.After-lent
-parts-lent c = c.before.before
-
-abbrev entry : tie.After-symbols → tie.Start
-entry c = let at-lending = (parts-lent c).before.before.before in at-lending.before.before.before
-
 abbrev handed : tie.Start → Held
 handed s = held s.args.n 0 s.args.totals.now s.args.entries.now
 
@@ -43,15 +36,13 @@ after s = held_of (code s) s.args.n (laid s)
 abbrev table : tie.Start → List Line
 table s = lent_bytes_table (code s) s.args.n s.args.bytes.now s.args.totals.now s.args.entries.now
 
-came : (c : tie.After-symbols) → Came (table (entry c)) [] (told_checked c.symbols.result)
-came c = start ▸ refl ▸ refl ▸ (parts-lent c).lent.ensures ▸ c.before.entries.ensures ▸ c.symbols.ensures
+came : (c : tie.After-symbols-checked) → Came (table c.before.before.before.before.before.before) [] (told_checked c.symbols-checked.result)
+came c = start ▸ refl ▸ refl ▸ c.lent.ensures ▸ c.entries.ensures ▸ c.symbols-checked.ensures
 
 -- A line refuses: its refusal is that of the table, and the parts are as they came.
-returns : tie.Need-returns
+returns : tie.Need-returns-in-Refused
 returns c =
-    let checked = c.before.before.before in
-    let s = entry checked in
-    parts_promised (edit_refused (came checked) [] (handed s) (after s) c.before.checked.given.1)
+    parts_promised (edit_refused (came c.before) [] (handed c.before.before.before.before.before.before.before) (after c.before.before.before.before.before.before.before) c.in-Refused.is)
 
 -- what the lines say where they are passed
 record Fit (s : tie.Start) : Type 0 where
@@ -70,28 +61,21 @@ fits s (next n (next t (next e (next b (next a end))))) = record {
 
 lay-requires : tie.Need-lay-requires
 lay-requires c κs =
-    let passed = c.before.before in
-    let checked = passed.before.before in
-    let s = entry checked in
-    let C = code s in
-    let fit = fits s (accepted (came checked) passed.enum_told.given.1) in
+    let C = code c.before.before.before.before.before.before.before.before.before in
+    let fit = fits c.before.before.before.before.before.before.before.before.before (accepted (came c.before.before.before) c.in_default.is) in
     let stated = fit.bytes in
-    let within : C.symbols * s.args.n ≤ places C = mul-le-mul_left C.symbols fit.size.1 in
+    let within : C.symbols * c.args.n ≤ places C = mul-le-mul_left C.symbols fit.size.1 in
     (omega arith, fit.totals, fit.entries)
 
--- Every line is passed: entries, totals and cost are those that `lay` promises of the bytes.
-returns-2 : tie.Need-returns-2
+-- Every line is c.before.before.before.before.before.before.before: entries, totals and cost are those that `lay` promises of the bytes.
+returns-2 : tie.Need-returns
 returns-2 c =
-    let laying = c.before.before.before.before in
-    let counted = laying.lay.ensures in
-    let passed = laying.before.before.before in
-    let checked = passed.before.before in
-    let s = entry checked in
-    parts_promised (edit_goes_on (came checked) [] (handed s) (after s) passed.enum_told.given.1
-    (edit_counted (code s) (handed s) s.args.n (laid s) counted.0 counted.1 counted.2))
+    let counted = c.lay.ensures in
+    parts_promised (edit_goes_on (came c.before.before.before.before.before.before.before.before) [] (handed c.before.before.before.before.before.before.before.before.before.before.before.before.before.before) (after c.before.before.before.before.before.before.before.before.before.before.before.before.before.before) c.in_default.is
+    (edit_counted (code c.before.before.before.before.before.before.before.before.before.before.before.before.before.before) (handed c.before.before.before.before.before.before.before.before.before.before.before.before.before.before) c.args.n (laid c.before.before.before.before.before.before.before.before.before.before.before.before.before.before) counted.0 counted.1 counted.2))
 
-pub of-bytes-spec : {M : Type 1} → statement M
-of-bytes-spec =
+pub of_bytes_spec : {M : Type 1} → statement M
+of_bytes_spec =
     tie.close
     (tie.spec
     (λ c κs. search rules)

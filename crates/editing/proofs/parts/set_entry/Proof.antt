@@ -25,13 +25,6 @@ use Rattle.editing.proofs.parts.set_entry.Tie as tie
 abbrev code : tie.Start → Code
 code s = code_on s.args.alphabet
 
--- where position and symbol are checked
-abbrev in-matrix : tie.After-or2 → tie.After-or
-in-matrix c = c.before.before.before.before
-
-abbrev entry : tie.After-or2 → tie.Start
-entry c = (in-matrix c).before.before.before.before.before
-
 abbrev handed : tie.Start → Held
 handed s = held s.args.n s.args.cost s.args.totals.now s.args.entries.now
 
@@ -48,22 +41,17 @@ rest s = in_or_out (code s) (s.args.entries.now ∷ set s ∷ []) ∷ []
 abbrev after : tie.Start → Held
 after s = held_of (code s) s.args.n (set s)
 
-came : (c : tie.After-or2) → Came (front (entry c)) [] (told_checked c.or2.result)
+came : (c : tie.After-or-checked) → Came (front c.before.before.before.before.before.before.before) [] (told_checked c.or-checked.result)
 came c =
-    let s = entry c in
-    let of-symbol = in-matrix c in
-    let counted = of-symbol.before in
-    let of-place = counted.before.placed in
+    let of-place = c.placed in
     start ▸ refl ▸ of-place.ensures
-    ▸ (of-symbol.or.ensures ∙ ap (λ (many : ℕ). or_line (told_checked of-place.result) (line 1 (leb many s.args.symbol))) counted.symbols.ensures)
-    ▸ stored_tried (code s) (handed s) (told_checked of-symbol.or.result) c.or2.ensures c.before.rightly.ensures
+    ▸ (c.or.ensures ∙ ap (λ (many : ℕ). or_line (told_checked of-place.result) (line 1 (leb many c.args.symbol))) c.symbols.ensures)
+    ▸ stored_tried (code c.before.before.before.before.before.before.before) (handed c.before.before.before.before.before.before.before) (told_checked c.or.result) c.or-checked.ensures c.rightly.ensures
 
 -- The chain refuses: its refusal is that of the table, and the parts are as they came.
-returns : tie.Need-returns
+returns : tie.Need-returns-in-Refused
 returns c =
-    let checked = c.before.before.before in
-    let s = entry checked in
-    parts_promised (edit_refused (came checked) (rest s) (handed s) (after s) c.before.checked.given.1)
+    parts_promised (edit_refused (came c.before) (rest c.before.before.before.before.before.before.before.before) (handed c.before.before.before.before.before.before.before.before) (after c.before.before.before.before.before.before.before.before) c.in-Refused.is)
 
 -- what the lines of the chain say where they are passed
 record Fit (s : tie.Start) : Type 0 where
@@ -80,23 +68,19 @@ fits s (next n (next p (next b (next h end)))) = record {
   right = not-false _ h;
 }
 
-fit : (passed : tie.After-enum-told) → Fit (entry passed.before.before)
-fit passed = let checked = passed.before.before in fits (entry checked) (accepted (came checked) passed.enum_told.given.1)
+fit : (passed : tie.In_default) → Fit passed.before.before.before.before.before.before.before.before
+fit passed = fits passed.before.before.before.before.before.before.before.before (accepted (came passed.before) passed.in_default.is)
 
-set-right-requires : tie.Need-set-right-requires
+set-right-requires : tie.Need-set_right-requires
 set-right-requires c κs = let f = fit c.before.before in ((f.sized.1, f.at, f.of), f.right)
 
--- The chain is passed: what `set_right` promises of the last line is what the whole table makes.
-returns-2 : tie.Need-returns-2
+-- The chain is c.before.before.before.before.before.before.before: what `set_right` promises of the last line is what the whole table makes.
+returns-2 : tie.Need-returns
 returns-2 c =
-    let done = c.before.before.before.before in
-    let passed = done.before.before.before in
-    let checked = passed.before.before in
-    let s = entry checked in
-    parts_promised (edit_goes_on (came checked) (rest s) (handed s) (after s) passed.enum_told.given.1 done.set-right.ensures)
+    parts_promised (edit_goes_on (came c.before.before.before.before.before.before.before.before) (rest c.before.before.before.before.before.before.before.before.before.before.before.before.before.before.before) (handed c.before.before.before.before.before.before.before.before.before.before.before.before.before.before.before) (after c.before.before.before.before.before.before.before.before.before.before.before.before.before.before.before) c.in_default.is c.set_right.ensures)
 
-pub set-entry-spec : {M : Type 1} → statement M
-set-entry-spec =
+pub set_entry_spec : {M : Type 1} → statement M
+set_entry_spec =
     tie.close
     (tie.spec
     (λ c κs. search rules)

@@ -6,7 +6,7 @@ use Rattle.entries.proofs.judging.judge.Tie as tie
 
 -- The only end: what crosses to C is the verdict of `counter::judge`.
 returns : tie.Need-returns
-returns c = c.judged.ensures ∙ c.before.judge.ensures
+returns c = c.judged.ensures ∙ c.judge.ensures
 
-pub judge-spec : {M : Type 1} → statement M
-judge-spec = tie.close (tie.spec (λ c κs. search rules) (λ c κs. search rules) returns)
+pub judge_spec : {M : Type 1} → statement M
+judge_spec = tie.close (tie.spec (λ c κs. search rules) (λ c κs. search rules) returns)

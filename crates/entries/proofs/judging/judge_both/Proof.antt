@@ -7,7 +7,7 @@ use Rattle.entries.proofs.judging.judge_both.Tie as tie
 
 -- The only end: what crosses to C is the verdict of `counter::judge_both` on those settings.
 returns : tie.Need-returns
-returns c = c.judged.ensures ∙ c.before.judge_both.ensures
+returns c = c.judged.ensures ∙ c.judge_both.ensures
 
-pub judge-both-spec : {M : Type 1} → statement M
-judge-both-spec = tie.close (tie.spec (λ c κs. search rules) (λ c κs. search rules) returns)
+pub judge_both_spec : {M : Type 1} → statement M
+judge_both_spec = tie.close (tie.spec (λ c κs. search rules) (λ c κs. search rules) returns)

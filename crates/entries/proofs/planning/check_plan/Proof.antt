@@ -8,13 +8,12 @@ use Rattle.entries.proofs.planning.check_plan.Tie as tie
 
 planned-requires : tie.Need-planned-requires
 planned-requires c κs =
-    let entry = c.before.before.before in
-    let a = entry.args in
+    let a = c.args in
     rw c.check_plan.ensures (check_narrow a.alphabet a.n a.steps a.reliabilities.now a.plan.now)
 
 -- The only end: what crosses to C is what `planner::check_plan` answered.
 returns : tie.Need-returns
-returns c = c.planned.ensures ∙ c.before.check_plan.ensures
+returns c = c.planned.ensures ∙ c.check_plan.ensures
 
-pub check-plan-spec : {M : Type 1} → statement M
-check-plan-spec = tie.close (tie.spec (λ c κs. search rules) planned-requires returns)
+pub check_plan_spec : {M : Type 1} → statement M
+check_plan_spec = tie.close (tie.spec (λ c κs. search rules) planned-requires returns)

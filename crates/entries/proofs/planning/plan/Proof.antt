@@ -5,22 +5,15 @@ use borrow.Author.Rules.{rules}
 use Rattle.entries.proofs.planning.plan.Statement.{statement}
 use Rattle.entries.proofs.planning.plan.Tie as tie
 
-abbrev at_call : tie.After-slice-known2 → tie.After-plan
-at_call c = c.before.before
-
-abbrev entry : tie.After-plan → tie.Start
-entry c = c.before.before.before.before
-
 planned-requires : tie.Need-planned-requires
 planned-requires c κs =
-    let called = at_call c in
-    let a = (entry called).args in
-    rw called.plan.ensures.0 (plan_narrow a.alphabet a.n a.steps a.reliabilities.now a.out.now)
+    let a = c.args in
+    rw c.plan.ensures.0 (plan_narrow a.alphabet a.n a.steps a.reliabilities.now a.out-1.now)
 
 -- The only end: what crosses to C is what `planner::plan` answered, and the memory is as that left
 -- it.
 returns : tie.Need-returns
-returns c = rw c.planned.ensures (at_call c.before).plan.ensures
+returns c = rw c.planned.ensures c.plan.ensures
 
-pub plan-spec : {M : Type 1} → statement M
-plan-spec = tie.close (tie.spec (λ c κs. search rules) planned-requires (λ c. search rules) returns)
+pub plan_spec : {M : Type 1} → statement M
+plan_spec = tie.close (tie.spec (λ c κs. search rules) planned-requires (λ c. search rules) returns)

@@ -8,13 +8,12 @@ use Rattle.entries.proofs.proposing.check_proposal.Tie as tie
 
 proposed-requires : tie.Need-proposed-requires
 proposed-requires c κs =
-    let entry = c.before.before.before in
-    let a = entry.args in
+    let a = c.args in
     rw c.check_proposal.ensures (proposal_narrow a.alphabet a.n a.k a.degree a.matrix.now a.coefficients.now)
 
 -- The only end: what crosses to C is what `proposals::check_proposal` answered.
 returns : tie.Need-returns
-returns c = c.proposed.ensures ∙ c.before.check_proposal.ensures
+returns c = c.proposed.ensures ∙ c.check_proposal.ensures
 
-pub check-proposal-spec : {M : Type 1} → statement M
-check-proposal-spec = tie.close (tie.spec (λ c κs. search rules) proposed-requires returns)
+pub check_proposal_spec : {M : Type 1} → statement M
+check_proposal_spec = tie.close (tie.spec (λ c κs. search rules) proposed-requires returns)

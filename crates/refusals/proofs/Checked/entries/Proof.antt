@@ -12,18 +12,16 @@ use borrow.Author.Rules.{rules}
 use Rattle.refusals.proofs.Checked.entries.Statement.{statement}
 use Rattle.refusals.proofs.Checked.entries.Tie as tie
 
-is-product-requires : tie.Need-is-product-requires
-is-product-requires c κs = let z = (sized c.before.args.alphabet).least in let e = c.symbols.ensures in omega arith
+is-product-requires : tie.Need-is_product-requires
+is-product-requires c κs = let z = (sized c.args.alphabet).least in let e = c.symbols.ensures in omega arith
 
 -- The line's test is whether the length is not the number of symbols times n, as `is_product`
 -- tells.
 returns : tie.Need-returns
 returns c =
-    let at-product = c.before in
-    let at-symbols = at-product.before in
-    let a = at-symbols.before.args in
-    let by_code = ap (λ (q : ℕ). eqb a.given (q * a.n)) at-symbols.symbols.ensures in
-    c.or.ensures ∙ ap (λ (b : Bool). or_line (told_checked a.self) (line 3 (not b))) (at-product.is-product.ensures ∙ by_code)
+    let a = c.args in
+    let by_code = ap (λ (q : ℕ). eqb a.given (q * a.n)) c.symbols.ensures in
+    c.or.ensures ∙ ap (λ (b : Bool). or_line (told_checked a.self) (line 3 (not b))) (c.is_product.ensures ∙ by_code)
 
-pub entries-spec : {M : Type 1} → statement M
-entries-spec = tie.close (tie.spec (λ c κs. search rules) is-product-requires (λ c κs. search rules) returns)
+pub entries_spec : {M : Type 1} → statement M
+entries_spec = tie.close (tie.spec (λ c κs. search rules) is-product-requires (λ c κs. search rules) returns)

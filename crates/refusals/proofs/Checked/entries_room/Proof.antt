@@ -10,13 +10,13 @@ use Rattle.refusals.proofs.Checked.entries_room.Statement.{statement}
 use Rattle.refusals.proofs.Checked.entries_room.Tie as tie
 
 room-requires : tie.Need-room-requires
-room-requires c κs = let z = (sized c.before.args.alphabet).least in let e = c.symbols.ensures in omega arith
+room-requires c κs = let z = (sized c.args.alphabet).least in let e = c.symbols.ensures in omega arith
 
 -- The room that was asked for is the code's number of symbols times n.
 returns : tie.Need-returns
 returns c =
-    let a = c.before.before.args in
-    c.room.ensures ∙ ap (λ (q : ℕ). or_line (told_checked a.self) (room (q * a.n) a.given)) c.before.symbols.ensures
+    let a = c.args in
+    c.room.ensures ∙ ap (λ (q : ℕ). or_line (told_checked a.self) (room (q * a.n) a.given)) c.symbols.ensures
 
-pub entries-room-spec : {M : Type 1} → statement M
-entries-room-spec = tie.close (tie.spec (λ c κs. search rules) room-requires returns)
+pub entries_room_spec : {M : Type 1} → statement M
+entries_room_spec = tie.close (tie.spec (λ c κs. search rules) room-requires returns)

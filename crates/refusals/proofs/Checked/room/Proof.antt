@@ -12,9 +12,8 @@ use Rattle.refusals.proofs.Checked.room.Tie as tie
 -- The test by division is the line's test.
 returns : tie.Need-returns
 returns c =
-    let s = c.before in
-    let a = s.args in
-    c.or.ensures ∙ ap (λ (b : Bool). or_line (told_checked a.self) (line 4 b)) (short_product a.given a.each a.many s.requires)
+    let a = c.args in
+    c.or.ensures ∙ ap (λ (b : Bool). or_line (told_checked a.self) (line 4 b)) (short_product a.given a.each a.many c.requires)
 
-pub room-spec : {M : Type 1} → statement M
-room-spec = tie.close (tie.spec (λ c. search rules) (λ c κs. search rules) returns)
+pub room_spec : {M : Type 1} → statement M
+room_spec = tie.close (tie.spec (λ c. search rules) (λ c κs. search rules) returns)

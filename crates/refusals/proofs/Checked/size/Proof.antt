@@ -12,8 +12,8 @@ use Rattle.refusals.proofs.Checked.size.Tie as tie
 -- The upper bound that was tried is the code's number of positions.
 returns : tie.Need-returns
 returns c =
-    let n = c.before.before.args.n in
-    c.within.ensures ∙ ap (λ (most : ℕ). or_line passed (line_of (not (leb 2 n && leb n most)) Sizes)) c.before.positions.ensures
+    let n = c.args.n in
+    c.within.ensures ∙ ap (λ (most : ℕ). or_line passed (line_of (not (leb 2 n && leb n most)) Sizes)) c.positions.ensures
 
-pub size-spec : {M : Type 1} → statement M
-size-spec = tie.close (tie.spec (λ c κs. search rules) (λ c κs. search rules) returns)
+pub size_spec : {M : Type 1} → statement M
+size_spec = tie.close (tie.spec (λ c κs. search rules) (λ c κs. search rules) returns)

@@ -15,15 +15,13 @@ use Rattle.refusals.proofs.Checked.sizes_too.Tie as tie
 -- The two checks gave refusal 1 where k is below 2 or n is not from k to the code's positions.
 returns : tie.Need-returns
 returns c =
-    let at-positions = c.before in
-    let at-k = at-positions.before in
-    let a = at-k.before.args in
+    let a = c.args in
     let o = told_checked a.self in
     let above = leb a.k a.n && leb a.n (code_on a.alphabet).positions in
-    let tested-n : ℕ → Outcome = λ most. or_line (told_checked at-k.or.result) (line_of (not (leb a.k a.n && leb a.n most)) Sizes) in
-    let tested-k = at-k.or.ensures ∙ ap (λ (b : Bool). or_line o (line_of b Sizes)) (less_not a.k 2) in
-    c.within.ensures ∙ ap tested-n at-positions.positions.ensures ∙ ap (λ (p : Outcome). or_line p (line_of (not above) Sizes)) tested-k
+    let tested-n : ℕ → Outcome = λ most. or_line (told_checked c.or.result) (line_of (not (leb a.k a.n && leb a.n most)) Sizes) in
+    let tested-k = c.or.ensures ∙ ap (λ (b : Bool). or_line o (line_of b Sizes)) (less_not a.k 2) in
+    c.within.ensures ∙ ap tested-n c.positions.ensures ∙ ap (λ (p : Outcome). or_line p (line_of (not above) Sizes)) tested-k
     ∙ two_tests o Sizes (leb 2 a.k) above
 
-pub sizes-too-spec : {M : Type 1} → statement M
-sizes-too-spec = tie.close (tie.spec (λ c κs. search rules) (λ c κs. search rules) (λ c κs. search rules) returns)
+pub sizes_too_spec : {M : Type 1} → statement M
+sizes_too_spec = tie.close (tie.spec (λ c κs. search rules) (λ c κs. search rules) (λ c κs. search rules) returns)

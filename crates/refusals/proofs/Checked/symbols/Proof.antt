@@ -13,10 +13,10 @@ use Rattle.refusals.proofs.Checked.symbols.Tie as tie
 -- The place 0 + i that `symbols_after` gives is i.
 returns : tie.Need-returns
 returns c =
-    let a = c.before.before.args in
+    let a = c.args in
     let first = first_above a.greatest a.list.now in
-    c.symbols-after.ensures
+    c.symbols_after.ensures
     ∙ ap (λ (p : ℕ). or_line (told_checked a.self) (record { number = 5; given = ltb first (length a.list.now); place = p })) (zero-add first)
 
-pub symbols-spec : {M : Type 1} → statement M
-symbols-spec = tie.close (tie.spec (λ c κs. search rules) returns)
+pub symbols_spec : {M : Type 1} → statement M
+symbols_spec = tie.close (tie.spec (λ c κs. search rules) returns)

@@ -8,35 +8,29 @@ use borrow.Author.Rules.{rules}
 use Rattle.refusals.proofs.Checked.symbols_after.Statement.{statement}
 use Rattle.refusals.proofs.Checked.symbols_after.Tie as tie
 
-abbrev entry : tie.After-first-above → tie.Start
-entry c = c.before.before.before.before
-
 -- An earlier line was refused already: its refusal stays.
-returns : tie.Need-returns
+returns : tie.Need-returns-in-Refused
 returns c =
-    let at-match = c.before.before in
-    let a = at-match.before.before.args in
-    refusal_kept a.self (runs_on a.earlier (none_above a.greatest a.list.now)) _ c.before.self.given.1
+    let a = c.args in
+    refusal_kept a.self (runs_on a.earlier (none_above a.greatest a.list.now)) _ c.in-Refused.is
 
 -- A number above the greatest was found: refusal 5 at its index, counted on from the earlier list.
-returns-2 : tie.Need-returns-2
+returns-2 : tie.Need-returns-then-bad-list
 returns-2 c =
-    let at-scan = c.before in
-    let a = (entry at-scan).args in
+    let a = c.args in
     let first = first_above a.greatest a.list.now in
-    bad_found a.self at-scan.before.enum_told.given.1 5 first (length a.list.now)
-    (λ i. a.earlier + i) at-scan.first_above.result at-scan.first_above.ensures c.if1.true
+    bad_found a.self c.in-Passed.is 5 first (length a.list.now)
+    (λ i. a.earlier + i) c.first_above-bad.result c.first_above-bad.ensures c.if-bad-list.true
 
 -- The scan came to the end: no number is above the greatest, and the line is passed.
-returns-3 : tie.Need-returns-3
+returns-3 : tie.Need-returns-else-bad-list
 returns-3 c =
-    let at-scan = c.before in
-    let a = (entry at-scan).args in
+    let a = c.args in
     let first = first_above a.greatest a.list.now in
-    none_found a.self at-scan.before.enum_told.given.1 5 first (length a.list.now)
-    (λ i. a.earlier + i) at-scan.first_above.result at-scan.first_above.ensures c.if1.false
+    none_found a.self c.in-Passed.is 5 first (length a.list.now)
+    (λ i. a.earlier + i) c.first_above-bad.result c.first_above-bad.ensures c.if-bad-list.false
 
-pub symbols-after-spec : {M : Type 1} → statement M
-symbols-after-spec =
+pub symbols_after_spec : {M : Type 1} → statement M
+symbols_after_spec =
     tie.close
     (tie.spec (λ c. search rules) (λ c. search rules) (λ c κs. search rules) (λ c. omega arith) returns returns-2 returns-3)

@@ -10,8 +10,8 @@ use Rattle.refusals.proofs.Checked.symbols_of.Tie as tie
 -- The bound that was tried is the code's greatest symbol.
 returns : tie.Need-returns
 returns c =
-    let a = c.before.before.before.args in
-    c.symbols.ensures ∙ ap (λ (g : ℕ). or_line (told_checked a.self) (none_above g a.list.now)) c.before.greatest-symbol.ensures
+    let a = c.args in
+    c.symbols.ensures ∙ ap (λ (g : ℕ). or_line (told_checked a.self) (none_above g a.list.now)) c.greatest_symbol.ensures
 
-pub symbols-of-spec : {M : Type 1} → statement M
-symbols-of-spec = tie.close (tie.spec (λ c κs. search rules) (λ c κs. search rules) returns)
+pub symbols_of_spec : {M : Type 1} → statement M
+symbols_of_spec = tie.close (tie.spec (λ c κs. search rules) (λ c κs. search rules) returns)

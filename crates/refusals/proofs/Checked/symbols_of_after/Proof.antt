@@ -12,10 +12,9 @@ use Rattle.refusals.proofs.Checked.symbols_of_after.Tie as tie
 -- list.
 returns : tie.Need-returns
 returns c =
-    let at_greatest = c.before in
-    let a = at_greatest.before.before.args in
-    c.symbols-after.ensures
-    ∙ ap (λ (g : ℕ). or_line (told_checked a.self) (runs_on a.earlier (none_above g a.list.now))) at_greatest.greatest-symbol.ensures
+    let a = c.args in
+    c.symbols_after.ensures
+    ∙ ap (λ (g : ℕ). or_line (told_checked a.self) (runs_on a.earlier (none_above g a.list.now))) c.greatest_symbol.ensures
 
-pub symbols-of-after-spec : {M : Type 1} → statement M
-symbols-of-after-spec = tie.close (tie.spec (λ c κs. search rules) (λ c κs. search rules) returns)
+pub symbols_of_after_spec : {M : Type 1} → statement M
+symbols_of_after_spec = tie.close (tie.spec (λ c κs. search rules) (λ c κs. search rules) returns)

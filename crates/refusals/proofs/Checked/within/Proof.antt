@@ -11,9 +11,9 @@ use Rattle.refusals.proofs.Checked.within.Tie as tie
 -- The two checks gave the refusal where x is below the least or above the greatest.
 returns : tie.Need-returns
 returns c =
-    let a = c.before.before.args in
-    c.or2.ensures ∙ ap (λ (o : Outcome). or_line o (line_of (ltb a.greatest a.x) a.refusal)) c.before.or.ensures
+    let a = c.args in
+    c.or-2.ensures ∙ ap (λ (o : Outcome). or_line o (line_of (ltb a.greatest a.x) a.refusal)) c.or.ensures
     ∙ two_bounds (told_checked a.self) a.refusal a.least a.x a.greatest
 
-pub within-spec : {M : Type 1} → statement M
-within-spec = tie.close (tie.spec (λ c κs. search rules) (λ c κs. search rules) returns)
+pub within_spec : {M : Type 1} → statement M
+within_spec = tie.close (tie.spec (λ c κs. search rules) (λ c κs. search rules) returns)

@@ -17,62 +17,53 @@ use Rattle.roots.proofs.inside.load.Tie as tie
 
 -- Before round d the first j coefficients, those of all degrees below d, are at their places, whichever
 -- alphabet they are of.
-abbrev invariant-loop : tie.invariant-loop
+abbrev invariant-loop : tie.invariant-loop-d
 invariant-loop coefficients degree v p₀ h j₀ d₀ p j d =
     (d ≤ degree + 1) × (length p ≡ places) × (j ≡ length (lower v d)) × LoadedOfEither h (take j coefficients) (lower v d) (zeros places) p
 
-abbrev decreases-loop : tie.decreases-loop
+abbrev decreases-loop : tie.decreases-loop-d
 decreases-loop coefficients degree v p₀ h j₀ d₀ p j d = degree + 1 - d
 
-loop-holds : tie.Need-loop-init invariant-loop decreases-loop
+loop-holds : tie.Need-loop-d-init invariant-loop decreases-loop
 unfolding zeros
 loop-holds c =
-    let s = c.before in
-    (omega arith, refl, none_lower s.args.v, λ w. load_none (code_on w) _ s.requires.0.0 _ s.args.coefficients.now s.requires.1 _ _)
-
-abbrev entry : tie.In-loop invariant-loop decreases-loop → tie.Start invariant-loop decreases-loop
-entry c = c.before.before.before
+    (omega arith, refl, none_lower c.args.v, λ w. load_none (code_on w) _ c.requires.0.0 _ c.args.coefficients.now c.requires.1 _ _)
 
 -- the coefficients of degree d are in the list
-there : (c : tie.In-loop invariant-loop decreases-loop)
-    → (let a = (entry c).args in let l = c.before.loop in l.j + (l.d / a.v + 1) ≤ length a.coefficients.now)
+there : (c : tie.In-loop-d invariant-loop decreases-loop)
+    → (let a = c.args in let l = c.loop-d in l.j + (l.d / a.v + 1) ≤ length a.coefficients.now)
 there c =
-    let s = entry c in
-    let within = degree_within s.args.v s.pre.0.0 s.args.degree s.args.coefficients.now s.pre.1 c.before.loop.d (omega arith) in
+    let within = degree_within c.args.v c.requires.0.0 c.args.degree c.args.coefficients.now c.requires.1 c.loop-d.d (omega arith) in
     omega arith
 
-load-degree-requires : tie.Need-load-degree-requires invariant-loop decreases-loop
+load-degree-requires : tie.Need-load_degree-requires invariant-loop decreases-loop
 load-degree-requires c κs =
-    let s = entry c.before in
-    let d = c.before.before.loop.d in
-    let grows = degree_grows s.args.v d s.args.degree s.pre.0.0 (omega arith) in
-    let h = s.args.degree / s.args.v + 1 in
-    let wide : (d + 1) * h ≤ (s.args.degree + 1) * h = mul-le-mul_right h (omega arith) in
-    ((s.pre.0.0, omega arith, omega arith), there c.before)
+    let d = c.loop-d.d in
+    let grows = degree_grows c.args.v d c.args.degree c.requires.0.0 (omega arith) in
+    let h = c.args.degree / c.args.v + 1 in
+    let wide : (d + 1) * h ≤ (c.args.degree + 1) * h = mul-le-mul_right h (omega arith) in
+    ((c.requires.0.0, omega arith, omega arith), there c.before)
 
-add-j : tie.Need-overflow-add-j invariant-loop decreases-loop
+add-j : tie.Need-overflow_add-j invariant-loop decreases-loop
 add-j c = let t = there c.before.before.before in omega arith
 
-add-j-2 : tie.Need-overflow-add-j-2 invariant-loop decreases-loop
+add-j-2 : tie.Need-overflow_add-j-in-loop-d invariant-loop decreases-loop
 add-j-2 c = let t = there c.before.before.before in omega arith
 
-loop-again : tie.Need-loop-preserved invariant-loop decreases-loop
+loop-again : tie.Need-loop-d-preserved invariant-loop decreases-loop
 loop-again c =
-    let s = entry c.before.before.before in
-    let inv = c.before.before.before.before.loop.invariant in
-    let r = c.before.load-degree in (
+    let inv = c.loop-d.invariant in
+    let r = c.load_degree in (
       omega arith,
       omega arith,
-      (load_more (code_on Sixteen) _ s.pre.0.0 _ _ s.pre.1 _ _ _ _ _ _ (omega arith) inv.2 (inv.3 Sixteen) (r.ensures Sixteen)).0,
-      λ w. (load_more (code_on w) _ s.pre.0.0 _ _ s.pre.1 _ _ _ _ _ _ (omega arith) inv.2 (inv.3 w) (r.ensures w)).1,
+      (load_more (code_on Sixteen) _ c.requires.0.0 _ _ c.requires.1 _ _ _ _ _ _ (omega arith) inv.2 (inv.3 Sixteen) (r.ensures Sixteen)).0,
+      λ w. (load_more (code_on w) _ c.requires.0.0 _ _ c.requires.1 _ _ _ _ _ _ (omega arith) inv.2 (inv.3 w) (r.ensures w)).1,
     )
 
 -- The loop has ended at d = degree + 1, so the coefficients of all degrees are loaded.
 returns : tie.Need-returns invariant-loop decreases-loop
 returns c =
-    let l = c.before in
-    let s = l.before.before in
-    λ w. load_all (code_on w) _ s.requires.0.0 _ _ s.requires.1 _ _ _ _ _ (omega arith) l.loop.invariant.2 (l.loop.invariant.3 w)
+    λ w. load_all (code_on w) _ c.requires.0.0 _ _ c.requires.1 _ _ _ _ _ (omega arith) c.loop-d.invariant.2 (c.loop-d.invariant.3 w)
 
 pub load_spec : {M : Type 1} → statement M
 load_spec =

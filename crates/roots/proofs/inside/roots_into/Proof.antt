@@ -23,9 +23,6 @@ use borrow.Author.Rules.{rules}
 use Rattle.roots.proofs.inside.roots_into.Statement.{statement}
 use Rattle.roots.proofs.inside.roots_into.Tie as tie
 
-abbrev entry : tie.After-freed → tie.Start
-entry c = c.before.before.before.before.before
-
 abbrev height : tie.Start → ℕ
 height s = s.args.degree / (s.args.k - 1) + 1
 
@@ -33,92 +30,84 @@ height s = s.args.degree / (s.args.k - 1) + 1
 fit : (s : tie.Start) → (s.args.degree + 1) * height s ≤ places
 fit s = array_fits s.args.degree s.args.k s.requires.0.0 s.requires.0.2
 
-add-h : tie.Need-overflow-add-h
+add-h : tie.Need-overflow_add-h
 add-h c =
-    let s = c.before.before in
-    let f = height_fits (height s) (s.args.degree + 1) (omega arith) (fit s) in
+    let f = height_fits (height c.before.before) (c.args.degree + 1) (omega arith) (fit c.before.before) in
     omega arith
 
-load-requires : tie.Need-load-requires
-load-requires c κs = let s = c.before.before in ((omega arith, fit s), s.requires.1.0.0)
+load-requires : tie.Need-load-loaded-requires
+load-requires c κs = ((omega arith, fit c.before.before), c.requires.1.0.0)
 
-add-freed : tie.Need-overflow-add-freed
+add-freed : tie.Need-overflow_add-degree
 add-freed c =
-    let s = c.before.before.before.before in
-    let f = columns_fit (height s) (s.args.degree + 1) (omega arith) (fit s) in
+    let f = columns_fit (height c.before.before.before.before) (c.args.degree + 1) (omega arith) (fit c.before.before.before.before) in
     omega arith
 
-freed-requires : tie.Need-freed-requires
+freed-requires : tie.Need-freed-p-requires
 freed-requires c κs =
-    let s = c.before.before.before.before in
-    let a = s.args in
-    let l = c.before.load in
-    (omega arith, fit s, loaded_length (code_on a.alphabet) a.degree a.k a.coefficients.now l.result (l.ensures a.alphabet))
+    let a = c.args in
+    let l = c.load-loaded in
+    (omega arith, fit c.before.before.before.before, loaded_length (code_on a.alphabet) a.degree a.k a.coefficients.now l.result (l.ensures a.alphabet))
 
 -- what is loaded, and freed, are symbols
-are-symbols : (c : tie.After-freed) → Symbols (code_on (entry c).args.alphabet) c.freed.result
+are-symbols : (c : tie.After-freed-p) → Symbols (code_on c.args.alphabet) c.freed-p.result
 are-symbols c =
-    let s = entry c in
-    let w = s.args.alphabet in
-    let loaded = loaded_are_symbols (code_on w) (field_on w) _ _ s.args.coefficients.now s.pre.0.0 s.pre.0.2 s.pre.1.0.0 s.pre.1.1.0 _ (c.before.before.load.ensures w) in
-    c.freed.ensures.1 w loaded
+    let w = c.args.alphabet in
+    let loaded = loaded_are_symbols (code_on w) (field_on w) _ _ c.args.coefficients.now c.requires.0.0 c.requires.0.2 c.requires.1.0.0 c.requires.1.1.0 _ (c.load-loaded.ensures w) in
+    c.freed-p.ensures.1 w loaded
 
 -- the rows that the search finds in one alphabet
-abbrev rows : tie.After-freed → Alphabet → List ℕ
+abbrev rows : tie.After-freed-p → Alphabet → List ℕ
 rows c w =
-    let s = entry c in
-    let k = s.args.k in
-    rows_after (take (k - k) (zeros most_symbols)) (tree.search (code_on w) k (polynomial (code_on w) (height s) (s.args.degree + 1) c.freed.result))
+    let k = c.args.k in
+    rows_after (take (k - k) (zeros most_symbols)) (tree.search (code_on w) k (polynomial (code_on w) (height c.before.before.before.before.before) (c.args.degree + 1) c.freed-p.result))
 
 -- what the search asks, of one alphabet
-abbrev Ready : tie.After-freed → Alphabet → Type 0
+abbrev Ready : tie.After-freed-p → Alphabet → Type 0
 Ready c w =
-    let s = entry c in
-    let a = s.args in
-    let p = c.freed.result in
+    let a = c.args in
+    let p = c.freed-p.result in
     Symbols (code_on w) p
-    × (((0 < height s) × ((a.degree + 1) * height s ≤ places) × (a.k ≤ a.k) × (a.k ≤ (code_on w).positions))
-    × (DegreeWithin (code_on w) (a.k - 1) a.degree (height s) p × (0 + length (rows c w) ≤ length a.out.now)))
+    × (((0 < height c.before.before.before.before.before) × ((a.degree + 1) * height c.before.before.before.before.before ≤ places) × (a.k ≤ a.k) × (a.k ≤ (code_on w).positions))
+    × (DegreeWithin (code_on w) (a.k - 1) a.degree (height c.before.before.before.before.before) p × (0 + length (rows c w) ≤ length a.out-1.now)))
 
 -- it holds of the call's alphabet
-ready : (c : tie.After-freed) → Ready c (entry c).args.alphabet
+ready : (c : tie.After-freed-p) → Ready c c.args.alphabet
 ready c =
-    let s = entry c in
-    let w = s.args.alphabet in
+    let w = c.args.alphabet in
     let C = code_on w in
     let F = field_on w in
-    let two = s.pre.0.0 in
-    let small = s.pre.0.2 in
-    let full = s.pre.1.0.0 in
-    let symbols = s.pre.1.1.0 in
-    let loaded = c.before.before.load.ensures w in
-    let freed = c.freed.ensures.0 w in
+    let two = c.requires.0.0 in
+    let small = c.requires.0.2 in
+    let full = c.requires.1.0.0 in
+    let symbols = c.requires.1.1.0 in
+    let loaded = c.load-loaded.ensures w in
+    let freed = c.freed-p.ensures.0 w in
     let low = within C F _ _ _ two small full symbols _ loaded _ (are-symbols c) freed in
-    let room = room_enough C F _ _ _ two small full symbols _ loaded _ (are-symbols c) freed (zeros most_symbols) s.pre.1.1.1 _ s.pre.1.0.1 in
-    (are-symbols c, ((omega arith, fit s, omega arith, s.pre.0.1), (low, room)))
+    let room = room_enough C F _ _ _ two small full symbols _ loaded _ (are-symbols c) freed (zeros most_symbols) c.requires.1.1.1 _ c.requires.1.0.1 in
+    (are-symbols c, ((omega arith, fit c.before.before.before.before.before, omega arith, c.requires.0.1), (low, room)))
 
 -- what the search promises, of one alphabet
-abbrev Found : tie.After-freed → ℕ → List ℕ → Alphabet → Type 0
-Found c e r w = (e ≡ 0 + length (rows c w)) × (r ≡ laid (entry c).args.out.now 0 (rows c w))
+abbrev Found : tie.After-freed-p → ℕ → List ℕ → Alphabet → Type 0
+Found c e r w = (e ≡ 0 + length (rows c w)) × (r ≡ laid c.args.out.now 0 (rows c w))
 
 -- the y-roots of document 01
-abbrev roots : tie.After-freed → List (List ℕ)
-roots c = let a = (entry c).args in roots_of (code_on a.alphabet) a.degree a.k a.coefficients.now
+abbrev roots : tie.After-freed-p → List (List ℕ)
+roots c = let a = c.args in roots_of (code_on a.alphabet) a.degree a.k a.coefficients.now
 
 -- of the call's alphabet it is the answer
-answered : (c : tie.After-freed) (w : Alphabet) (e : ℕ) (r : List ℕ)
-    → (let a = (entry c).args in
-    a.alphabet ≡ w → Found c e r w → (e / a.k ≡ length (roots c)) × (r ≡ rows_onto a.k (roots c) a.out.now))
+answered : (c : tie.After-freed-p) (w : Alphabet) (e : ℕ) (r : List ℕ)
+    → (let a = c.args in
+    a.alphabet ≡ w → Found c e r w → (e / a.k ≡ length (roots c)) × (r ≡ rows_onto a.k (roots c) a.out-1.now))
 answered c w e r same found =
-    let s = entry c in
-    let C = code_on s.args.alphabet in
-    let F = field_on s.args.alphabet in
-    let two = s.pre.0.0 in
-    let small = s.pre.0.2 in
-    let full = s.pre.1.0.0 in
-    let symbols = s.pre.1.1.0 in
-    let loaded = c.before.before.load.ensures s.args.alphabet in
-    let freed = c.freed.ensures.0 s.args.alphabet in
+    let C = code_on c.args.alphabet in
+    let F = field_on c.args.alphabet in
+    let two = c.requires.0.0 in
+    let small = c.requires.0.2 in
+    let full = c.requires.1.0.0 in
+    let symbols = c.requires.1.1.0 in
+    let loaded = c.load-loaded.ensures c.args.alphabet in
+    let freed = c.freed-p.ensures.0 c.args.alphabet in
     let here = subst (Found c e r) (sym same) found in (
       rows_counted C F _ _ _ two small full symbols _ loaded _ (are-symbols c) freed (zeros most_symbols) e here.0,
       rows_written C F _ _ _ two small full symbols _ loaded _ (are-symbols c) freed (zeros most_symbols) _ r here.1,
@@ -127,35 +116,27 @@ answered c w e r same found =
 search-requires : tie.Need-search-requires
 unfolding zeros
 search-requires c κs =
-    let p = c.before.before in
-    let t = p.before in
-    (p.products-of-thirty-two.ensures, subst (Ready t.before.before) t.enum_told.given.1 (ready t.before.before))
+    (c.products_of_thirty_two-table.ensures, subst (Ready c.before.before.before.before) c.in-ThirtyTwo.is (ready c.before.before.before.before))
 
 -- The alphabet is that of thirty-two symbols, in which the search has found all roots.
-returns : tie.Need-returns
+returns : tie.Need-returns-in-ThirtyTwo
 unfolding zeros
 returns c =
-    let r = c.before.before in
-    let t = r.before.before.before.before in
-    answered t.before.before ThirtyTwo r.search.result _ t.enum_told.given.1 r.search.ensures
+    answered c.before.before.before.before.before.before.before ThirtyTwo c.search.result _ c.in-ThirtyTwo.is c.search.ensures
 
 search-requires-2 : tie.Need-search-requires-2
 unfolding zeros
 search-requires-2 c κs =
-    let p = c.before.before in
-    let t = p.before in
-    (p.products-of-sixteen.ensures, subst (Ready t.before.before) t.enum-told2.given.1 (ready t.before.before))
+    (c.products_of_sixteen-table.ensures, subst (Ready c.before.before.before.before) c.in_default.is (ready c.before.before.before.before))
 
 -- The alphabet is that of sixteen symbols, in which the search has found all roots.
-returns-2 : tie.Need-returns-2
+returns-2 : tie.Need-returns
 unfolding zeros
 returns-2 c =
-    let r = c.before.before in
-    let t = r.before.before.before.before in
-    answered t.before.before Sixteen r.search2.result _ t.enum-told2.given.1 r.search2.ensures
+    answered c.before.before.before.before.before.before.before Sixteen c.search-2.result _ c.in_default.is c.search-2.ensures
 
-pub roots-into-spec : {M : Type 1} → statement M
-roots-into-spec =
+pub roots_into_spec : {M : Type 1} → statement M
+roots_into_spec =
     tie.close
     (tie.spec
     (λ c. search rules)

@@ -12,39 +12,34 @@ use Rattle.weights.proofs.inside.multiplicities_into.Statement.{statement}
 use Rattle.weights.proofs.inside.multiplicities_into.Tie as tie
 
 -- The first i multiplicities are written, and behind them the memory is as it was.
-abbrev invariant-loop : tie.invariant-loop
+abbrev invariant-loop : tie.invariant-loop-i
 invariant-loop level reliabilities out₀ i₀ out i = (i ≤ length reliabilities) × (length out ≡ length out₀) × (out ≡ matrix level (take i reliabilities) ++ drop i out₀)
 
-abbrev decreases-loop : tie.decreases-loop
+abbrev decreases-loop : tie.decreases-loop-i
 decreases-loop level reliabilities out₀ i₀ out i = length reliabilities - i
 
-loop-holds : tie.Need-loop-init invariant-loop decreases-loop
+loop-holds : tie.Need-loop-i-init invariant-loop decreases-loop
 loop-holds c = (omega arith, refl, refl)
 
-abbrev entry : tie.At-loop invariant-loop decreases-loop → tie.Start invariant-loop decreases-loop
-entry l = l.before.before.before
-
-loop-again : tie.Need-loop-preserved invariant-loop decreases-loop
+loop-again : tie.Need-loop-i-preserved invariant-loop decreases-loop
 loop-again c =
-    let l = c.before.before.before in
-    let a = (entry l).args in
-    let more : l.loop.i < length a.reliabilities.now = omega arith in (
+    let a = c.args in
+    let more : c.loop-i.i < length a.reliabilities.now = omega arith in (
       omega arith,
-      length-set l.loop.out l.loop.i c.multiplicity-of.result ∙ l.loop.invariant.1,
-      multiplicity_more a.level a.reliabilities.now a.out.now l.loop.out l.loop.i c.multiplicity-of.result more
-          (omega arith) l.loop.invariant.2 c.multiplicity-of.ensures,
+      length-set c.loop-i.out c.loop-i.i c.multiplicity_of.result ∙ c.loop-i.invariant.1,
+      multiplicity_more a.level a.reliabilities.now a.out.now c.loop-i.out c.loop-i.i c.multiplicity_of.result more
+          (omega arith) c.loop-i.invariant.2 c.multiplicity_of.ensures,
     )
 
 -- The loop has ended at i = the number of reliabilities, so all multiplicities are written.
 returns : tie.Need-returns invariant-loop decreases-loop
 returns c =
-    let l = c.before in
-    let r = (entry l).args.reliabilities.now in
-    let e : l.loop.i ≡ length r = omega arith in
-    rw (e, take-length r) at l.loop.invariant.2
+    let r = c.args.reliabilities.now in
+    let e : c.loop-i.i ≡ length r = omega arith in
+    rw (e, take-length r) at c.loop-i.invariant.2
 
-pub multiplicities-into-spec : {M : Type 1} → statement M
-multiplicities-into-spec =
+pub multiplicities_into_spec : {M : Type 1} → statement M
+multiplicities_into_spec =
     tie.close
     (tie.spec
     invariant-loop
