@@ -44,8 +44,7 @@ is-eight eight =
 
 doubled-requires-4 : tie.Need-doubled-sixteen-requires
 doubled-requires-4 c κs =
-    let two = at-two c.before.before.before in
-    still_symbols ThirtyTwo 8 (omega arith) (one two) c.doubled-eight.result (entry two).requires (is-eight c.before)
+    still_symbols ThirtyTwo 8 (omega arith) (one c.before.before.before.before.before) c.doubled-eight.result c.requires (is-eight c.before)
 
 abbrev at-eight : tie.After-doubled-sixteen → tie.After-doubled-eight
 at-eight high = high.before.before

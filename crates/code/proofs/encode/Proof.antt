@@ -5,7 +5,7 @@ use mathlib.Core.Path.{◌∙◌}
 use Prim.Native.Nat.{ℕ, ◌≤◌, ◌<◌}
 use native.Mathlib.Omega.{arith}
 use lib.ListN.{length}
-use Rattle.alphabet.proofs.Sizes.{sized}
+use Rattle.alphabet.proofs.sizes.{sized}
 use Rattle.alphabet.specs.Codes.{code_on}
 use Rattle.definitions.proofs.Table.{Accepts, next, end, room_means, symbols_mean}
 use Rattle.definitions.specs.Answers.{refused, counted}
@@ -13,7 +13,7 @@ use Rattle.definitions.specs.Code.{Symbols}
 use Rattle.definitions.specs.Field.{Code}
 use Rattle.definitions.specs.Refusals.{Line, encode_table}
 use Rattle.refusals.proofs.Chain.{Came, start, ◌▸◌, accepted, answers, stops, goes_on}
-use Rattle.refusals.specs.Checked.{told_checked}
+use Rattle.refusals.specs.checked-1.{told_checked}
 use borrow.Author.Rules.{rules}
 use Rattle.code.proofs.encode.Statement.{statement}
 use Rattle.code.proofs.encode.Tie as tie

@@ -12,8 +12,8 @@ use lib.Seq.{sets}
 use Rattle.alphabet.proofs.Sizes.{sized}
 use Rattle.alphabet.specs.Codes.{code_on}
 use Rattle.algebra.proofs.Numbers.{point_symbol}
-use Rattle.monomials.proofs.Rows.{powers_symbols, exponents_places}
-use Rattle.monomials.specs.Rows.{Places, powers_row}
+use Rattle.monomials.proofs.rows-1.{powers_symbols, exponents_places}
+use Rattle.monomials.specs.rows-1.{Places, powers_row}
 use Rattle.conditions.proofs.Placed.{joined_none, none_counted, joined_more, count_more, clear_behind}
 use Rattle.conditions.specs.MaskedRows.{masked_column, column_at, masked_rows}
 use Rattle.definitions.proofs.Codeword.{power_zero, power_suc}
@@ -48,9 +48,6 @@ loop-holds c =
     let first = sym (power_zero (numbers (code_on a.alphabet)) 2) in
     (omega arith, refl, first, none_counted (rows_of c.before.before.before) o 0, joined_none (rows_of c.before.before.before) o 0, zeros_from (a.d + 1))
 
-abbrev entry : tie.At-loop-i invariant-loop decreases-loop → tie.Start invariant-loop decreases-loop
-entry l = l.before.before.before.before
-
 abbrev code_at : tie.At-loop-i invariant-loop decreases-loop → Code
 code_at l = code_on l.args.alphabet
 
@@ -61,9 +58,6 @@ symbol l = subst (λ (x : ℕ). x < (code_at l).symbols) (sym l.loop-i.invariant
 powers-requires : tie.Need-powers-requires invariant-loop decreases-loop
 powers-requires c κs =
     (c.requires.0, (symbol c.before.before, omega arith, c.loop-i.invariant.5))
-
-abbrev at-loop : tie.After-powers invariant-loop decreases-loop → tie.At-loop-i invariant-loop decreases-loop
-at-loop p = p.before.before.before
 
 -- the row of powers as it is filled
 abbrev filledRow : tie.After-powers invariant-loop decreases-loop → List ℕ
@@ -112,9 +106,8 @@ column-rows-requires c κs =
 
 look-requires : tie.Need-look-a-requires invariant-loop decreases-loop
 look-requires c κs =
-    let l = at-loop c.before.before.before.before.before in
-    let z = (sized (entry l).args.alphabet).least in
-    ((entry l).requires.0, (omega arith, symbol l))
+    let z = (sized c.args.alphabet).least in
+    (c.requires.0, (omega arith, symbol c.before.before.before.before.before.before.before.before))
 
 loop-again : tie.Need-loop-i-preserved invariant-loop decreases-loop
 loop-again c =

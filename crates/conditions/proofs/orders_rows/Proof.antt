@@ -84,7 +84,7 @@ orders_rows_spec =
     decreases-loop
     loop-holds
     (λ c. search rules)
-    (λ c κs. let l = c.before.before.before in (l.before.requires.1, l.loop-s.invariant.4))
+    (λ c κs. (l.before.requires.1, c.loop-s.invariant.4))
     (λ c. search rules)
     (λ c. search rules)
     order-rows-requires

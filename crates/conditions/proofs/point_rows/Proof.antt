@@ -8,12 +8,12 @@ use borrow.Author.Rules.{rules}
 use lib.ListN.{length}
 use lib.Seq.{sets}
 use Rattle.alphabet.specs.Codes.{code_on}
-use Rattle.monomials.proofs.Rows.{powers_symbols}
-use Rattle.monomials.specs.Rows.{powers_row, values_row}
+use Rattle.monomials.proofs.rows-1.{powers_symbols}
+use Rattle.monomials.specs.rows-1.{powers_row, values_row}
 use Rattle.conditions.proofs.MaskedRows.{orders_none, base_symbol}
 use Rattle.conditions.specs.MaskedRows.{base_at, kept_orders}
 use Rattle.blocks.proofs.Filled.{zeros_from}
-use Rattle.blocks.specs.Row.{block}
+use Rattle.blocks.specs.row-1.{block}
 use Rattle.definitions.specs.Code.{Symbols}
 use Rattle.instances.proofs.Codes.{field_on}
 use Rattle.conditions.proofs.point_rows.Statement.{statement}
@@ -44,9 +44,6 @@ powers-requires c κs =
     let e = c.base_at.ensures in
     (c.requires.0, (omega arith, omega arith, zeros_from c.args.n))
 
-abbrev entry : tie.After-powers → tie.Start
-entry p = p.before.before.before.before.before
-
 -- The row is filled with the powers of y.
 of-y : (p : tie.After-powers) → p.powers.new.row ≡ powersOf p.before.before.before.before.before
 of-y p = let a = p.args in p.powers.ensures ∙ ap (powers_row (code_on a.alphabet) a.n) p.base_at.ensures
@@ -60,23 +57,21 @@ values-requires c κs =
     (c.requires.0, ((c.requires.1.0.0, subst (Symbols C) (sym (of-y c.before.before)) y), (c.requires.1.0.1, omega arith, zeros_from (a.blocks * block))))
 
 -- The row is filled with the values at the point.
-at-point : (v : tie.After-values) → (let s = entry v.before.before.before in v.values.new.row ≡ valuesBy s (powersOf s))
+at-point : (v : tie.After-values) → (v.values.new.row ≡ valuesBy v.before.before.before.before.before.before.before.before (powersOf v.before.before.before.before.before.before.before.before))
 at-point v = v.values.ensures ∙ ap (valuesBy v.before.before.before.before.before.before.before.before) (of-y v.before.before.before)
 
 orders-rows-requires : tie.Need-orders_rows-requires
 orders-rows-requires c κs =
-    let s = entry c.before.before.before.before.before in
-    let a = s.args in
-    let room = s.requires.1.1.1 in
-    (subst (λ (row : List ℕ). a.at + length (rows_of s row) ≤ length a.rows.now) (sym (at-point c.before.before)) room.0, omega arith, room.1)
+    let a = c.args in
+    let room = c.requires.1.1.1 in
+    (subst (λ (row : List ℕ). a.at + length (rows_of c.before.before.before.before.before.before.before.before.before.before row) ≤ length a.rows.now) (sym (at-point c.before.before)) room.0, omega arith, room.1)
 
 -- The rows of the orders are put, of the row of values: they are the rows of the point.
 returns-2 : tie.Need-returns
 returns-2 c =
     let o = c.orders_rows in
-    let s = entry c.before.before.before.before.before.before.before in
-    let a = s.args in
-    (o.ensures.0 ∙ ap (λ (row : List ℕ). a.at + length (rows_of s row)) (at-point c.before.before.before.before), o.ensures.1 ∙ ap (λ (row : List ℕ). sets a.rows.now a.at (rows_of s row)) (at-point c.before.before.before.before))
+    let a = c.args in
+    (o.ensures.0 ∙ ap (λ (row : List ℕ). a.at + length (rows_of c.before.before.before.before.before.before.before.before.before.before.before.before row)) (at-point c.before.before.before.before), o.ensures.1 ∙ ap (λ (row : List ℕ). sets a.rows.now a.at (rows_of c.before.before.before.before.before.before.before.before.before.before.before.before row)) (at-point c.before.before.before.before))
 
 pub point_rows_spec : {M : Type 1} → statement M
 point_rows_spec =

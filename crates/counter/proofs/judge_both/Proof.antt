@@ -13,12 +13,12 @@ use Rattle.counter.proofs.Both.{settled_table, first_sized, second_sized, both_f
 use Rattle.definitions.specs.Answers.{refused, valued}
 use Rattle.definitions.specs.Refusals.{Line, line, symbols, runs_on}
 use Rattle.refusals.proofs.Chain.{Came, start, ◌▸◌, further, accepted, accepts_front, answers, goes_on}
-use Rattle.refusals.specs.Checked.{or_line, told_checked}
+use Rattle.refusals.specs.checked-1.{or_line, told_checked}
 use Rattle.rows.specs.Rows.{list_line}
 use Rattle.counter.proofs.judge_both.Statement.{statement}
 use Rattle.counter.proofs.judge_both.Tie as tie
 
--- The c.before.before.before.before six checks try the six lines before the lists.
+-- The first six checks try the six lines before the lists.
 settled : (c : tie.After-or-settled) → (let a = c.args in Came (settled_table (code_on a.alphabet) a.first a.second a.lead) [] (told_checked c.or-settled.result))
 settled c =
     start ▸ c.sizes.ensures ▸ c.sizes_too.ensures ▸ c.level.ensures ▸ c.level-2.ensures ▸ c.or.ensures

@@ -22,7 +22,7 @@ refused-requires : tie.Need-refused-requires
 refused-requires c κs =
     rw c.in-Refused.is at c.requires
 
--- A c.before.before and its c.before: both cross as they are, in their own fields.
+-- A cost and its bound: both cross as they are, in their own fields.
 returns : tie.Need-returns-in-Of
 returns c =
     c.accepted.ensures ∙ ap₂ costed c.narrow.ensures c.narrow-in-Of.ensures ∙ sym (ap told_costed c.in-Of.is)

@@ -15,7 +15,7 @@ refused-requires : tie.Need-refused-requires
 refused-requires c κs =
     rw c.in-Refused.is at c.requires
 
--- A c.before: it crosses as it is, in its own field.
+-- A count: it crosses as it is, in its own field.
 returns : tie.Need-returns-in-Count
 returns c =
     c.accepted.ensures ∙ ap counted c.narrow.ensures ∙ sym (ap told_counted c.in-Count.is)

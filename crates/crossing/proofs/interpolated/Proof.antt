@@ -22,7 +22,7 @@ refused-requires : tie.Need-refused-requires
 refused-requires c κs =
     rw c.in-Refused.is at c.requires
 
--- A polynomial was written: its c.before and the c.before.before of its coefficients cross as they are.
+-- A polynomial was written: its bound and the count of its coefficients cross as they are.
 returns : tie.Need-returns-in-Of
 returns c =
     c.accepted.ensures ∙ ap₂ interpolated c.narrow-in-Of.ensures c.narrow.ensures ∙ sym (ap told_interpolated c.in-Of.is)

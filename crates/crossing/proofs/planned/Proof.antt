@@ -22,7 +22,7 @@ refused-requires : tie.Need-refused-requires
 refused-requires c κs =
     rw c.in-Refused.is at c.requires
 
--- A plan was made or accepted: the c.before.before of its bytes and its steps, as the c.before, cross as they
+-- A plan was made or accepted: the count of its bytes and its steps, as the value, cross as they
 -- are.
 returns : tie.Need-returns-in-Of
 returns c =

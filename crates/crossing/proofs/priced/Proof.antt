@@ -16,7 +16,7 @@ refused-requires : tie.Need-refused-requires
 refused-requires c κs =
     rw c.in-Refused.is at c.requires
 
--- The c.before that the record then holds: it crosses as it is, with the bound 0.
+-- The cost that the record then holds: it crosses as it is, with the bound 0.
 returns : tie.Need-returns-in-Cost
 returns c =
     c.accepted.ensures ∙ ap (λ (x : ℕ). costed x 0) c.narrow.ensures ∙ sym (ap told_priced c.in-Cost.is)

@@ -7,7 +7,7 @@ use borrow.Author.Rules.{rules}
 use Rattle.crossing.proofs.refused.Statement.{statement}
 use Rattle.crossing.proofs.refused.Tie as tie
 
--- The only end: c.before.before.before and c.before went through `narrow`, which keeps what fits, and so they are
+-- The only end: number and place went through `narrow`, which keeps what fits, and so they are
 -- those that the refusal tells.
 returns : tie.Need-returns
 returns c =

@@ -10,9 +10,6 @@ use Rattle.matrix.specs.Record.{held_by}
 use Rattle.editing.proofs.set_entry.Statement.{statement}
 use Rattle.editing.proofs.set_entry.Tie as tie
 
-abbrev entry : tie.After-set_entry-outcome → tie.Start
-entry c = c.before.before.before.before.before
-
 -- The only end: what `recorded` puts together of the outcome and the parts is the promised record.
 returns : tie.Need-returns
 returns c =

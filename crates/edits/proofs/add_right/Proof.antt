@@ -14,7 +14,7 @@ use Rattle.definitions.specs.Field.{Code}
 use Rattle.definitions.specs.Held.{Held, held, totals_of, held_of, with_added}
 use Rattle.definitions.specs.Weights.{cost}
 use Rattle.edits.proofs.Edits.{above_refused, not_given, none_above_done}
-use Rattle.edits.proofs.Entries.{low_sum}
+use Rattle.edits.proofs.entries-1.{low_sum}
 use Rattle.edits.proofs.add_right.Statement.{statement}
 use Rattle.edits.proofs.add_right.Tie as tie
 
@@ -34,14 +34,8 @@ three s = s.args.entries.now ∷ s.args.others.now ∷ sum s ∷ []
 right : (s : tie.Start) → Rightly (code s) (handed s)
 right s = rightly_means (code s) (handed s) s.requires.0
 
-abbrev lending : tie.After-lowest-sum-arg → tie.Start
-lending c = c.before.before.before.before
-
 lowest-sum-requires : tie.Need-lowest_sum-bad-requires
 lowest-sum-requires c κs = let e = (right c.before.before.before).full in let o = c.requires.1 in omega arith
-
-abbrev entry : tie.After-lowest_sum-bad → tie.Start
-entry b = lending b.before
 
 lowest : (b : tie.After-lowest_sum-bad) → (b.lowest_sum-bad.result ≡ lowest_above (code b.before.before.before.before) (three b.before.before.before.before))
 lowest b = b.lowest_sum-bad.ensures (code b.before.before.before.before) (right b.before.before.before.before).full
@@ -65,11 +59,10 @@ add-entries-requires c κs =
     (omega arith, low_sum (code c.before.before.before.before.before.before) c.args.entries.now c.args.others.now full (passed c.before))
 
 count-requires : tie.Need-count-requires
-count-requires c κs =
-    let s = entry c.before.before.before.before.before.before in (
-      length_stored (code s) (handed s) (right s),
-      ap length c.add_entries.ensures ∙ length_added s.args.entries.now s.args.others.now ∙ (right s).full,
-    )
+count-requires c κs = (
+  length_stored (code c.before.before.before.before.before.before.before.before.before.before) (handed c.before.before.before.before.before.before.before.before.before.before) (right c.before.before.before.before.before.before.before.before.before.before),
+  ap length c.add_entries.ensures ∙ length_added c.args.entries.now c.args.others.now ∙ (right c.before.before.before.before.before.before.before.before.before.before).full,
+)
 
 -- No entry is above 5: the entries are the sum, and its cost and totals have been counted.
 returns-2 : tie.Need-returns

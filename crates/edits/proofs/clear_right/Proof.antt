@@ -42,9 +42,6 @@ here s = let p = s.requires.0 in omega arith
 totalled : (s : tie.Start) → s.args.position < length s.args.totals.now
 totalled s = let t = length_stored (code s) (handed s) (right s) in let p = here s in omega arith
 
-abbrev entry : tie.After-first_above-bad → tie.Start
-entry b = b.before.before.before.before
-
 -- the lowest of what goes in and comes out
 lowest : (b : tie.After-first_above-bad) → (b.first_above-bad.result ≡ lowest_above (code b.before.before.before) (both b.before.before.before))
 lowest b =
@@ -56,9 +53,6 @@ returns c =
     above_refused (code c.before.before.before.before) (both c.before.before.before.before) (handed c.before.before.before.before) (held_of (code c.before.before.before.before) c.args.n (after c.before.before.before.before)) c.first_above-bad.result (lowest c.before)
     (let f = (right c.before.before.before.before).full in omega arith)
 
-abbrev begun : tie.After-symbols-symbols → tie.Start
-begun y = entry y.before.before
-
 -- the column begins, and ends, within the entries
 column : (y : tie.After-symbols-symbols)
     → (y.symbols-symbols.result * y.args.position + y.symbols-symbols.result ≤ length y.args.entries.now) × (y.symbols-symbols.result ≤ 32)
@@ -69,22 +63,15 @@ column y =
     let most = (sized y.args.alphabet).most in
     (omega arith, omega arith)
 
-abbrev lent : tie.After-cost-of_column → tie.After-symbols-symbols
-lent p = p.before.before.before
-
 -- the cost of the part that is lent is the column's
 paid : (p : tie.After-cost-of_column)
-    → (let p.before.before.before.before.before.before.before = begun p.before.before in
-    p.cost-of_column.result ≡ cost (take (code p.before.before.before.before.before.before.before).symbols (drop ((code p.before.before.before.before.before.before.before).symbols * p.args.position) p.args.entries.now)))
+    → (p.cost-of_column.result ≡ cost (take (code p.before.before.before.before.before.before.before).symbols (drop ((code p.before.before.before.before.before.before.before).symbols * p.args.position) p.args.entries.now)))
 paid p =
     let q = p.symbols-symbols.result in
     let e : q * p.args.position + q - q * p.args.position ≡ q = omega arith in
     p.cost-of_column.ensures
     ∙ ap₂ (λ (n from : ℕ). cost (take n (drop from p.args.entries.now))) (e ∙ p.symbols-symbols.ensures)
     (ap (λ (x : ℕ). x * p.args.position) p.symbols-symbols.ensures)
-
-abbrev started : tie.After-clear → tie.After-symbols-symbols
-started k = lent k.before.before
 
 -- zeros are laid over the column
 cleared : (k : tie.After-clear) → k.clear.new.out ≡ after k.before.before.before.before.before.before.before.before.before
@@ -94,10 +81,9 @@ cleared k =
     ∙ laid_cleared (code k.before.before.before.before.before.before.before.before.before) k.args.entries.now k.args.position
 
 -- what is left with the column's cost is the stored cost
-moved : (p : tie.After-cost-of_column) → (let s = begun p.before.before in cost (after s) + p.cost-of_column.result ≡ s.args.cost)
+moved : (p : tie.After-cost-of_column) → (cost (after p.before.before.before.before.before.before.before) + p.cost-of_column.result ≡ p.args.cost)
 moved p =
-    let s = begun p.before.before in
-    without_column_lem (code s) (handed s) (right s) s.args.position (here s) p.cost-of_column.result (paid p)
+    without_column_lem (code p.before.before.before.before.before.before.before) (handed p.before.before.before.before.before.before.before) (right p.before.before.before.before.before.before.before) p.args.position (here p.before.before.before.before.before.before.before) p.cost-of_column.result (paid p)
 
 cost-requires : tie.Need-cost-of_column-requires
 cost-requires c κs = let w = column c.before in omega arith
@@ -128,11 +114,11 @@ clear_right_spec =
     (λ c. let w = column c in omega arith)
     (λ c. search rules)
     (λ c. search rules)
-    (λ c. let w = column c.before in omega arith)
+    (λ c. let w = column c in omega arith)
     cost-requires
     clear-requires
-    (λ c. let p = totalled (begun (started c.before.before)) in omega arith)
-    (λ c. totalled (begun (started c.before.before)))
+    (λ c. let p = totalled c.before.before.before.before.before.before.before.before.before.before.before in omega arith)
+    (λ c. totalled c.before.before.before.before.before.before.before.before.before.before.before)
     sub-t14
     (λ c. search rules)
     (λ c. search rules)

@@ -18,9 +18,6 @@ invariant-loop entries others j₀ j = (t : ℕ) → t < j → get_or entries t 
 abbrev decreases-loop : tie.decreases-loop-j
 decreases-loop entries others j₀ j = length entries - j
 
-abbrev entry : tie.At-loop-j invariant-loop decreases-loop → tie.Start invariant-loop decreases-loop
-entry l = l.before.before.before
-
 -- The sum at j is above 5, and none before it is.
 returns : tie.Need-returns-then-wide-gt-GREATEST_LEVEL invariant-loop decreases-loop
 returns c C full =
@@ -56,7 +53,7 @@ lowest_sum_spec =
     (λ c κs. search rules)
     (λ c. omega arith)
     (λ c κs. search rules)
-    (λ c. let a = c.before.before.wide.ensures.1 in let b = c.wide-in-loop-j.ensures.1 in omega arith)
+    (λ c. let a = c.wide.ensures.1 in let b = c.wide-in-loop-j.ensures.1 in omega arith)
     returns
     (λ c. omega arith)
     (λ c. omega arith)

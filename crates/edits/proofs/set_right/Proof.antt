@@ -42,9 +42,6 @@ here s = let p = s.requires.0 in omega arith
 totalled : (s : tie.Start) → s.args.position < length s.args.totals.now
 totalled s = let t = length_stored (code s) (handed s) (right s) in let p = here s in omega arith
 
-abbrev entry : tie.After-symbols → tie.Start
-entry y = y.before.before.before
-
 -- the place of the entry
 abbrev at : tie.After-symbols → ℕ
 at y = y.symbols.result * y.args.position + y.args.symbol
@@ -71,13 +68,6 @@ returns : tie.Need-returns-then-bad-entries
 returns c =
     above_refused (code c.before.before.before.before.before) (both c.before.before.before.before.before) (handed c.before.before.before.before.before) (held_of (code c.before.before.before.before.before) c.args.n (after c.before.before.before.before.before)) c.lowest_set-bad.result (lowest c.before)
     (let f = (right c.before.before.before.before.before).full in omega arith)
-
--- where no entry is above 5, the places before it
-abbrev placed : tie.Else-bad-entries → tie.After-symbols
-placed e = e.before.before.before
-
-abbrev begun : tie.Else-bad-entries → tie.Start
-begun e = entry e.before.before
 
 passed : (c : tie.Else-bad-entries) → ((in_or_out (code c.before.before.before.before.before) (both c.before.before.before.before.before)).given ≡ false)
 passed c =
@@ -111,9 +101,6 @@ cost-moved : (y : tie.After-symbols) → (cost (after y.before.before.before) + 
 cost-moved y =
     ap (λ (j : ℕ). cost (after y.before.before.before) + entry_cost (get_or y.args.entries.now j 0)) (at-is y)
     ∙ cost_moves (code y.before.before.before) (handed y.before.before.before) (right y.before.before.before) y.args.position (here y.before.before.before) y.args.symbol y.args.entry y.requires.0.2
-
-abbrev started : tie.After-short → tie.After-symbols
-started n = placed n.before.before.before
 
 sub-totals : tie.Need-overflow_sub-totals
 sub-totals c =
@@ -153,19 +140,19 @@ set_right_spec =
     (λ c κs. search rules)
     (λ c. let w = within c in omega arith)
     (λ c. let w = within c in omega arith)
-    (λ c κs. within c.before)
+    (λ c κs. within c)
     (λ c. search rules)
     returns
-    (λ c. within (placed c.before))
-    (λ c. let p = totalled (begun c.before) in omega arith)
-    (λ c. totalled (begun c.before.before))
-    (λ c. within (placed c.before.before))
+    (λ c. within c.before.before.before)
+    (λ c. let p = totalled c.before.before.before.before.before.before in omega arith)
+    (λ c. totalled c.before.before.before.before.before.before.before)
+    (λ c. within c.before.before.before.before)
     (λ c κs. search rules)
     add-totals
     (λ c κs. search rules)
     sub-totals
-    (λ c. let p = totalled (entry (started c.before)) in omega arith)
-    (λ c. totalled (entry (started c.before)))
+    (λ c. let p = totalled c.before.before.before.before.before.before.before.before.before in omega arith)
+    (λ c. totalled c.before.before.before.before.before.before.before.before.before)
     (λ c κs. search rules)
     add-t13
     (λ c κs. search rules)

@@ -18,9 +18,6 @@ invariant-loop alphabet table row s j out y₀ i₀ y i = (s < i) × (i ≤ j) �
 abbrev decreases-loop : tie.decreases-loop-i
 decreases-loop alphabet table row s j out y₀ i₀ y i = j - i
 
-abbrev entry : tie.At-loop-i invariant-loop decreases-loop → tie.Start invariant-loop decreases-loop
-entry l = l.before.before.before.before
-
 loop-holds : tie.Need-loop-i-init invariant-loop decreases-loop
 loop-holds c =
     let a = c.args in

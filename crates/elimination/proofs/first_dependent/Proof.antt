@@ -5,7 +5,7 @@ use Prim.Native.Nat.{◌+◌, ◌*◌, ◌-◌, ◌≤◌, ◌<◌}
 use native.Mathlib.Omega.{arith}
 use Rattle.alphabet.specs.Codes.{code_on}
 use Rattle.elimination.proofs.Steps.{ZeroFrom, none_zero, zero_more, eliminated_none, eliminated_more}
-use Rattle.pivots.specs.System.{Eliminated, Within}
+use Rattle.pivots.specs.system-1.{Eliminated, Within}
 use Rattle.blocks.specs.Row.{block}
 use borrow.Author.Rules.{rules}
 use Rattle.elimination.proofs.first_dependent.Statement.{statement}
@@ -41,9 +41,6 @@ within c =
     let w = c.requires.1.1 in
     let e = c.search.invariant.1.size in
     record { there = let t = w.there in omega arith; few = w.few; fewer = w.fewer; inside = w.inside }
-
-abbrev entry : tie.At-down invariant-down decreases-down invariant-search decreases-search → tie.Start invariant-down decreases-down invariant-search decreases-search
-entry d = d.before.before.before
 
 down-again : tie.Need-down-preserved invariant-down decreases-down invariant-search decreases-search
 down-again c =

@@ -18,9 +18,6 @@ invariant-loop alphabet system table j out₀ s₀ out s = (s ≤ j) × (length 
 abbrev decreases-loop : tie.decreases-loop-s
 decreases-loop alphabet system table j out₀ s₀ out s = s
 
-abbrev entry : tie.At-loop-s invariant-loop decreases-loop → tie.Start invariant-loop decreases-loop
-entry l = l.before.before.before
-
 loop-holds : tie.Need-loop-s-init invariant-loop decreases-loop
 loop-holds c =
     let a = c.args in

@@ -5,9 +5,6 @@ use borrow.Author.Rules.{rules}
 use Rattle.entries.proofs.interpolate.Statement.{statement}
 use Rattle.entries.proofs.interpolate.Tie as tie
 
-abbrev entry : tie.After-interpolate → tie.Start
-entry c = c.before.before.before.before
-
 interpolated-requires : tie.Need-interpolated-requires
 interpolated-requires c κs =
     let a = c.args in

@@ -6,9 +6,6 @@ use borrow.Author.Rules.{rules}
 use Rattle.entries.proofs.list_of_multiplicities.Statement.{statement}
 use Rattle.entries.proofs.list_of_multiplicities.Tie as tie
 
-abbrev entry : tie.After-list_of_multiplicities → tie.Start
-entry c = c.before.before.before.before.before.before
-
 counted-requires : tie.Need-counted-requires
 counted-requires c κs =
     let a = c.args in

@@ -13,14 +13,11 @@ use Rattle.definitions.specs.Refusals.{inverse_table}
 use Rattle.field.proofs.Operands.{symbol_line, zero_line, nonzero_symbol}
 use Rattle.tables.specs.Table.{Inverses}
 use Rattle.refusals.proofs.Chain.{Came, start, ◌▸◌, accepted, answers, goes_on}
-use Rattle.refusals.specs.Checked.{passed, or_line, line_of, told_checked}
+use Rattle.refusals.specs.checked-1.{passed, or_line, line_of, told_checked}
 use Rattle.refusals.specs.declared.Refusal.TheVariants.{Symbol}
 use borrow.Author.Rules.{rules}
 use Rattle.field.proofs.inverse.Statement.{statement}
 use Rattle.field.proofs.inverse.Tie as tie
-
-abbrev entry : tie.After-or-checked → tie.Start
-entry c = c.before.before.before
 
 came : (c : tie.After-or-checked) → (let a = c.args in Came (inverse_table (code_on a.alphabet) a.a) [] (told_checked c.or-checked.result))
 came c =
@@ -47,7 +44,7 @@ array-read-t17 c =
     let most = (sized c.args.alphabet).most in
     omega arith
 
--- The operand c.before.before both checks: the table holds its inverse, and no line of the page's table
+-- The operand passed both checks: the table holds its inverse, and no line of the page's table
 -- fails.
 returns-2 : tie.Need-returns
 unfolding Inverses

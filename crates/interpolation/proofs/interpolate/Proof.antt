@@ -10,13 +10,10 @@ use Rattle.turning.proofs.Turned.{bytes_within, turned_bytes, turned_costs}
 use Rattle.interpolation.proofs.Answers.{front, fits, refused_by_check, passed_on}
 use Rattle.interpolation.specs.Answered.{Fit}
 use Rattle.refusals.proofs.Chain.{Came, start, ◌▸◌, accepted}
-use Rattle.refusals.specs.Checked.{told_checked}
+use Rattle.refusals.specs.checked-1.{told_checked}
 use borrow.Author.Rules.{rules}
 use Rattle.interpolation.proofs.interpolate.Statement.{statement}
 use Rattle.interpolation.proofs.interpolate.Tie as tie
-
-abbrev entry : tie.After-symbols-checked → tie.Start
-entry c = c.before.before.before.before.before.before.before
 
 -- what the chain of checks made of the call, line by line
 came : (c : tie.After-symbols-checked)
@@ -29,9 +26,6 @@ returns : tie.Need-returns-in-Refused
 returns c =
     let a = c.args in
     refused_by_check (code_on a.alphabet) a.n a.k a.limit a.matrix.now a.out-1.now (came c.before) c.in-Refused.is
-
-abbrev passed : tie.In_default → tie.Start
-passed t = entry t.before
 
 -- what the checks say of a call that passed them
 fit : (t : tie.In_default)

@@ -11,7 +11,7 @@ use Rattle.interpolation.specs.Answered.{Fit}
 use Rattle.matrix.proofs.Columns.{rightly_priced}
 use Rattle.matrix.proofs.Record.{stored_tried}
 use Rattle.refusals.proofs.Chain.{Came, start, ◌▸◌, accepted}
-use Rattle.refusals.specs.Checked.{told_checked}
+use Rattle.refusals.specs.checked-1.{told_checked}
 use borrow.Author.Rules.{rules}
 use Rattle.interpolation.proofs.interpolate_parts.Statement.{statement}
 use Rattle.interpolation.proofs.interpolate_parts.Tie as tie

@@ -12,13 +12,10 @@ use Rattle.list.proofs.Answers.{cost_left, list_front, list_fits}
 use Rattle.list_within.proofs.Answers.{refused_by_check, passed_on}
 use Rattle.list_within.specs.Within.{Fit}
 use Rattle.refusals.proofs.Chain.{Came, start, ◌▸◌, accepted}
-use Rattle.refusals.specs.Checked.{told_checked}
+use Rattle.refusals.specs.checked-1.{told_checked}
 use borrow.Author.Rules.{rules}
 use Rattle.list.proofs.list_of_multiplicities.Statement.{statement}
 use Rattle.list.proofs.list_of_multiplicities.Tie as tie
-
-abbrev entry : tie.After-symbols-checked → tie.Start
-entry c = c.before.before.before.before.before.before.before.before.before
 
 abbrev front : tie.Start → List Line
 front s =
@@ -34,10 +31,6 @@ returns : tie.Need-returns-in-Refused
 returns c =
     let a = c.args in
     refused_by_check (code_on a.alphabet) a.n a.k (cost_left a.limit) a.matrix.now a.rows.now a.scores.now (came c.before) c.in-Refused.is
-
--- from where all checks have passed
-abbrev passed : tie.In_default → tie.Start
-passed t = entry t.before
 
 fit : (t : tie.In_default)
     → (let a = t.args in

@@ -16,13 +16,10 @@ use Rattle.list.proofs.Answers.{cost_left, read_start, read_fits}
 use Rattle.list_within.proofs.Answers.{refused_by_check, passed_on}
 use Rattle.list_within.specs.Within.{Fit}
 use Rattle.refusals.proofs.Chain.{Came, start, ◌▸◌, further, accepts_front, accepted}
-use Rattle.refusals.specs.Checked.{told_checked}
+use Rattle.refusals.specs.checked-1.{told_checked}
 use borrow.Author.Rules.{rules}
 use Rattle.list.proofs.list_of_reliabilities.Statement.{statement}
 use Rattle.list.proofs.list_of_reliabilities.Tie as tie
-
-abbrev entry : tie.After-or-settled → tie.Start
-entry c = c.before.before.before.before.before.before.before.before.before
 
 abbrev settings : tie.Start → List Line
 settings s =
@@ -67,10 +64,6 @@ returns : tie.Need-returns-in-Refused
 returns c =
     let a = c.args in
     refused_by_check (code_on a.alphabet) a.n a.k (cost_left a.limit) (made c.before.before.before.before.before.before.before.before.before.before.before) a.rows.now a.scores.now (came c.before) c.in-Refused.is
-
--- from where all checks have passed
-abbrev passed : tie.In_default → tie.Start
-passed t = entry t.before.before
 
 fit : (t : tie.In_default) → Settled t.before.before.before.before.before.before.before.before.before.before.before
 fit t = settle t.before.before.before.before.before.before.before.before.before.before.before (accepts_front _ (sums t.before.before.before.before.before.before.before.before.before.before.before) (accepted (came t.before) t.in_default.is))

@@ -24,27 +24,22 @@ left s = let a = s.args in kept_entry a.row.now a.es.now a.asked a.order
 loop-holds : tie.Need-loop-p-init invariant-loop decreases-loop
 loop-holds s = (omega arith, filling_none (s.args.blocks * block) (left s) s.args.out.now s.requires.1)
 
-abbrev at-loop : tie.After-block-powers invariant-loop decreases-loop → tie.At-loop-p invariant-loop decreases-loop
-at-loop b = b.before.before.before
-
 put-requires : tie.Need-put-requires invariant-loop decreases-loop
-put-requires c κs = let l = at-loop c.before.before.before.before.before in (omega arith, l.loop-p.invariant.1.rest.wide)
+put-requires c κs = (omega arith, c.loop-p.invariant.1.rest.wide)
 
 loop-again : tie.Need-loop-p-preserved invariant-loop decreases-loop
 loop-again c =
-    let l = at-loop c.before.before.before.before.before.before in
-    let s = l.before in
-    let a = s.args in
+    let a = c.args in
     let n = a.blocks * block in
-    let from = l.loop-p.p * block in
-    let next : from + block ≡ (l.loop-p.p + 1) * block = omega arith in
+    let from = c.loop-p.p * block in
+    let next : from + block ≡ (c.loop-p.p + 1) * block = omega arith in
     let room : from + block ≤ n = omega arith in
     let entries = c.block-a in
     let powers = c.block-powers in
-    let kept = c.Kept-Block in
+    let kept = c.kept_block-left in
     let part = kept_left from a.row.now a.es.now entries.result powers.result kept.result a.asked a.order entries.ensures powers.ensures kept.ensures in
-    let filled = filling_block n (left s) from kept.result l.loop-p.out c.put.new.row room c.put.ensures l.loop-p.invariant.1 part in
-    (omega arith, subst (λ (i : ℕ). Filling n i (left s) c.put.new.row) next filled)
+    let filled = filling_block n (left c.before.before.before.before.before.before.before.before.before.before) from kept.result c.loop-p.out c.put.new.row room c.put.ensures c.loop-p.invariant.1 part in
+    (omega arith, subst (λ (i : ℕ). Filling n i (left c.before.before.before.before.before.before.before.before.before.before) c.put.new.row) next filled)
 
 -- The loop has ended at p = blocks, so every block of the row is filled.
 returns : tie.Need-returns invariant-loop decreases-loop

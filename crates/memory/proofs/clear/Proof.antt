@@ -45,5 +45,5 @@ clear_spec =
     (λ c. omega arith)
     (λ c. omega arith)
     loop-again
-    (λ c. c.before.loop-j.invariant.1)
+    (λ c. c.loop-j.invariant.1)
     returns)

@@ -55,10 +55,10 @@ loop-again c =
       omega arith,
       ⊎_elim
           (λ w.
-          let r = walk_stays v c.loop-step.step _ _ _ i.0 i.1 i.2 w.0.taken in
+          let r = walk_stays v c.loop-step.step _ _ _ i.0 i.1 i.2 w.0.true in
           (w.1 ∙ r.0, w.2 ∙ r.1, w.3 ∙ r.2))
           (λ w.
-          let r = walk_turns v c.loop-step.step _ _ _ i.0 i.1 i.2 w.0.left in
+          let r = walk_turns v c.loop-step.step _ _ _ i.0 i.1 i.2 w.0.false in
           (w.1 ∙ r.0, w.2 ∙ r.1, w.3 ∙ r.2)) c.if-v-x.branch,
       filling_more n (λ k. (walked v k).0) c.loop-step.step c.loop-step.x c.loop-step.xs (omega arith) (omega arith) c.loop-step.invariant.2 i.0,
       filling_more n (λ k. (walked v k).1) c.loop-step.step c.loop-step.y c.loop-step.ys (omega arith) (omega arith) c.loop-step.invariant.3 i.1,

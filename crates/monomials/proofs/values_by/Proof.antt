@@ -35,9 +35,6 @@ loop-holds c =
 abbrev entry : tie.At-loop-place invariant-loop decreases-loop → tie.Start invariant-loop decreases-loop
 entry l = l.before.before
 
-abbrev at-loop : tie.After-wide-x invariant-loop decreases-loop → tie.At-loop-place invariant-loop decreases-loop
-at-loop x = x.before.before.before
-
 -- The exponent of x is a place of its row of powers.
 x-place : (x : tie.After-wide-x invariant-loop decreases-loop) → x.wide-x.result < width
 x-place x =
@@ -46,8 +43,7 @@ x-place x =
 -- So is that of y.
 y-place : (y : tie.After-wide-y invariant-loop decreases-loop) → y.wide-y.result < width
 y-place y =
-    let l = at-loop y.before.before in
-    subst (λ (e : ℕ). e < width) (sym y.wide-y.ensures.0) ((entry l).requires.1.1.0 1 l.loop-place.place)
+    subst (λ (e : ℕ). e < width) (sym y.wide-y.ensures.0) (y.requires.1.1.0 1 y.loop-place.place)
 
 element-copy-out-look : tie.Need-bounds-px-x invariant-loop decreases-loop
 element-copy-out-look y = let h = x-place y.before.before.before in omega arith

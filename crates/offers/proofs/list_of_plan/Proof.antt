@@ -14,13 +14,10 @@ use Rattle.list_within.specs.Within.{Fit}
 use Rattle.offers.proofs.Answers.{plan_fits}
 use Rattle.plans.proofs.Taken.{cost_and_plan_left, plan_start}
 use Rattle.refusals.proofs.Chain.{Came, start, ◌▸◌, further, accepts_front, accepted}
-use Rattle.refusals.specs.Checked.{told_checked}
+use Rattle.refusals.specs.checked-1.{told_checked}
 use borrow.Author.Rules.{rules}
 use Rattle.offers.proofs.list_of_plan.Statement.{statement}
 use Rattle.offers.proofs.list_of_plan.Tie as tie
-
-abbrev entry : tie.After-symbols-settled → tie.Start
-entry c = c.before.before.before.before.before.before.before.before.before.before.before.before
 
 abbrev settings : tie.Start → List Line
 settings s =
@@ -67,10 +64,6 @@ returns : tie.Need-returns-in-Refused
 returns c =
     let a = c.args in
     refused_by_check (code_on a.alphabet) a.n a.k (left c.before.before.before.before.before.before.before.before.before.before.before.before.before.before) a.plan.now a.rows.now a.scores.now (came c.before) c.in-Refused.is
-
--- from where all checks have passed
-abbrev passed : tie.In_default → tie.Start
-passed t = entry t.before.before
 
 fit : (t : tie.In_default) → Settled t.before.before.before.before.before.before.before.before.before.before.before.before.before.before
 fit t = settle t.before.before.before.before.before.before.before.before.before.before.before.before.before.before (accepts_front _ (sums t.before.before.before.before.before.before.before.before.before.before.before.before.before.before) (accepted (came t.before) t.in_default.is))

@@ -17,13 +17,10 @@ use Rattle.matrix.proofs.Record.{stored_tried}
 use Rattle.offers.proofs.Answers.{held_plan_fits}
 use Rattle.plans.proofs.Taken.{cost_and_plan_left, held_plan_start}
 use Rattle.refusals.proofs.Chain.{Came, start, ◌▸◌, further, accepts_front, accepted}
-use Rattle.refusals.specs.Checked.{told_checked}
+use Rattle.refusals.specs.checked-1.{told_checked}
 use borrow.Author.Rules.{rules}
 use Rattle.offers.proofs.list_of_plan_of_parts.Statement.{statement}
 use Rattle.offers.proofs.list_of_plan_of_parts.Tie as tie
-
-abbrev entry : tie.After-symbols-settled → tie.Start
-entry c = c.before.before.before.before.before.before.before.before.before.before.before.before.before.before
 
 -- the record that the parts are of
 abbrev given : tie.Start → Held
@@ -75,10 +72,6 @@ returns c =
     let a = c.args in
     let C = code_on a.alphabet in
     refused_by_check C a.n a.k (left c.before.before.before.before.before.before.before.before.before.before.before.before.before.before.before.before) (bytes_of C (given c.before.before.before.before.before.before.before.before.before.before.before.before.before.before.before.before)) a.rows.now a.scores.now (came c.before) c.in-Refused.is
-
--- from where all checks have passed
-abbrev passed : tie.In_default → tie.Start
-passed t = entry t.before.before
 
 fit : (t : tie.In_default) → Settled t.before.before.before.before.before.before.before.before.before.before.before.before.before.before.before.before
 fit t = settle t.before.before.before.before.before.before.before.before.before.before.before.before.before.before.before.before (accepts_front _ (sums t.before.before.before.before.before.before.before.before.before.before.before.before.before.before.before.before) (accepted (came t.before) t.in_default.is))

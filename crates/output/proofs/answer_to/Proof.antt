@@ -4,7 +4,7 @@ use mathlib.Core.Path.{◌≡◌, sym, ◌∙◌, ap, ap₂, subst}
 use Prim.Native.Nat.{ℕ, ◌-◌}
 use lib.ListN.{length, take, drop, replicate}
 use Rattle.alphabet.specs.Codes.{code_on}
-use Rattle.numbers-1.specs.Numbers.{numbers_of}
+use Rattle.numbers-1.specs.numbers-1.{numbers_of}
 use Rattle.output.proofs.Input.{no_header, header, in_front, front_within, bytes_are}
 use Rattle.output.specs.Program.{header_bytes}
 use Rattle.output.specs.Rooms.{numbers_read}
@@ -17,7 +17,7 @@ use Rattle.output.proofs.answer_to.Tie as tie
 returns : tie.Need-returns-then-input-lt-HEADER
 returns c =
     let a = c.args in
-    let put = c.Put-refused in
+    let put = c.put_refused in
     let told = ap₂ refused_line c.number.ensures.0 c.place.ensures in
     let e = told ∙ no_header (code_on a.alphabet) a.input.now c.if-input-lt-HEADER.true in
     subst (λ (text : List ℕ). Puts a.out-1.now 0 text put.result put.new.0) e put.ensures

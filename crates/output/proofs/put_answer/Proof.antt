@@ -28,7 +28,7 @@ returns c =
 returns-2 : tie.Need-returns-in-Refused
 returns-2 c =
     let a = c.args in
-    let put = c.Put-refused in
+    let put = c.put_refused in
     rw c.in-Refused.is
     (subst (λ (text : List ℕ). Puts a.out-1.now 0 text put.result put.new.0)
     (refusal_text (code_on a.alphabet) a.k a.rows.now a.scores.now c.in-Refused.r c.number.result c.place.result

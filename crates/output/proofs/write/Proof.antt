@@ -75,7 +75,7 @@ write_spec =
     tie.close
     (tie.spec
     (λ c κs. search rules)
-    (λ c. sym (cut c.before))
+    (λ c. sym (cut c))
     answer-to-requires
     (λ c. search rules)
     returns

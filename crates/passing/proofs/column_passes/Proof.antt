@@ -29,12 +29,6 @@ test s y = let a = s.args in point_passes (code_on a.alphabet) a.rows.now a.h y 
 loop-holds : tie.Need-loop-b-init invariant-loop decreases-loop
 loop-holds c = (omega arith, every_none (test c.before.before.before))
 
-abbrev entry : tie.At-loop-b invariant-loop decreases-loop → tie.Start invariant-loop decreases-loop
-entry l = l.before.before.before.before
-
-abbrev at-loop : tie.After-wide invariant-loop decreases-loop → tie.At-loop-b invariant-loop decreases-loop
-at-loop w = w.before.before
-
 -- The place of the entry lies within the entries.
 inside : (w : tie.After-wide invariant-loop decreases-loop) → (let a = w.args in a.at + w.wide.result < length a.entries.now)
 inside w =
@@ -57,7 +51,7 @@ point-passes-requires c κs =
     (c.requires.0, ((omega arith, omega arith, omega arith), c.requires.1.1))
 
 -- What was tested is the point of symbol b, with the entry as its multiplicity.
-is-test : (p : tie.After-point_passes invariant-loop decreases-loop) → (let p.before.before.before.before.before = at-loop p.before.before.before in p.point_passes.result ≡ test p.before.before.before.before.before.before.before.before.before p.loop-b.b)
+is-test : (p : tie.After-point_passes invariant-loop decreases-loop) → (p.point_passes.result ≡ test p.before.before.before.before.before.before.before.before.before p.loop-b.b)
 is-test p =
     let a = p.args in
     p.point_passes.ensures
@@ -67,11 +61,9 @@ is-test p =
 -- A point does not pass.
 returns : tie.Need-returns-then-not-point_passes invariant-loop decreases-loop
 returns c =
-    let l = at-loop c.before.before.before.before in
-    let s = entry l in
-    let z = (sized s.args.alphabet).least in
+    let z = (sized c.args.alphabet).least in
     let other : c.point_passes.result ≡ false = not-true c.point_passes.result c.if-not-point_passes.true in
-    sym (every_but (test s) (code_on s.args.alphabet).symbols l.loop-b.b (omega arith) (sym (is-test c.before) ∙ other))
+    sym (every_but (test c.before.before.before.before.before.before.before.before.before.before) (code_on c.args.alphabet).symbols c.loop-b.b (omega arith) (sym (is-test c.before) ∙ other))
 
 add-b : tie.Need-overflow_add-b invariant-loop decreases-loop
 add-b c = let z = sized c.args.alphabet in omega arith
@@ -81,11 +73,9 @@ loop-less c = let z = sized c.args.alphabet in omega arith
 
 loop-again : tie.Need-loop-b-preserved invariant-loop decreases-loop
 loop-again c =
-    let l = at-loop c.before.before.before.before in
-    let s = entry l in
-    let z = (sized s.args.alphabet).least in
+    let z = (sized c.args.alphabet).least in
     let passes : c.point_passes.result ≡ true = not-false c.point_passes.result c.if-not-point_passes.false in
-    (omega arith, every_more (test s) l.loop-b.b l.loop-b.invariant.1 (sym (is-test c.before) ∙ passes))
+    (omega arith, every_more (test c.before.before.before.before.before.before.before.before.before.before) c.loop-b.b c.loop-b.invariant.1 (sym (is-test c.before) ∙ passes))
 
 -- The loop has ended behind the greatest symbol: all points pass.
 returns-2 : tie.Need-returns invariant-loop decreases-loop

@@ -67,10 +67,10 @@ loop-again c =
       omega arith,
       ⊎_elim
           (λ w.
-          let r = walk_stays a.v c.loop-j.j _ _ _ at.0 at.1 at.2 w.0.taken in
+          let r = walk_stays a.v c.loop-j.j _ _ _ at.0 at.1 at.2 w.0.true in
           (w.1 ∙ r.0, w.2 ∙ r.1, w.3 ∙ r.2))
           (λ w.
-          let r = walk_turns a.v c.loop-j.j _ _ _ at.0 at.1 at.2 w.0.left in
+          let r = walk_turns a.v c.loop-j.j _ _ _ at.0 at.1 at.2 w.0.false in
           (w.1 ∙ r.0, w.2 ∙ r.1, w.3 ∙ r.2)) c.if-v-x.branch,
       parts_more (code_on a.alphabet) (field_on a.alphabet) a.v a.px.now a.coefficients.now given.1 given.0 c.loop-j.j _ _ at.0 at.1
           c.loop-j.rows _ (low c.before.before.before.before).1 c.loop-j.invariant.2 c.add_multiple.ensures,

@@ -86,11 +86,10 @@ left p = left_in p.before.before
 
 parts-requires : tie.Need-parts-rows-requires invariant-loop decreases-loop
 parts-requires c κs =
-    let s = entry_of c.before.before.before in
-    let g = s.requires.1 in
+    let g = c.requires.1 in
     let few = g.few in
     let full = g.full in
-    (s.requires.0, ((g.positive, omega arith), (g.coefficients, c.powers-px.ensures.symbols)))
+    (c.requires.0, ((g.positive, omega arith), (g.coefficients, c.powers-px.ensures.symbols)))
 
 div-column-passes : tie.Need-nonzero_div-degree invariant-loop decreases-loop
 div-column-passes c = c.requires.1.positive
@@ -109,11 +108,9 @@ among p =
 
 -- So they lie within the entries.
 inside : (y : tie.After-symbols invariant-loop decreases-loop)
-    → (let l = at-loop y.before.before.before in y.symbols.result * l.loop-i.i + (code_of (entry_of l)).symbols ≤ length (entry_of l).args.entries.now)
+    → (y.symbols.result * y.loop-i.i + (code_of y.before.before.before.before.before.before.before.before.before.before).symbols ≤ length y.args.entries.now)
 inside y =
-    let l = at-loop y.before.before.before in
-    let s = entry_of l in
-    let whole = s.requires.1.whole in
+    let whole = y.requires.1.whole in
     let here = among y.before.before.before in
     rw y.symbols.ensures (omega arith)
 
@@ -126,7 +123,7 @@ low-here : (p : tie.After-px-1 invariant-loop decreases-loop)
 low-here p j h = let here = among p in p.requires.1.low j (omega arith)
 
 low-at : (y : tie.After-symbols invariant-loop decreases-loop)
-    → (let l = at-loop y.before.before.before in Low (y.symbols.result * l.loop-i.i + (code_of (entry_of l)).symbols) (entry_of l).args.entries.now)
+    → (Low (y.symbols.result * y.loop-i.i + (code_of y.before.before.before.before.before.before.before.before.before.before).symbols) y.args.entries.now)
 low-at y = rw y.symbols.ensures (low-here y.before.before.before)
 
 column-passes-requires : tie.Need-column_passes-requires invariant-loop decreases-loop

@@ -40,7 +40,7 @@ order-passes-requires : tie.Need-order_passes-requires invariant-loop decreases-
 order-passes-requires c κs =
     (c.requires.0, ((omega arith, omega arith, omega arith), (c.requires.1.1, c.powers-py.ensures.symbols)))
 
--- What was tested is the test of the orders that begin with o.
+-- What was tested is the test of the orders that begin with s.
 is-test : (o : tie.After-order_passes invariant-loop decreases-loop) → (o.order_passes.result ≡ test o.before.before.before.before.before.before.before o.loop-s.s)
 is-test o =
     let a = o.args in

@@ -7,7 +7,7 @@ use lib.ListN.{length}
 use Rattle.alphabet.specs.Codes.{code_on}
 use Rattle.definitions.specs.Limits.{greatest_limit}
 use Rattle.pivots.proofs.Blocks.{lower_none, lower_more, listed_rows}
-use Rattle.pivots.specs.System.{DoneIn, LoweredIn, column_of}
+use Rattle.pivots.specs.system-1.{DoneIn, LoweredIn, column_of}
 use Rattle.instances.proofs.Codes.{field_on}
 use Rattle.blocks.specs.Row.{block, InRow}
 use borrow.Author.Rules.{rules}
@@ -21,9 +21,6 @@ invariant-loop alphabet system₀ j rows blocks places c n next₀ system next =
 
 abbrev decreases-loop : tie.decreases-loop-next
 decreases-loop alphabet system₀ j rows blocks places c n next₀ system next = blocks - next
-
-abbrev entry : tie.At-loop-next invariant-loop decreases-loop → tie.Start invariant-loop decreases-loop
-entry l = l.before.before.before.before.before
 
 factors-requires : tie.Need-factors-n-requires invariant-loop decreases-loop
 factors-requires c κs =

@@ -36,12 +36,6 @@ loop-holds : tie.Need-loop-i-init invariant-loop decreases-loop
 loop-holds c =
     (omega arith, rows_undone _ _ _ _ _ _ _ c.requires.0)
 
-abbrev entry : tie.At-loop-i invariant-loop decreases-loop → tie.Start invariant-loop decreases-loop
-entry l = l.before.before.before.before.before
-
-abbrev pass : tie.After-wide-t invariant-loop decreases-loop → tie.In-loop-i invariant-loop decreases-loop
-pass w = w.before.before
-
 -- The row that the pass takes from is there.
 target : (w : tie.After-wide-t invariant-loop decreases-loop) → w.wide-t.result < length w.loop-i.system
 target w =
@@ -57,8 +51,7 @@ target-wide w = w.loop-i.invariant.1.system.wide w.wide-t.result (target w)
 -- The factor of the pass is a symbol.
 factor : (x : tie.After-wide-x invariant-loop decreases-loop) → x.wide-x.result < C.symbols
 factor x =
-    let n = pass x.before.before.before in
-    let h = (entry n.before).requires.1.1.1 n.before.loop-i.i n.loop-i-test.true in
+    let h = x.requires.1.1.1 x.loop-i.i x.loop-i-test.true in
     let f = x.wide-x.ensures.0 in
     omega arith
 

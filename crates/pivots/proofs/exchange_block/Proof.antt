@@ -13,9 +13,6 @@ use borrow.Author.Rules.{rules}
 use Rattle.pivots.proofs.exchange_block.Statement.{statement}
 use Rattle.pivots.proofs.exchange_block.Tie as tie
 
-abbrev entry : tie.After-scaled-first → tie.Start
-entry x = x.before.before.before.before.before.before.before
-
 scaled-requires : tie.Need-scaled-first-requires
 scaled-requires c κs =
     let a = c.args in
@@ -37,10 +34,9 @@ once p =
 
 put-requires-2 : tie.Need-put-requires-2
 put-requires-2 c κs =
-    let s = entry c.before.before.before.before.before in
-    let e = length-set s.args.system.now s.args.r c.put.new.row in
-    let h : s.args.j < length (set s.args.system.now s.args.r c.put.new.row) = omega arith in
-    (s.requires.1.1.0, (once c.before.before).wide s.args.j h)
+    let e = length-set c.args.system.now c.args.r c.put.new.row in
+    let h : c.args.j < length (set c.args.system.now c.args.r c.put.new.row) = omega arith in
+    (c.requires.1.1.0, (once c.before.before).wide c.args.j h)
 
 -- Both blocks are put back: that of row j into row r, and that of row r, scaled, into row j.
 returns : tie.Need-returns

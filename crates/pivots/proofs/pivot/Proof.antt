@@ -16,9 +16,6 @@ use borrow.Author.Rules.{rules}
 use Rattle.pivots.proofs.pivot.Statement.{statement}
 use Rattle.pivots.proofs.pivot.Tie as tie
 
-abbrev entry : tie.After-inverse → tie.Start
-entry i = i.before.before.before
-
 -- the entry that becomes the pivot
 abbrev pivotOf : tie.Start → ℕ
 pivotOf s = entry_of s.args.system.now s.args.r s.args.j
@@ -29,9 +26,6 @@ returns c =
     let a = c.args in
     let refused = sym (ap told_element c.in_default.is) ∙ c.inverse.ensures in
     absurd (not_refused (code_on a.alphabet) (pivotOf c.before.before.before.before) (c.requires.0.symbols a.r a.j) c.requires.1.1.1.1.1 c.in_default.field-0 refused)
-
-abbrev at-start : tie.In-Of-2 → tie.Start
-at-start u = entry u.before
 
 -- u is a symbol, and u times the pivot is 1.
 inverts : (u : tie.In-Of-2) → (let x = u.in-Of.u in let C = code_on u.args.alphabet in (x < C.symbols) × (C.times x (pivotOf u.before.before.before.before) ≡ 1))
@@ -55,20 +49,18 @@ exchange-requires c κs =
 
 clear-requires : tie.Need-clear-requires
 clear-requires c κs =
-    let s = at-start c.before.before.before.before in
-    let w = s.requires.1.1.0 in
+    let w = c.requires.1.1.0 in
     let e = c.exchange.ensures.size in
-    let p = s.requires.1.1.1.0 in
+    let p = c.requires.1.1.1.0 in
     (c.exchange.ensures.system, (record { few = w.few; fewer = w.fewer; inside = w.inside; there = (let t = w.there in omega arith) }, omega arith))
 
 -- The row is exchanged and the rows below are cleared, so the triangle has one column more.
 returns-2 : tie.Need-returns
 returns-2 c =
-    let s = at-start c.before.before.before.before.before.before in
-    let p = s.requires.1.1 in
+    let p = c.requires.1.1 in
     let i = inverts c.before.before.before.before.before.before in
-    let room : s.args.j < s.args.blocks * block = let w = p.0.fewer in let l = p.1.0 in omega arith in
-    block_step _ (field_on s.args.alphabet) _ s.args.blocks _ _ s.args.j _ _ _ s.requires.0 i.0 i.1 p.1.0.0 p.1.0.1 room p.1.1.0
+    let room : c.args.j < c.args.blocks * block = let w = p.0.fewer in let l = p.1.0 in omega arith in
+    block_step _ (field_on c.args.alphabet) _ c.args.blocks _ _ c.args.j _ _ _ c.requires.0 i.0 i.1 p.1.0.0 p.1.0.1 room p.1.1.0
     c.exchange.ensures c.clear.ensures
 
 pub pivot_spec : {M : Type 1} → statement M

@@ -13,7 +13,7 @@ use Rattle.definitions.specs.Refusals.{Line, size, entries, entries_of, columns}
 use Rattle.turning.proofs.Turned.{bytes_within, turned_bytes, turned_costs}
 use Rattle.planner.proofs.Checking.{plan_left}
 use Rattle.refusals.proofs.Chain.{Came, start, ◌▸◌, further, accepts_front, accepted, answers}
-use Rattle.refusals.specs.Checked.{told_checked}
+use Rattle.refusals.specs.checked-1.{told_checked}
 use borrow.Author.Rules.{rules}
 use Rattle.planner.proofs.check_plan.Statement.{statement}
 use Rattle.planner.proofs.check_plan.Tie as tie
@@ -47,16 +47,9 @@ module _ (s : tie.Start) where
   fits-call : Accepts lines → Fits
   fits-call = let a = s.args in fits code a.n a.steps a.reliabilities.now a.plan.now
 
-abbrev entry : tie.After-symbols-settled → tie.Start
-entry c = c.before.before.before.before.before.before.before
-
 settled : (c : tie.After-symbols-settled) → Came (lines c.before.before.before.before.before.before.before) [] (told_checked c.symbols-settled.result)
 settled c =
     start ▸ c.size.ensures ▸ c.steps.ensures ▸ c.entries.ensures ▸ c.entries-2.ensures ▸ c.symbols-settled.ensures
-
--- the entry, from the check of the columns
-abbrev checking : tie.After-columns_checked-checked → tie.Start
-checking c = entry c.before
 
 came : (c : tie.After-columns_checked-checked) → Came (lines c.before.before.before.before.before.before.before.before ++ column-line c.before.before.before.before.before.before.before.before) [] (told_checked c.columns_checked-checked.result)
 came c = further (column-line c.before.before.before.before.before.before.before.before) (settled c.before) ▸ c.columns_checked-checked.ensures
@@ -72,9 +65,6 @@ returns : tie.Need-returns-in-Refused
 returns c =
     let a = c.args in
     answers (came c.before) (ruled a.reliabilities.now a.steps a.plan.now ∷ []) _ c.in-Refused.is
-
-abbrev passed : tie.In_default → tie.Start
-passed t = checking t.before
 
 fit : (t : tie.In_default) → Fits t.before.before.before.before.before.before.before.before.before
 fit t = fits-call t.before.before.before.before.before.before.before.before.before (accepts_front _ (column-line t.before.before.before.before.before.before.before.before.before) (accepted (came t.before) t.in_default.is))

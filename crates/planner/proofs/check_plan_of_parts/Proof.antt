@@ -17,7 +17,7 @@ use Rattle.definitions.specs.Refusals.{Line, size, entries, entries_of, columns}
 use Rattle.matrix.proofs.Record.{stored_tried}
 use Rattle.planner.proofs.Checking.{plan_left}
 use Rattle.refusals.proofs.Chain.{Came, start, ◌▸◌, further, accepts_front, accepted, answers}
-use Rattle.refusals.specs.Checked.{told_checked}
+use Rattle.refusals.specs.checked-1.{told_checked}
 use borrow.Author.Rules.{rules}
 use Rattle.planner.proofs.check_plan_of_parts.Statement.{statement}
 use Rattle.planner.proofs.check_plan_of_parts.Tie as tie
@@ -60,17 +60,10 @@ module _ (s : tie.Start) where
 abbrev full : tie.After-symbols-settled → tie.After-entries
 full c = c.before.before.before
 
-abbrev entry : tie.After-symbols-settled → tie.Start
-entry c = c.before.before.before.before.before.before.before.before.before
-
 settled : (c : tie.After-symbols-settled) → Came (lines c.before.before.before.before.before.before.before.before.before) [] (told_checked c.symbols-settled.result)
 settled c =
     start ▸ c.size.ensures ▸ c.steps.ensures ▸ c.entries.ensures
     ▸ stored_tried (code c.before.before.before.before.before.before.before.before.before) (given c.before.before.before.before.before.before.before.before.before) (told_checked c.entries.result) c.or.ensures c.rightly.ensures ▸ c.symbols-settled.ensures
-
--- the entry, from the check of the columns
-abbrev checking : tie.After-columns_checked-checked → tie.Start
-checking c = entry c.before
 
 came : (c : tie.After-columns_checked-checked) → Came (lines c.before.before.before.before.before.before.before.before.before.before ++ column-line c.before.before.before.before.before.before.before.before.before.before) [] (told_checked c.columns_checked-checked.result)
 came c = further (column-line c.before.before.before.before.before.before.before.before.before.before) (settled c.before) ▸ c.columns_checked-checked.ensures
@@ -86,9 +79,6 @@ returns : tie.Need-returns-in-Refused
 returns c =
     let a = c.args in
     answers (came c.before) (ruled a.reliabilities.now a.steps (bytes_of (code c.before.before.before.before.before.before.before.before.before.before.before) (given c.before.before.before.before.before.before.before.before.before.before.before)) ∷ []) _ c.in-Refused.is
-
-abbrev passed : tie.In_default → tie.Start
-passed t = checking t.before
 
 fit : (t : tie.In_default) → Fits t.before.before.before.before.before.before.before.before.before.before.before
 fit t = fits-call t.before.before.before.before.before.before.before.before.before.before.before (accepts_front _ (column-line t.before.before.before.before.before.before.before.before.before.before.before) (accepted (came t.before) t.in_default.is))

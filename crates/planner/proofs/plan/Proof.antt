@@ -15,7 +15,7 @@ use Rattle.definitions.specs.Refusals.{Line, size, entries, room, columns}
 use Rattle.plans.proofs.Planning.{length_plan}
 use Rattle.planner.proofs.Checking.{length_cleared, cleared_front, kept_behind}
 use Rattle.refusals.proofs.Chain.{Came, start, ◌▸◌, further, accepts_front, accepted, answers, stops, goes_on}
-use Rattle.refusals.specs.Checked.{told_checked}
+use Rattle.refusals.specs.checked-1.{told_checked}
 use borrow.Author.Rules.{rules}
 use Rattle.planner.proofs.plan.Statement.{statement}
 use Rattle.planner.proofs.plan.Tie as tie

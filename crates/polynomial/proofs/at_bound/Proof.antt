@@ -4,7 +4,7 @@ use mathlib.Core.Path.{◌∙◌, ap}
 use Prim.Native.Nat.{ℕ, ◌-◌, ◌≤◌, ◌<◌}
 use native.Mathlib.Omega.{arith}
 use Rattle.definitions.proofs.Powers.{bound_fits}
-use Rattle.definitions.specs.Bound.{bound}
+use Rattle.definitions.specs.bound-bound.{bound}
 use Rattle.polynomial-leading.proofs.Coefficients.{count_small}
 use borrow.Author.Rules.{rules}
 use Rattle.polynomial-leading.proofs.at_bound.Statement.{statement}

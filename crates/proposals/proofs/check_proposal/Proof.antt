@@ -5,7 +5,7 @@ use mathlib.Core.Path.{◌≡◌, refl, sym, ◌∙◌, ap}
 use Prim.Native.Nat.{ℕ, ◌*◌, ◌-◌, ◌≤◌}
 use native.Mathlib.Omega.{arith}
 use lib.ListN.{length, get_or}
-use Rattle.alphabet.proofs.Sizes.{sized}
+use Rattle.alphabet.proofs.sizes-sized.{sized}
 use Rattle.alphabet.specs.Codes.{code_on}
 use Rattle.definitions.proofs.Table.{Accepts}
 use Rattle.definitions.specs.Code.{Symbols}
@@ -16,7 +16,7 @@ use Rattle.definitions.specs.Refusals.{Line}
 use Rattle.proposals.proofs.Answers.{says_yes, says_no}
 use Rattle.proposals.proofs.Fits.{Fits, sized_fit, symbol_lines, symbols_fit, given_front, check_start, check_fits}
 use Rattle.refusals.proofs.Chain.{Came, start, ◌▸◌, further, accepts_front, accepts_behind, accepted, answers}
-use Rattle.refusals.specs.Checked.{told_checked}
+use Rattle.refusals.specs.checked-1.{told_checked}
 use Rattle.turning.proofs.Turned.{bytes_within, turned_bytes, turned_costs}
 use borrow.Author.Rules.{rules}
 use Rattle.proposals.proofs.check_proposal.Statement.{statement}
@@ -26,9 +26,6 @@ degree-checked-requires : tie.Need-degree_checked-requires
 degree-checked-requires c κs e =
     let a = c.args in
     sized_fit (code_on a.alphabet) a.n a.k (accepted (start ▸ c.sizes-sized.ensures) e)
-
-abbrev entry : tie.After-entries-settled → tie.Start
-entry c = c.before.before.before.before.before
 
 abbrev code_of : tie.Start → Code
 code_of s = code_on s.args.alphabet
@@ -61,9 +58,6 @@ came c = further (rest c.before.before.before.before.before.before) (settled c.b
 -- A line has refused.
 returns : tie.Need-returns-in-Refused
 returns c = answers (came c.before) [] _ c.in-Refused.is
-
-abbrev passed : tie.In_default → tie.Start
-passed t = entry t.before.before
 
 accepts : (t : tie.In_default) → Accepts (front t.before.before.before.before.before.before.before ++ rest t.before.before.before.before.before.before.before)
 accepts t = accepted (came t.before) t.in_default.is
@@ -98,8 +92,8 @@ is-yes-requires c κs =
 
 -- What was asked is whether the matrix that came in has a yes.
 is-yes-of : (y : tie.After-is_yes)
-    → (let s = passed y.before.before.before.before.before in let a = s.args in
-    y.is_yes.result ≡ is_yes (code_of s) a.n (a.k - 1) a.degree a.matrix.now a.coefficients.now)
+    → (let a = y.args in
+    y.is_yes.result ≡ is_yes (code_of y.before.before.before.before.before.before.before.before.before.before.before.before) a.n (a.k - 1) a.degree a.matrix.now a.coefficients.now)
 is-yes-of y =
     let a = y.args in
     let C = code_of y.before.before.before.before.before.before.before.before.before.before.before.before in

@@ -5,7 +5,7 @@ use mathlib.Core.Path.{◌≡◌, refl}
 use Prim.Native.Nat.{ℕ, ◌*◌, ◌≤◌}
 use native.Mathlib.Omega.{arith}
 use lib.ListN.{length, get_or}
-use Rattle.alphabet.proofs.Sizes.{sized}
+use Rattle.alphabet.proofs.sizes.{sized}
 use Rattle.alphabet.specs.Codes.{code_on}
 use Rattle.definitions.proofs.Table.{Accepts}
 use Rattle.definitions.specs.Code.{Symbols}
@@ -17,22 +17,16 @@ use Rattle.list_within.specs.Within.{Fit}
 use Rattle.proposal_within.specs.Lines.{list_lines}
 use Rattle.proposals.proofs.Fits.{Fits, priced_fit, symbol_lines, symbols_fit, given_front, list_start, list_fits}
 use Rattle.refusals.proofs.Chain.{Came, start, ◌▸◌, further, accepts_front, accepts_behind, accepted}
-use Rattle.refusals.specs.Checked.{told_checked}
+use Rattle.refusals.specs.checked-1.{told_checked}
 use Rattle.turning.proofs.Turned.{bytes_within, turned_bytes, turned_costs}
 use borrow.Author.Rules.{rules}
 use Rattle.proposals.proofs.list_of_proposal.Statement.{statement}
 use Rattle.proposals.proofs.list_of_proposal.Tie as tie
 
-abbrev at-start : tie.After-sizes → tie.Start
-at-start z = z.before.before.before.before.before
-
 degree-checked-requires : tie.Need-degree_checked-requires
 degree-checked-requires c κs e =
     let a = c.args in
     priced_fit (code_on a.alphabet) a.n a.k a.limit (accepted (start ▸ c.sizes.ensures ▸ c.or-sized.ensures) e)
-
-abbrev entry : tie.After-or-settled → tie.Start
-entry c = at-start c.before.before.before.before.before
 
 abbrev code_of : tie.Start → Code
 code_of s = code_on s.args.alphabet
@@ -81,9 +75,6 @@ returns : tie.Need-returns-in-Refused
 returns c =
     let a = c.args in
     refused_by_check (code_of c.before.before.before.before.before.before.before.before.before.before.before.before) a.n a.k (left c.before.before.before.before.before.before.before.before.before.before.before.before) a.matrix.now a.rows.now a.scores.now (came c.before) c.in-Refused.is
-
-abbrev passed : tie.In_default → tie.Start
-passed t = entry t.before.before
 
 accepts : (t : tie.In_default) → Accepts (front t.before.before.before.before.before.before.before.before.before.before.before.before ++ rest t.before.before.before.before.before.before.before.before.before.before.before.before)
 accepts t = accepted (came t.before) t.in_default.is

@@ -4,9 +4,6 @@ use borrow.Author.Rules.{rules}
 use Rattle.record_entries.proofs.matrix_fresh.Statement.{statement}
 use Rattle.record_entries.proofs.matrix_fresh.Tie as tie
 
-abbrev entry : tie.After-fresh → tie.Start
-entry c = c.before.before.before.before.before
-
 priced-requires : tie.Need-priced-requires
 priced-requires c κs =
     let a = c.args in

@@ -7,9 +7,6 @@ use borrow.Author.Rules.{rules}
 use Rattle.record_entries.proofs.matrix_list_of_proposal.Statement.{statement}
 use Rattle.record_entries.proofs.matrix_list_of_proposal.Tie as tie
 
-abbrev entry : tie.After-list_of_proposal_of_parts → tie.Start
-entry c = c.before.before.before.before.before.before.before.before
-
 counted-requires : tie.Need-counted-requires
 counted-requires c κs =
     let a = c.args in

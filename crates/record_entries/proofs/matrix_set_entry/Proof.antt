@@ -7,9 +7,6 @@ use borrow.Author.Rules.{rules}
 use Rattle.record_entries.proofs.matrix_set_entry.Statement.{statement}
 use Rattle.record_entries.proofs.matrix_set_entry.Tie as tie
 
-abbrev entry : tie.After-set_entry → tie.Start
-entry c = c.before.before.before.before.before
-
 priced-requires : tie.Need-priced-requires
 priced-requires c κs =
     let a = c.args in

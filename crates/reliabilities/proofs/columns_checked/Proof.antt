@@ -21,13 +21,13 @@ returns c =
     let a = c.args in
     refusal_kept a.checked (columns (code_on a.alphabet) a.n a.reliabilities.now) _ c.in-Refused.is
 
--- The scan has c.before a bad column: refusal 6, at its position.
+-- The scan has found a bad column: refusal 6, at its position.
 returns-2 : tie.Need-returns-then-bad-n
 returns-2 c =
     let a = c.args in
     bad_found a.checked c.in-Passed.is 6 (first c.before.before) a.n (λ i. i) c.first_bad_column-bad.result c.first_bad_column-bad.ensures c.if-bad-n.true
 
--- The scan has c.before none, so this line is passed as well.
+-- The scan has found none, so this line is passed as well.
 returns-3 : tie.Need-returns-else-bad-n
 returns-3 c =
     let a = c.args in

@@ -16,7 +16,7 @@ use Rattle.definitions.specs.Limits.{greatest_count}
 use Rattle.definitions.specs.Polynomial.{is_zero}
 use Rattle.definitions.specs.Refusals.{roots_table}
 use Rattle.refusals.proofs.Chain.{Came, has_tried, accepted, answers, stops, goes_on}
-use Rattle.refusals.specs.Checked.{told_checked}
+use Rattle.refusals.specs.checked-checked.{told_checked}
 use borrow.Author.Rules.{rules}
 use Rattle.roots.proofs.roots.Statement.{statement}
 use Rattle.roots.proofs.roots.Tie as tie

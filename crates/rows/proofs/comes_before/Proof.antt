@@ -20,7 +20,7 @@ shared-slice-read-result-2 c =
     let e = c.requires in
     omega arith
 
--- The messages agree before c.before.before.before and differ at c.before.before.before, so the smaller symbol there comes first.
+-- The messages agree before d and differ at d, so the smaller symbol there comes first.
 returns-2 : tie.Need-returns
 returns-2 c =
     let l = c.first_difference-d.ensures.within in

@@ -9,19 +9,15 @@ use Rattle.rows.specs.Rows.{comes_before}
 use Rattle.rows.proofs.row_before.Statement.{statement}
 use Rattle.rows.proofs.row_before.Tie as tie
 
-abbrev entry : tie.After-shared_slice_known-4-1 → tie.Start
-entry c = c.before.before.before.before
-
 -- The scores differ, so the row with the greater score comes first.
 returns : tie.Need-returns-then-one-other
 returns c = rw (ne_eqb _ _ c.if-one-other.true)
 
 comes-before-requires : tie.Need-comes_before-requires
 comes-before-requires c κs =
-    let s = entry c.before.before.before in
-    let a = s.args in
-    ap length c.row.ensures.0 ∙ row_length a.k a.rows.now a.i s.requires.0
-    ∙ sym (ap length c.row-2.ensures.0 ∙ row_length a.k a.rows.now a.j s.requires.1)
+    let a = c.args in
+    ap length c.row.ensures.0 ∙ row_length a.k a.rows.now a.i c.requires.0
+    ∙ sym (ap length c.row-2.ensures.0 ∙ row_length a.k a.rows.now a.j c.requires.1)
 
 -- The scores are equal, so the order of the two messages decides.
 returns-2 : tie.Need-returns

@@ -33,8 +33,7 @@ lay-leaders-requires c κs =
 
 loop-holds : tie.Need-loop-s-init invariant-loop decreases-loop
 loop-holds c =
-    let s = lending c.before.before.before in
-    (omega arith, from-zeros s, done_zero s.args.reliabilities.now, c.lay_leaders.ensures)
+    (omega arith, from-zeros c.before.before.before.before.before.before.before, done_zero c.args.reliabilities.now, c.lay_leaders.ensures)
 
 abbrev entry : tie.At-loop-s invariant-loop decreases-loop → tie.Start invariant-loop decreases-loop
 entry l = lending l.before.before.before.before

@@ -13,12 +13,6 @@ use borrow.Author.Rules.{rules}
 use Rattle.steps.proofs.step.Statement.{statement}
 use Rattle.steps.proofs.step.Tie as tie
 
-abbrev lending : tie.After-best-arg2 → tie.Start
-lending c = c.before.before.before.before.before
-
-abbrev entry : tie.After-best-b → tie.Start
-entry b = lending b.before
-
 -- The best entry has no reliability: the plan stops, and nothing has changed.
 returns : tie.Need-returns-then-reliabilities-b-eq0
 returns c =
@@ -40,17 +34,15 @@ add-multiplicities c =
 
 -- the column of the best entry
 column : (c : tie.After-symbols)
-    → (let s = entry c.before.before.before.before.before.before in
-    let code = code_on s.args.alphabet in
+    → (let code = code_on c.args.alphabet in
     let place = c.best-b.result in
     let i = place / c.symbols.result in
-    (i < s.args.n) × (code.symbols * i ≤ place) × (place < code.symbols * i + code.symbols))
+    (i < c.args.n) × (code.symbols * i ≤ place) × (place < code.symbols * i + code.symbols))
 column c =
-    let s = entry c.before.before.before.before.before.before in
-    let full = s.requires.0.weights.full in
+    let full = c.requires.0.weights.full in
     let within = c.best-b.ensures.1 in
-    let least = (sized s.args.alphabet).least in
-    column_of_lem (code_on s.args.alphabet) c.symbols.result s.args.n c.best-b.result c.symbols.ensures (omega arith) (omega arith)
+    let least = (sized c.args.alphabet).least in
+    column_of_lem (code_on c.args.alphabet) c.symbols.result c.args.n c.best-b.result c.symbols.ensures (omega arith) (omega arith)
 
 div-i : tie.Need-nonzero_div-i
 div-i c =
@@ -60,27 +52,24 @@ div-i c =
 
 best-of-column-requires : tie.Need-best_of_column-requires
 best-of-column-requires c κs =
-    let s = entry c.before.before.before.before.before.before in
-    let small = s.requires.0.weights.small in
-    let full = s.requires.0.weights.full in
+    let small = c.requires.0.weights.small in
+    let full = c.requires.0.weights.full in
     let h = column c in
-    let a = s.args in
+    let a = c.args in
     let whole = row_within (code_on a.alphabet).symbols _ a.n (length a.reliabilities.now) h.0 (omega arith) in
-    (omega arith, whole, length-set s.args.multiplicities.now c.best-b.result _ ∙ s.requires.0.as_many)
+    (omega arith, whole, length-set c.args.multiplicities.now c.best-b.result _ ∙ c.requires.0.as_many)
 
 mul-leaders : tie.Need-offset_bounds-leaders-i
 mul-leaders c =
-    let s = entry c.before.before.before.before.before.before.before in
-    let small = s.requires.0.weights.small in
-    let z = sized s.args.alphabet in
+    let small = c.requires.0.weights.small in
+    let z = sized c.args.alphabet in
     let h = (column c.before).0 in
     omega arith
 
 slice-write-leaders : tie.Need-bounds-leaders-i
 slice-write-leaders c =
-    let s = entry c.before.before.before.before.before.before.before in
-    let small = s.requires.0.weights.small in
-    let leaders = s.requires.2.full in
+    let small = c.requires.0.weights.small in
+    let leaders = c.requires.2.full in
     let h = (column c.before).0 in
     omega arith
 

@@ -17,15 +17,12 @@ invariant-loop fd buf₀ done₀ buf done = (length buf ≡ length buf₀) × (d
 abbrev decreases-loop : tie.decreases-loop-done
 decreases-loop fd buf₀ done₀ buf done = length buf - done
 
-abbrev turn : tie.In-Bytes-2 invariant-loop decreases-loop → tie.At-loop-done invariant-loop decreases-loop
-turn at_more = at_more.before.before.before.before.before.before
-
 within : (at_more : tie.In-Bytes-2 invariant-loop decreases-loop)
     → (let loop = at_more.loop-done in
     loop.done + at_more.in-Bytes.more ≤ length loop.buf)
 within at_more =
     let loop = at_more.loop-done in
-    let read = at_more.read_Some in
+    let read = at_more.read_some in
     moved_within loop.done at_more.in-Bytes.more loop.buf read.last.1.0 read.result loop.invariant.1 at_more.buf-1.given.0 at_more.in-Bytes.is read.ensures
 
 add_done : tie.Need-overflow_add-done invariant-loop decreases-loop

@@ -18,10 +18,6 @@ invariant-loop fd buf done₀ done = done ≤ length buf
 abbrev decreases-loop : tie.decreases-loop-done
 decreases-loop fd buf done₀ done = length buf - done
 
--- where the turn began whose call took bytes, and the whole memory
-abbrev turn : tie.In-Bytes-2 invariant-loop decreases-loop → tie.At-loop-done invariant-loop decreases-loop
-turn at-taken = at-taken.before.before.before.before
-
 abbrev whole : tie.In-Bytes-2 invariant-loop decreases-loop → List ℕ
 whole at-taken = at-taken.args.buf.now
 
@@ -56,5 +52,5 @@ write_all_spec =
     (λ c. search rules)
     add_done
     loop-less
-    (λ c. within c.before.before)
+    (λ c. within c.before)
     (λ c. search rules))

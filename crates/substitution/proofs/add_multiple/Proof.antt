@@ -30,9 +30,6 @@ loop-holds c =
     let a = c.args in
     (omega arith, refl, c.requires.1.0, added_none (code_on a.alphabet) a.h a.w a.to a.from a.g a.p.now)
 
-abbrev entry : tie.At-loop-a invariant-loop decreases-loop → tie.Start invariant-loop decreases-loop
-entry l = l.before.before.before
-
 -- entry `from` of the column is in the array, and `to` is before it
 within : (c : tie.In-loop-a invariant-loop decreases-loop)
     → (let a = c.args in c.loop-a.a * a.h + a.from < a.w * a.h)

@@ -24,9 +24,6 @@ loop-holds c =
     let a = c.args in
     (omega arith, refl, c.requires.1.0, folded_none (code_on a.alphabet) a.h a.w a.bit a.g a.p-1.now)
 
-abbrev entry : tie.At-loop-b invariant-loop decreases-loop → tie.Start invariant-loop decreases-loop
-entry l = l.before.before.before
-
 add-multiple-requires : tie.Need-add_multiple-requires invariant-loop decreases-loop
 add-multiple-requires c κs =
     (c.requires.0, (c.loop-b.invariant.2, (omega arith, omega arith, omega arith, c.requires.1.1.4)))
@@ -42,10 +39,10 @@ stepped c =
     let inside = c.loop-b-test.true in
     ⊎_elim
     (λ w.
-    let more = folded_more C a.h a.w a.bit a.g a.p-1.now c.b c.p c.invariant.3 inside w.2.last.1.1.0 w.0.taken c.requires.1.1.0 w.2.ensures.0 in
+    let more = folded_more C a.h a.w a.bit a.g a.p-1.now c.b c.p c.invariant.3 inside w.2.last.1.1.0 w.0.true c.requires.1.1.0 w.2.ensures.0 in
     rw w.5 (w.2.kept.1.1.0 ∙ c.invariant.1, w.2.ensures.1, more))
     (λ w.
-    let kept = folded_kept C a.h a.w a.bit a.g a.p-1.now c.b c.p c.invariant.3 inside w.0.left in
+    let kept = folded_kept C a.h a.w a.bit a.g a.p-1.now c.b c.p c.invariant.3 inside w.0.false in
     rw w.1 (c.invariant.1, c.invariant.2, kept))
     c.if-b-bit-eq0.branch
 

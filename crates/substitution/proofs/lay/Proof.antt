@@ -21,9 +21,6 @@ invariant-loop p₀ col a h w end b₀ p b = (b ≤ end) × (length p ≡ length
 abbrev decreases-loop : tie.decreases-loop-b
 decreases-loop p₀ col a h w end b₀ p b = end - b
 
-abbrev entry : tie.At-loop-b invariant-loop decreases-loop → tie.Start invariant-loop decreases-loop
-entry l = l.before.before.before.before
-
 loop-holds : tie.Need-loop-b-init invariant-loop decreases-loop
 loop-holds c =
     let a = c.args in

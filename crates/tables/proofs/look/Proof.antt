@@ -11,9 +11,6 @@ use borrow.Author.Rules.{rules}
 use Rattle.tables.proofs.look.Statement.{statement}
 use Rattle.tables.proofs.look.Tie as tie
 
-abbrev entry : tie.After-wide → tie.Start
-entry c = c.before.before.before
-
 -- The row of a lies within the table.
 row : (c : tie.After-wide)
     → (let symbols = c.symbols-symbols.result in c.wide.result * symbols + symbols ≤ length c.args.table.now)

@@ -1,7 +1,7 @@
 -- The kit finds the fewest digits that hold the number: they are the page's decimal text, at most twenty.
 use Prim.Native.Nat.{◌≤◌}
 use native.Mathlib.Omega.{arith}
-use Rattle.text.proofs.Decimal.{twenty, decimal_put}
+use Rattle.text.proofs.decimal-count.{twenty, decimal_put}
 use Rattle.text.specs.Rooms.{greatest_digits}
 use borrow.Author.Rules.{rules}
 use Rattle.text.proofs.put_decimal.Statement.{statement}

@@ -13,9 +13,6 @@ use Rattle.memory.proofs.Laid.{length_laid}
 use Rattle.turning.proofs.lay.Statement.{statement}
 use Rattle.turning.proofs.lay.Tie as tie
 
-abbrev entry : tie.After-put → tie.Start
-entry p = p.before.before.before.before.before
-
 -- the entries keep their length
 full : (p : tie.After-put) → length p.put.new.out ≡ length p.args.entries.now
 full p =
@@ -33,11 +30,8 @@ clear-requires c κs =
     let h = c.requires in
     omega arith
 
-abbrev laid : tie.After-clear → tie.After-put
-laid k = k.before.before.before.before
-
 -- the entries are those of the bytes
-there : (k : tie.After-clear) → (let k.before.before.before.before.before.before.before.before.before = entry k.before.before.before.before in k.clear.new.out ≡ filled (code_on k.args.alphabet) k.args.bytes.now)
+there : (k : tie.After-clear) → (k.clear.new.out ≡ filled (code_on k.args.alphabet) k.args.bytes.now)
 there k =
     let e = full k.before.before.before.before in
     let h = k.requires in
@@ -46,8 +40,7 @@ there k =
 
 count-requires : tie.Need-count-requires
 count-requires c κs =
-    let s = entry c.before.before.before.before.before.before.before in
-    (s.requires.1, ap length (there c.before.before.before) ∙ length_filled (code_on s.args.alphabet) s.args.bytes.now s.requires.0)
+    (c.requires.1, ap length (there c.before.before.before) ∙ length_filled (code_on c.args.alphabet) c.args.bytes.now c.requires.0)
 
 -- What was counted are the entries of the bytes: so are the cost and the totals.
 returns : tie.Need-returns

@@ -25,7 +25,7 @@ front p =
     let bytes = a.bytes.now in
     ap (take (length bytes)) (p.put.ensures ∙ laid_front a.entries.now bytes (length bytes) refl) ∙ take_at bytes _ (length bytes) refl
 
--- What was c.before.before is the front of the entries, and the front is the bytes.
+-- What was turned is the front of the entries, and the front is the bytes.
 returns : tie.Need-returns
 returns c =
     subst (λ (bytes : List ℕ). Turned bytes c.turn_in_place.result c.turn_in_place.new.entries) (front c.before.before.before.before.before.before)

@@ -20,9 +20,6 @@ clear-requires c κs =
     let most = places_within c.args.alphabet in
     omega arith
 
-abbrev measured : tie.After-clear → tie.After-places-places
-measured k = k.before.before
-
 turning : (k : tie.After-clear)
     → (let a = k.args in
     Turning (code_on a.alphabet) a.used k.places-places.result a.entries.now k.clear.new.out)
@@ -45,7 +42,7 @@ count-requires : tie.Need-count-requires
 count-requires c κs =
     (length_totals c.before.before.before.before.before.before ∙ c.positions-positions.ensures, length_turning (turning c.before.before.before) ∙ c.places-places.ensures)
 
--- The entries with zeros behind them have been c.before, and zeros cost nothing.
+-- The entries with zeros behind them have been counted, and zeros cost nothing.
 returns : tie.Need-returns
 returns c =
     turned (turning c.before.before.before.before.before) _ c.count.ensures.0
@@ -59,9 +56,9 @@ turn_in_place_spec =
     (λ c. search rules)
     clear-requires
     (λ c. turning_within (turning c.before.before))
-    (λ c. sym (length_turning (turning c.before.before.before)))
-    (λ c. positions-fit (measured c.before.before.before).before)
-    (λ c. sym (length_totals (measured c.before.before.before.before).before))
+    (λ c. sym (length_turning (turning c.before.before)))
+    (λ c. positions-fit c.before.before.before.before.before)
+    (λ c. sym (length_totals c.before.before.before.before.before.before))
     count-requires
     (λ c. search rules)
     returns)

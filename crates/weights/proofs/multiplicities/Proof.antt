@@ -13,7 +13,7 @@ use Rattle.definitions.specs.Limits.{greatest_level}
 use Rattle.definitions.specs.Refusals.{Line, size, level, entries, room, columns, multiplicities_table}
 use Rattle.definitions.specs.Weights.{matrix}
 use Rattle.refusals.proofs.Chain.{Came, start, ◌▸◌, further, accepts_front, accepted, answers, stops, goes_on}
-use Rattle.refusals.specs.Checked.{told_checked}
+use Rattle.refusals.specs.checked-1.{told_checked}
 use borrow.Author.Rules.{rules}
 use Rattle.weights.proofs.multiplicities.Statement.{statement}
 use Rattle.weights.proofs.multiplicities.Tie as tie

@@ -26,11 +26,11 @@ told-part-requires c κs opens =
     let size = sized a.alphabet in
     omega arith
 
--- The only end: `told_part` tells the part of what was c.before, which is the page's verdict.
+-- The only end: `told_part` tells the part of what was judged, which is the page's verdict.
 returns : tie.Need-returns
 returns c =
     let k = c.args.k in
-    c.Told-Part.ensures ∙ ap (λ (answer : Answer). part_answer answer 1 k) (verdict c.before)
+    c.told_part.ensures ∙ ap (λ (answer : Answer). part_answer answer 1 k) (verdict c.before)
 
 pub part_spec : {M : Type 1} → statement M
 part_spec = tie.close (tie.spec (λ c κs. search rules) (λ c κs. search rules) told-part-requires returns)

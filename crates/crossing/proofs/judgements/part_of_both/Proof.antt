@@ -29,12 +29,12 @@ told-part-requires c κs opens =
     let size = sized a.alphabet in
     omega arith
 
--- The only end: `told_part` tells the part of what was c.before.before, the page's verdict, and of the list
+-- The only end: `told_part` tells the part of what was judged, the page's verdict, and of the list
 -- that `holder` names.
 returns : tie.Need-returns
 returns c =
     let k = c.args.first.k in
-    c.Told-Part.ensures ∙ ap₂ (λ (answer : Answer) (list : ℕ). part_answer answer list k) (verdict c.before.before) c.holder.ensures
+    c.told_part.ensures ∙ ap₂ (λ (answer : Answer) (list : ℕ). part_answer answer list k) (verdict c.before.before) c.holder.ensures
 
 pub part_of_both_spec : {M : Type 1} → statement M
 part_of_both_spec = tie.close (tie.spec (λ c κs. search rules) (λ c κs. search rules) (λ c κs. search rules) told-part-requires returns)

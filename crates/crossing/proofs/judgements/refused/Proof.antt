@@ -7,7 +7,7 @@ use borrow.Author.Rules.{rules}
 use Rattle.crossing.proofs.judgements.refused.Statement.{statement}
 use Rattle.crossing.proofs.judgements.refused.Tie as tie
 
--- The only end: the c.before is narrowed and the c.before.before is widened, and both stay what the refusal
+-- The only end: the number is narrowed and the place is widened, and both stay what the refusal
 -- tells.
 returns : tie.Need-returns
 returns c =

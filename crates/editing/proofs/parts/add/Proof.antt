@@ -17,16 +17,12 @@ use Rattle.matrix.proofs.Record.{stored_tried}
 use Rattle.editing.proofs.After.{parts_promised}
 use Rattle.edits.proofs.Edits.{edit_refused, edit_goes_on}
 use Rattle.refusals.proofs.Chain.{Came, start, ◌▸◌, accepted}
-use Rattle.refusals.specs.Checked.{told_checked}
+use Rattle.refusals.specs.checked-1.{told_checked}
 use Rattle.editing.proofs.parts.add.Statement.{statement}
 use Rattle.editing.proofs.parts.add.Tie as tie
 
 abbrev code : tie.Start → Code
 code s = code_on s.args.alphabet
-
--- where both sizes are checked
-abbrev sizes : tie.After-or-checked → tie.After-or
-sizes c = c.before.before.before.before.before.before
 
 abbrev handed : tie.Start → Held
 handed s = held s.args.n s.args.cost s.args.totals.now s.args.entries.now
@@ -67,7 +63,7 @@ add-right-requires c κs =
     let right = fits c.before.before.before.before.before.before.before.before.before.before.before.before.before (accepted (came c.before.before.before) c.in_default.is) in
     (right.0, (rightly_means (code c.before.before.before.before.before.before.before.before.before.before.before.before.before) (other c.before.before.before.before.before.before.before.before.before.before.before.before.before) right.1).full)
 
--- The chain is c.before.before.before.before.before.before.before: what `add_right` promises of the last line is what the whole table makes.
+-- The chain is passed: what `add_right` promises of the last line is what the whole table makes.
 returns-2 : tie.Need-returns
 returns-2 c =
     parts_promised (edit_goes_on (came c.before.before.before.before.before.before.before.before) (rest c.before.before.before.before.before.before.before.before.before.before.before.before.before.before.before.before.before.before) (handed c.before.before.before.before.before.before.before.before.before.before.before.before.before.before.before.before.before.before) (after c.before.before.before.before.before.before.before.before.before.before.before.before.before.before.before.before.before.before) c.in_default.is c.add_right.ensures)

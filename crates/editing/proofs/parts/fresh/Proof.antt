@@ -16,15 +16,12 @@ use Rattle.editing.proofs.After.{parts_promised}
 use Rattle.edits.proofs.Edits.{edit_refused, edit_goes_on, edit_counted}
 use Rattle.turning.proofs.Filled.{laid_fresh}
 use Rattle.refusals.proofs.Chain.{Came, start, ◌▸◌, accepted}
-use Rattle.refusals.specs.Checked.{told_checked}
+use Rattle.refusals.specs.checked-1.{told_checked}
 use Rattle.editing.proofs.parts.fresh.Statement.{statement}
 use Rattle.editing.proofs.parts.fresh.Tie as tie
 
 abbrev code : tie.Start → Code
 code s = code_on s.args.alphabet
-
-abbrev entry : tie.After-lent-checked → tie.Start
-entry c = c.before.before.before.before.before
 
 abbrev handed : tie.Start → Held
 handed s = held s.args.n 0 s.args.totals.now s.args.entries.now
@@ -51,10 +48,6 @@ Sized s = (length s.args.totals.now ≡ (code s).positions) × (length s.args.en
 fits : (s : tie.Start) → Accepts (table s) → Sized s
 fits s (next n (next t (next e end))) = (entries_mean _ s.args.totals.now t, entries_mean _ s.args.entries.now e)
 
--- the entry of what passed every line
-abbrev begun : tie.In_default → tie.Start
-begun passed = entry passed.before
-
 sized : (passed : tie.In_default) → Sized passed.before.before.before.before
 sized passed = fits passed.before.before.before.before (accepted (came passed.before) passed.in_default.is)
 
@@ -64,13 +57,11 @@ passed cleared = cleared.before.before
 -- zeros lie in all places
 no-entries : (c : tie.After-clear) → c.clear.new.out ≡ no_entries (code c.before.before.before.before.before.before)
 no-entries c =
-    let s = begun c.before.before in
-    laid_fresh (code s) s.args.entries.now c.clear.new.out (sized c.before.before).1 c.clear.ensures
+    laid_fresh (code c.before.before.before.before.before.before) c.args.entries.now c.clear.new.out (sized c.before.before).1 c.clear.ensures
 
 count-requires : tie.Need-count-requires
 count-requires c κs =
-    let s = begun c.before.before.before.before.before in
-    ((sized c.before.before.before.before.before).0, ap length (no-entries c.before.before.before) ∙ length-replicate {A = ℕ} (places (code s)) 0)
+    ((sized c.before.before.before.before.before).0, ap length (no-entries c.before.before.before) ∙ length-replicate {A = ℕ} (places (code c.before.before.before.before.before.before.before.before.before)) 0)
 
 -- Every line is passed: the entries are none, and the totals and the cost are those that were
 -- counted.

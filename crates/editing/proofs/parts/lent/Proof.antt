@@ -15,7 +15,7 @@ use Rattle.editing.proofs.parts.lent.Tie as tie
 abbrev more : ℕ → Outcome → ℕ → Outcome
 more given o stated = or_line o (line 3 (not (eqb given stated)))
 
--- The only end: the outcome is that of size, then of the count of c.before.before, then of that of entries.
+-- The only end: the outcome is that of size, then of the count of totals, then of that of entries.
 returns : tie.Need-returns
 returns c =
     let a = c.args in

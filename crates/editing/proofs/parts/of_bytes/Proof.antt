@@ -16,7 +16,7 @@ use Rattle.editing.proofs.After.{parts_promised}
 use Rattle.definitions.specs.Refusals.{Line}
 use Rattle.edits.proofs.Edits.{edit_refused, edit_goes_on, edit_counted}
 use Rattle.refusals.proofs.Chain.{Came, start, ◌▸◌, accepted}
-use Rattle.refusals.specs.Checked.{told_checked}
+use Rattle.refusals.specs.checked-1.{told_checked}
 use Rattle.editing.proofs.parts.of_bytes.Statement.{statement}
 use Rattle.editing.proofs.parts.of_bytes.Tie as tie
 
@@ -67,7 +67,7 @@ lay-requires c κs =
     let within : C.symbols * c.args.n ≤ places C = mul-le-mul_left C.symbols fit.size.1 in
     (omega arith, fit.totals, fit.entries)
 
--- Every line is c.before.before.before.before.before.before.before: entries, totals and cost are those that `lay` promises of the bytes.
+-- Every line is passed: entries, totals and cost are those that `lay` promises of the bytes.
 returns-2 : tie.Need-returns
 returns-2 c =
     let counted = c.lay.ensures in

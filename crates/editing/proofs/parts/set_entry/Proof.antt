@@ -18,7 +18,7 @@ use Rattle.matrix.proofs.Record.{stored_tried}
 use Rattle.editing.proofs.After.{parts_promised}
 use Rattle.edits.proofs.Edits.{edit_refused, edit_goes_on}
 use Rattle.refusals.proofs.Chain.{Came, start, ◌▸◌, accepted}
-use Rattle.refusals.specs.Checked.{or_line, told_checked}
+use Rattle.refusals.specs.checked-1.{or_line, told_checked}
 use Rattle.editing.proofs.parts.set_entry.Statement.{statement}
 use Rattle.editing.proofs.parts.set_entry.Tie as tie
 
@@ -74,7 +74,7 @@ fit passed = fits passed.before.before.before.before.before.before.before.before
 set-right-requires : tie.Need-set_right-requires
 set-right-requires c κs = let f = fit c.before.before in ((f.sized.1, f.at, f.of), f.right)
 
--- The chain is c.before.before.before.before.before.before.before: what `set_right` promises of the last line is what the whole table makes.
+-- The chain is passed: what `set_right` promises of the last line is what the whole table makes.
 returns-2 : tie.Need-returns
 returns-2 c =
     parts_promised (edit_goes_on (came c.before.before.before.before.before.before.before.before) (rest c.before.before.before.before.before.before.before.before.before.before.before.before.before.before.before) (handed c.before.before.before.before.before.before.before.before.before.before.before.before.before.before.before) (after c.before.before.before.before.before.before.before.before.before.before.before.before.before.before.before) c.in_default.is c.set_right.ensures)

@@ -6,9 +6,6 @@ use borrow.Author.Rules.{rules}
 use Rattle.entries.proofs.proposing.list_of_proposal.Statement.{statement}
 use Rattle.entries.proofs.proposing.list_of_proposal.Tie as tie
 
-abbrev entry : tie.After-list_of_proposal → tie.Start
-entry c = c.before.before.before.before.before.before.before
-
 counted-requires : tie.Need-counted-requires
 counted-requires c κs =
     let a = c.args in

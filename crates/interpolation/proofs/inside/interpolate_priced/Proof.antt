@@ -7,13 +7,13 @@ use native.Mathlib.Omega.{arith}
 use lib.ListN.{take}
 use lib.Seq.{length-take-le}
 use Rattle.alphabet.specs.Codes.{code_on}
-use Rattle.definitions.proofs.Bound.{bound_le}
-use Rattle.definitions.specs.Bound.{bound}
+use Rattle.definitions.proofs.bound-bound.{bound_le}
+use Rattle.definitions.specs.bound-bound.{bound}
 use Rattle.definitions.specs.Limits.{greatest_limit}
 use Rattle.interpolation.proofs.Answers.{refused_by_cost, found_is_answered}
 use Rattle.polynomial.proofs.Coefficients.{count_small}
-use Rattle.matrix.proofs.Columns.{columns_front, columns_cost}
-use Rattle.matrix.specs.Columns.{matrix_cost}
+use Rattle.matrix.proofs.columns-1.{columns_front, columns_cost}
+use Rattle.matrix.specs.columns-1.{matrix_cost}
 use borrow.Author.Rules.{rules}
 use Rattle.interpolation.proofs.inside.interpolate_priced.Statement.{statement}
 use Rattle.interpolation.proofs.inside.interpolate_priced.Tie as tie

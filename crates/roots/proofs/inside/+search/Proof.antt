@@ -267,10 +267,10 @@ module _ (t : ℕ) where
       let g = is-symbol c.before.before.before in
       ⊎_elim
       (λ w.
-      let more = (gone c.before w.1.result w.0.taken w.1.ensures.1 w.1.ensures.0).written _ _ (w.7 ∙ w.3.ensures.0) (w.6 ∙ w.3.ensures.1) in
+      let more = (gone c.before w.1.result w.0.true w.1.ensures.1 w.1.ensures.0).written _ _ (w.7 ∙ w.3.ensures.0) (w.6 ∙ w.3.ensures.1) in
       (omega arith, ap length w.6 ∙ w.3.kept.1.1.1.1.1.1.1.1.0 ∙ l.invariant.1, more.0, more.1))
       (λ w.
-      let begins = begins_no (C s) a.h a.degree l.g a.t3 v.result v.ensures w.0.left in
+      let begins = begins_no (C s) a.h a.degree l.g a.t3 v.result v.ensures w.0.false in
       let same = tried_none (C s) (prefix s) (a.left - 1) (M s) a.out-1.now a.at l.out l.end l.g l.invariant.2 l.invariant.3 begins in
       (omega arith, ap length w.1 ∙ l.invariant.1, w.2 ∙ same.0, w.1 ∙ same.1))
       c.if-first_value-eq0.branch

@@ -27,7 +27,7 @@ front p =
     let r = a.reliabilities.now in
     ap (take (length r)) p.multiplicities_into.ensures ∙ take_at (matrix a.level r) _ (length r) (length_matrix a.level r)
 
--- What was c.before.before is the front, and the front is the multiplicities.
+-- What was turned is the front, and the front is the multiplicities.
 returns : tie.Need-returns
 returns c =
     subst (λ (bytes : List ℕ). Turned bytes c.turn_in_place.result c.turn_in_place.new.entries) (front c.before.before.before.before.before.before)
