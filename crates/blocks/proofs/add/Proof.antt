@@ -5,7 +5,7 @@ use native.Mathlib.Omega.{arith}
 use lib.ListN.{length, get_or}
 use Rattle.definitions.specs.Field.{sum_of}
 use Rattle.blocks.proofs.Blocks.{changed_none, changed_more}
-use Rattle.blocks.specs.row-1.{block, Changed}
+use Rattle.blocks.specs.Row.{block, Changed}
 use borrow.Author.Rules.{rules}
 use Rattle.blocks.proofs.add.Statement.{statement}
 use Rattle.blocks.proofs.add.Tie as tie

@@ -4,7 +4,7 @@ use Prim.Native.Nat.{ℕ, ◌+◌, ◌-◌, ◌≤◌, ◌<◌}
 use native.Mathlib.Omega.{arith}
 use lib.ListN.{length, get_or}
 use Rattle.blocks.proofs.Blocks.{changed_none, changed_more}
-use Rattle.blocks.specs.row-1.{block, Changed}
+use Rattle.blocks.specs.Row.{block, Changed}
 use borrow.Author.Rules.{rules}
 use Rattle.blocks.proofs.put.Statement.{statement}
 use Rattle.blocks.proofs.put.Tie as tie

@@ -5,7 +5,7 @@ use mathlib.Core.Path.{◌∙◌}
 use Prim.Native.Nat.{ℕ, ◌≤◌, ◌<◌}
 use native.Mathlib.Omega.{arith}
 use lib.ListN.{length}
-use Rattle.alphabet.proofs.sizes.{sized}
+use Rattle.alphabet.proofs.Sizes.{sized}
 use Rattle.alphabet.specs.Codes.{code_on}
 use Rattle.definitions.proofs.Table.{Accepts, next, end, room_means, symbols_mean}
 use Rattle.definitions.specs.Answers.{refused, counted}
@@ -13,13 +13,13 @@ use Rattle.definitions.specs.Code.{Symbols}
 use Rattle.definitions.specs.Field.{Code}
 use Rattle.definitions.specs.Refusals.{Line, encode_table}
 use Rattle.refusals.proofs.Chain.{Came, start, ◌▸◌, accepted, answers, stops, goes_on}
-use Rattle.refusals.specs.checked-1.{told_checked}
+use Rattle.refusals.specs.Checked.{told_checked}
 use borrow.Author.Rules.{rules}
 use Rattle.code.proofs.encode.Statement.{statement}
 use Rattle.code.proofs.encode.Tie as tie
 
 abbrev table : tie.After-symbols_of-checked → List Line
-table c = let a = c.args in encode_table (code_on a.alphabet) a.n a.k a.message.now (length a.out-1.now)
+table c = let a = c.args in encode_table (code_on a.alphabet) a.n a.k a.message.now (length a.out.now)
 
 came : (c : tie.After-symbols_of-checked) → Came (table c) [] (told_checked c.symbols_of-checked.result)
 came c =
@@ -36,11 +36,11 @@ fits : (C : Code) (n k : ℕ) (f : List ℕ) (room : ℕ) → 0 < C.symbols → 
 fits C n k f room pos (next s (next l (next r (next a end)))) = (symbols_mean C pos f a, room_means n room r)
 
 -- The call passed all checks: the message has symbols only, and `out` has room for the codeword.
-fit : (c : tie.In_default) → (let a = c.args in Symbols (code_on a.alphabet) a.message.now × (a.n ≤ length a.out-1.now))
+fit : (c : tie.In_default) → (let a = c.args in Symbols (code_on a.alphabet) a.message.now × (a.n ≤ length a.out.now))
 fit c =
     let a = c.args in
     let some : 0 < (code_on a.alphabet).symbols = let z = (sized a.alphabet).least in omega arith in
-    fits (code_on a.alphabet) a.n a.k a.message.now (length a.out-1.now) some (accepted (came c.before) c.in_default.is)
+    fits (code_on a.alphabet) a.n a.k a.message.now (length a.out.now) some (accepted (came c.before) c.in_default.is)
 
 encode-into-requires : tie.Need-encode_into-requires
 encode-into-requires c κs = fit c.before
@@ -51,7 +51,7 @@ returns-2 c =
     let passed = c.in_default.is in
     let a = c.args in (
       goes_on (came c.before.before.before.before.before) [] refused (counted a.n) passed,
-      c.encode_into.ensures ∙ goes_on (came c.before.before.before.before.before) [] (λ _ _. a.out-1.now) _ passed,
+      c.encode_into.ensures ∙ goes_on (came c.before.before.before.before.before) [] (λ _ _. a.out.now) _ passed,
     )
 
 pub encode_spec : {M : Type 1} → statement M

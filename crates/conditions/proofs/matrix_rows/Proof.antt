@@ -12,8 +12,8 @@ use lib.Seq.{sets}
 use Rattle.alphabet.proofs.Sizes.{sized}
 use Rattle.alphabet.specs.Codes.{code_on}
 use Rattle.algebra.proofs.Numbers.{point_symbol}
-use Rattle.monomials.proofs.rows-1.{powers_symbols, exponents_places}
-use Rattle.monomials.specs.rows-1.{Places, powers_row}
+use Rattle.monomials.proofs.Rows.{powers_symbols, exponents_places}
+use Rattle.monomials.specs.Rows.{Places, powers_row}
 use Rattle.conditions.proofs.Placed.{joined_none, none_counted, joined_more, count_more, clear_behind}
 use Rattle.conditions.specs.MaskedRows.{masked_column, column_at, masked_rows}
 use Rattle.definitions.proofs.Codeword.{power_zero, power_suc}

@@ -8,12 +8,12 @@ use borrow.Author.Rules.{rules}
 use lib.ListN.{length}
 use lib.Seq.{sets}
 use Rattle.alphabet.specs.Codes.{code_on}
-use Rattle.monomials.proofs.rows-1.{powers_symbols}
-use Rattle.monomials.specs.rows-1.{powers_row, values_row}
+use Rattle.monomials.proofs.Rows.{powers_symbols}
+use Rattle.monomials.specs.Rows.{powers_row, values_row}
 use Rattle.conditions.proofs.MaskedRows.{orders_none, base_symbol}
 use Rattle.conditions.specs.MaskedRows.{base_at, kept_orders}
 use Rattle.blocks.proofs.Filled.{zeros_from}
-use Rattle.blocks.specs.row-1.{block}
+use Rattle.blocks.specs.Row.{block}
 use Rattle.definitions.specs.Code.{Symbols}
 use Rattle.instances.proofs.Codes.{field_on}
 use Rattle.conditions.proofs.point_rows.Statement.{statement}

@@ -12,7 +12,7 @@ use Rattle.definitions.specs.Answers.{refused, valued}
 use Rattle.definitions.specs.Field.{Code}
 use Rattle.definitions.specs.Refusals.{size}
 use Rattle.refusals.proofs.Chain.{Came, start, ◌▸◌, accepted, answers, goes_on}
-use Rattle.refusals.specs.checked-1.{told_checked}
+use Rattle.refusals.specs.Checked.{told_checked}
 use Rattle.counter.proofs.judge.Statement.{statement}
 use Rattle.counter.proofs.judge.Tie as tie
 

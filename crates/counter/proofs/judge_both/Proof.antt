@@ -13,7 +13,7 @@ use Rattle.counter.proofs.Both.{settled_table, first_sized, second_sized, both_f
 use Rattle.definitions.specs.Answers.{refused, valued}
 use Rattle.definitions.specs.Refusals.{Line, line, symbols, runs_on}
 use Rattle.refusals.proofs.Chain.{Came, start, ◌▸◌, further, accepted, accepts_front, answers, goes_on}
-use Rattle.refusals.specs.checked-1.{or_line, told_checked}
+use Rattle.refusals.specs.Checked.{or_line, told_checked}
 use Rattle.rows.specs.Rows.{list_line}
 use Rattle.counter.proofs.judge_both.Statement.{statement}
 use Rattle.counter.proofs.judge_both.Tie as tie

@@ -14,7 +14,7 @@ use Rattle.definitions.specs.Field.{Code}
 use Rattle.definitions.specs.Held.{Held, held, totals_of, held_of, with_added}
 use Rattle.definitions.specs.Weights.{cost}
 use Rattle.edits.proofs.Edits.{above_refused, not_given, none_above_done}
-use Rattle.edits.proofs.entries-1.{low_sum}
+use Rattle.edits.proofs.Entries.{low_sum}
 use Rattle.edits.proofs.add_right.Statement.{statement}
 use Rattle.edits.proofs.add_right.Tie as tie
 

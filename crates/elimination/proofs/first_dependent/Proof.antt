@@ -5,7 +5,7 @@ use Prim.Native.Nat.{◌+◌, ◌*◌, ◌-◌, ◌≤◌, ◌<◌}
 use native.Mathlib.Omega.{arith}
 use Rattle.alphabet.specs.Codes.{code_on}
 use Rattle.elimination.proofs.Steps.{ZeroFrom, none_zero, zero_more, eliminated_none, eliminated_more}
-use Rattle.pivots.specs.system-1.{Eliminated, Within}
+use Rattle.pivots.specs.System.{Eliminated, Within}
 use Rattle.blocks.specs.Row.{block}
 use borrow.Author.Rules.{rules}
 use Rattle.elimination.proofs.first_dependent.Statement.{statement}

@@ -17,7 +17,7 @@ GivenOf s w = Tabled (code_on w) s.args.table.now × SymbolRows (code_on w) s.ar
 
 -- what solves the triangle, over this alphabet
 abbrev SolvedOf : tie.Start → List ℕ → Alphabet → Type 0
-SolvedOf s after w = let a = s.args in Solved (code_on w) a.j 0 a.system.now a.out-1.now after
+SolvedOf s after w = let a = s.args in Solved (code_on w) a.j 0 a.system.now a.out.now after
 
 solve-by-requires : tie.Need-solve_by-requires
 solve-by-requires c κs =

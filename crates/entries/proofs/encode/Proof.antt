@@ -8,7 +8,7 @@ use Rattle.entries.proofs.encode.Tie as tie
 counted-requires : tie.Need-counted-requires
 counted-requires c κs =
     let a = c.args in
-    rw c.encode.ensures.0 (encode_narrow a.alphabet a.n a.k a.message.now a.out-1.now)
+    rw c.encode.ensures.0 (encode_narrow a.alphabet a.n a.k a.message.now a.out.now)
 
 -- The only end: what crosses to C is what `code::encode` answered, and the memory is as that left
 -- it.

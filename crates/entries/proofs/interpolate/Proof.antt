@@ -8,7 +8,7 @@ use Rattle.entries.proofs.interpolate.Tie as tie
 interpolated-requires : tie.Need-interpolated-requires
 interpolated-requires c κs =
     let a = c.args in
-    interpolation_narrow a.alphabet a.n a.k a.limit a.matrix.now a.out-1.now _ _ c.interpolate.ensures
+    interpolation_narrow a.alphabet a.n a.k a.limit a.matrix.now a.out.now _ _ c.interpolate.ensures
 
 -- The only end: what `interpolation::interpolate` promises of its answer is true of what crosses.
 returns : tie.Need-returns

@@ -8,7 +8,7 @@ use Rattle.entries.proofs.multiplicities.Tie as tie
 counted-requires : tie.Need-counted-requires
 counted-requires c κs =
     let a = c.args in
-    rw c.multiplicities.ensures.0 (multiplicities_narrow a.alphabet a.n a.level a.reliabilities.now a.out-1.now)
+    rw c.multiplicities.ensures.0 (multiplicities_narrow a.alphabet a.n a.level a.reliabilities.now a.out.now)
 
 -- The only end: what crosses to C is what `weights::multiplicities` answered, and the memory is as
 -- that left it.

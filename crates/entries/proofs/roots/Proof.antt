@@ -9,7 +9,7 @@ use Rattle.entries.proofs.roots.Tie as tie
 counted-requires : tie.Need-counted-requires
 counted-requires c κs =
     let a = c.args in
-    rw c.roots.ensures.0 (roots_narrow a.alphabet a.degree a.k a.coefficients.now a.out-1.now)
+    rw c.roots.ensures.0 (roots_narrow a.alphabet a.degree a.k a.coefficients.now a.out.now)
 
 -- The only end: what crosses to C is what `roots::roots` answered, and the memory is as that left
 -- it.

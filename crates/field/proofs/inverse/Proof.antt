@@ -13,7 +13,7 @@ use Rattle.definitions.specs.Refusals.{inverse_table}
 use Rattle.field.proofs.Operands.{symbol_line, zero_line, nonzero_symbol}
 use Rattle.tables.specs.Table.{Inverses}
 use Rattle.refusals.proofs.Chain.{Came, start, ◌▸◌, accepted, answers, goes_on}
-use Rattle.refusals.specs.checked-1.{passed, or_line, line_of, told_checked}
+use Rattle.refusals.specs.Checked.{passed, or_line, line_of, told_checked}
 use Rattle.refusals.specs.declared.Refusal.TheVariants.{Symbol}
 use borrow.Author.Rules.{rules}
 use Rattle.field.proofs.inverse.Statement.{statement}

@@ -7,7 +7,7 @@ use Rattle.alphabet.proofs.Sizes.{sized}
 use Rattle.alphabet.specs.Codes.{code_on}
 use Rattle.alphabet.specs.declared.Alphabet.TheVariants.{Sixteen, ThirtyTwo}
 use Rattle.alphabet.specs.declared.Alphabet.{Alphabet}
-use Rattle.definitions.proofs.table-1.{gives, accepts}
+use Rattle.definitions.proofs.Table.{gives, accepts}
 use Rattle.definitions.specs.Answers.{refused, valued, product_answer}
 use Rattle.field.proofs.Operands.{operand_refused, operands_accepted, operands_symbols}
 use borrow.Author.Rules.{rules}

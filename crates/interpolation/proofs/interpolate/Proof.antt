@@ -10,14 +10,14 @@ use Rattle.turning.proofs.Turned.{bytes_within, turned_bytes, turned_costs}
 use Rattle.interpolation.proofs.Answers.{front, fits, refused_by_check, passed_on}
 use Rattle.interpolation.specs.Answered.{Fit}
 use Rattle.refusals.proofs.Chain.{Came, start, ◌▸◌, accepted}
-use Rattle.refusals.specs.checked-1.{told_checked}
+use Rattle.refusals.specs.Checked.{told_checked}
 use borrow.Author.Rules.{rules}
 use Rattle.interpolation.proofs.interpolate.Statement.{statement}
 use Rattle.interpolation.proofs.interpolate.Tie as tie
 
 -- what the chain of checks made of the call, line by line
 came : (c : tie.After-symbols-checked)
-    → (let a = c.args in Came (front (code_on a.alphabet) a.n a.k a.limit a.matrix.now (length a.out-1.now)) [] (told_checked c.symbols-checked.result))
+    → (let a = c.args in Came (front (code_on a.alphabet) a.n a.k a.limit a.matrix.now (length a.out.now)) [] (told_checked c.symbols-checked.result))
 came c =
     start ▸ c.sizes.ensures ▸ c.or.ensures ▸ c.entries.ensures ▸ c.or-2.ensures ▸ c.symbols-checked.ensures
 
@@ -25,15 +25,15 @@ came c =
 returns : tie.Need-returns-in-Refused
 returns c =
     let a = c.args in
-    refused_by_check (code_on a.alphabet) a.n a.k a.limit a.matrix.now a.out-1.now (came c.before) c.in-Refused.is
+    refused_by_check (code_on a.alphabet) a.n a.k a.limit a.matrix.now a.out.now (came c.before) c.in-Refused.is
 
 -- what the checks say of a call that passed them
 fit : (t : tie.In_default)
     → (let a = t.args in
-    Fit (code_on a.alphabet) a.n a.k a.limit (length a.out-1.now) × (length a.matrix.now ≡ (code_on a.alphabet).symbols * a.n))
+    Fit (code_on a.alphabet) a.n a.k a.limit (length a.out.now) × (length a.matrix.now ≡ (code_on a.alphabet).symbols * a.n))
 fit t =
     let a = t.args in
-    fits (code_on a.alphabet) a.n a.k a.limit a.matrix.now (length a.out-1.now) (accepted (came t.before) t.in_default.is)
+    fits (code_on a.alphabet) a.n a.k a.limit a.matrix.now (length a.out.now) (accepted (came t.before) t.in_default.is)
 
 turn-requires : tie.Need-turn-cost-requires
 turn-requires c κs =
@@ -52,7 +52,7 @@ returns-2 : tie.Need-returns
 returns-2 c =
     let a = c.args in
     let C = code_on a.alphabet in
-    passed_on C a.n a.k a.limit a.matrix.now a.out-1.now (came c.before.before.before.before.before.before.before.before.before) c.in_default.is
+    passed_on C a.n a.k a.limit a.matrix.now a.out.now (came c.before.before.before.before.before.before.before.before.before) c.in_default.is
     (turned_bytes C a.n (fit c.before.before.before.before.before.before.before.before).1 c.turn-cost.ensures) _ _ c.interpolate_priced.ensures
 
 pub interpolate_spec : {M : Type 1} → statement M

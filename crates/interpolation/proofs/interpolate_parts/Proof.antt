@@ -11,7 +11,7 @@ use Rattle.interpolation.specs.Answered.{Fit}
 use Rattle.matrix.proofs.Columns.{rightly_priced}
 use Rattle.matrix.proofs.Record.{stored_tried}
 use Rattle.refusals.proofs.Chain.{Came, start, ◌▸◌, accepted}
-use Rattle.refusals.specs.checked-1.{told_checked}
+use Rattle.refusals.specs.Checked.{told_checked}
 use borrow.Author.Rules.{rules}
 use Rattle.interpolation.proofs.interpolate_parts.Statement.{statement}
 use Rattle.interpolation.proofs.interpolate_parts.Tie as tie
@@ -22,7 +22,7 @@ given c = let a = c.args in held a.n a.cost a.totals.now a.entries.now
 
 -- what the chain of checks made of the call, line by line
 came : (c : tie.After-symbols-checked)
-    → (let a = c.args in Came (held_front (code_on a.alphabet) (given c) a.k a.limit (length a.out-1.now)) [] (told_checked c.symbols-checked.result))
+    → (let a = c.args in Came (held_front (code_on a.alphabet) (given c) a.k a.limit (length a.out.now)) [] (told_checked c.symbols-checked.result))
 came c =
     start ▸ c.sizes.ensures ▸ c.or.ensures
     ▸ stored_tried (code_on c.args.alphabet) (given c) (told_checked c.or.result) c.or-2.ensures c.rightly.ensures ▸ c.or-3.ensures ▸ c.symbols-checked.ensures
@@ -32,14 +32,14 @@ returns : tie.Need-returns-in-Refused
 returns c =
     let a = c.args in
     let C = code_on a.alphabet in
-    refused_by_check C a.n a.k a.limit (bytes_of C (given c.before)) a.out-1.now (came c.before) c.in-Refused.is
+    refused_by_check C a.n a.k a.limit (bytes_of C (given c.before)) a.out.now (came c.before) c.in-Refused.is
 
 -- what the checks say of a record that passed them
 fit : (t : tie.In_default)
-    → (let a = t.args in Fit (code_on a.alphabet) a.n a.k a.limit (length a.out-1.now) × Rightly (code_on a.alphabet) (given t.before))
+    → (let a = t.args in Fit (code_on a.alphabet) a.n a.k a.limit (length a.out.now) × Rightly (code_on a.alphabet) (given t.before))
 fit t =
     let a = t.args in
-    held_fits (code_on a.alphabet) (given t.before) a.k a.limit (length a.out-1.now) (accepted (came t.before) t.in_default.is)
+    held_fits (code_on a.alphabet) (given t.before) a.k a.limit (length a.out.now) (accepted (came t.before) t.in_default.is)
 
 interpolate-priced-requires : tie.Need-interpolate_priced-requires
 interpolate-priced-requires c κs =
@@ -51,7 +51,7 @@ returns-2 : tie.Need-returns
 returns-2 c =
     let a = c.args in
     let C = code_on a.alphabet in
-    passed_on C a.n a.k a.limit (bytes_of C (given c.before.before.before.before.before)) a.out-1.now (came c.before.before.before.before.before) c.in_default.is refl _ _ c.interpolate_priced.ensures
+    passed_on C a.n a.k a.limit (bytes_of C (given c.before.before.before.before.before)) a.out.now (came c.before.before.before.before.before) c.in_default.is refl _ _ c.interpolate_priced.ensures
 
 pub interpolate_parts_spec : {M : Type 1} → statement M
 interpolate_parts_spec =

@@ -12,7 +12,7 @@ use Rattle.list.proofs.Answers.{cost_left, list_front, list_fits}
 use Rattle.list_within.proofs.Answers.{refused_by_check, passed_on}
 use Rattle.list_within.specs.Within.{Fit}
 use Rattle.refusals.proofs.Chain.{Came, start, ◌▸◌, accepted}
-use Rattle.refusals.specs.checked-1.{told_checked}
+use Rattle.refusals.specs.Checked.{told_checked}
 use borrow.Author.Rules.{rules}
 use Rattle.list.proofs.list_of_multiplicities.Statement.{statement}
 use Rattle.list.proofs.list_of_multiplicities.Tie as tie

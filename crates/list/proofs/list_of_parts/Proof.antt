@@ -13,7 +13,7 @@ use Rattle.list_within.specs.Within.{Fit}
 use Rattle.matrix.proofs.Columns.{rightly_priced}
 use Rattle.matrix.proofs.Record.{stored_tried}
 use Rattle.refusals.proofs.Chain.{Came, start, ◌▸◌, accepted}
-use Rattle.refusals.specs.checked-1.{told_checked}
+use Rattle.refusals.specs.Checked.{told_checked}
 use borrow.Author.Rules.{rules}
 use Rattle.list.proofs.list_of_parts.Statement.{statement}
 use Rattle.list.proofs.list_of_parts.Tie as tie

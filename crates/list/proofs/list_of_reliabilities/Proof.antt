@@ -16,7 +16,7 @@ use Rattle.list.proofs.Answers.{cost_left, read_start, read_fits}
 use Rattle.list_within.proofs.Answers.{refused_by_check, passed_on}
 use Rattle.list_within.specs.Within.{Fit}
 use Rattle.refusals.proofs.Chain.{Came, start, ◌▸◌, further, accepts_front, accepted}
-use Rattle.refusals.specs.checked-1.{told_checked}
+use Rattle.refusals.specs.Checked.{told_checked}
 use borrow.Author.Rules.{rules}
 use Rattle.list.proofs.list_of_reliabilities.Statement.{statement}
 use Rattle.list.proofs.list_of_reliabilities.Tie as tie

@@ -8,16 +8,16 @@ use lib.ListN.{length, take, replicate}
 use lib.Seq.{length-take-le}
 use Rattle.alphabet.specs.Codes.{code_on}
 use Rattle.definitions.proofs.Powers.{powers_of_y}
-use Rattle.definitions.specs.bound-bound.{bound}
+use Rattle.definitions.specs.Bound.{bound}
 use Rattle.definitions.specs.Field.{Code}
 use Rattle.definitions.specs.Limits.{coefficient_room, greatest_limit, greatest_rows}
-use Rattle.definitions.specs.polynomial-1.{Interpolates}
+use Rattle.definitions.specs.Polynomial.{Interpolates}
 use Rattle.instances.proofs.Codes.{field_on}
 use Rattle.list_within.proofs.Found.{degree_small, bound_of_cost, prefix, length_after}
 use Rattle.list_within.proofs.Listing.{lists}
 use Rattle.list_within.specs.Within.{Rooted}
 use Rattle.matrix.specs.Columns.{matrix_of}
-use Rattle.polynomial-1.proofs.Coefficients.{count_small}
+use Rattle.polynomial.proofs.Coefficients.{count_small}
 use borrow.Author.Rules.{rules}
 use Rattle.list_within.proofs.list_of_columns.Statement.{statement}
 use Rattle.list_within.proofs.list_of_columns.Tie as tie

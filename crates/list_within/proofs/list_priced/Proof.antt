@@ -9,8 +9,8 @@ use lib.Seq.{length-take-le}
 use Rattle.alphabet.specs.Codes.{code_on}
 use Rattle.definitions.specs.Field.{Code}
 use Rattle.list_within.proofs.Answers.{refused_by_cost, listed}
-use Rattle.matrix.proofs.columns-1.{columns_front, columns_cost}
-use Rattle.matrix.specs.columns-1.{matrix_of}
+use Rattle.matrix.proofs.Columns.{columns_front, columns_cost}
+use Rattle.matrix.specs.Columns.{matrix_of}
 use borrow.Author.Rules.{rules}
 use Rattle.list_within.proofs.list_priced.Statement.{statement}
 use Rattle.list_within.proofs.list_priced.Tie as tie

@@ -6,7 +6,7 @@ use borrow.Author.Rules.{rules}
 use lib.ListN.{length}
 use Rattle.alphabet.specs.Codes.{code_on}
 use Rattle.alphabet.specs.declared.Alphabet.{Alphabet}
-use Rattle.matrix.specs.columns-1.{matrix_of}
+use Rattle.matrix.specs.Columns.{matrix_of}
 use Rattle.matrix.proofs.in_columns.Statement.{statement}
 use Rattle.matrix.proofs.in_columns.Tie as tie
 

@@ -14,7 +14,7 @@ use Rattle.list_within.specs.Within.{Fit}
 use Rattle.offers.proofs.Answers.{plan_fits}
 use Rattle.plans.proofs.Taken.{cost_and_plan_left, plan_start}
 use Rattle.refusals.proofs.Chain.{Came, start, ◌▸◌, further, accepts_front, accepted}
-use Rattle.refusals.specs.checked-1.{told_checked}
+use Rattle.refusals.specs.Checked.{told_checked}
 use borrow.Author.Rules.{rules}
 use Rattle.offers.proofs.list_of_plan.Statement.{statement}
 use Rattle.offers.proofs.list_of_plan.Tie as tie

@@ -17,7 +17,7 @@ use Rattle.matrix.proofs.Record.{stored_tried}
 use Rattle.offers.proofs.Answers.{held_plan_fits}
 use Rattle.plans.proofs.Taken.{cost_and_plan_left, held_plan_start}
 use Rattle.refusals.proofs.Chain.{Came, start, ◌▸◌, further, accepts_front, accepted}
-use Rattle.refusals.specs.checked-1.{told_checked}
+use Rattle.refusals.specs.Checked.{told_checked}
 use borrow.Author.Rules.{rules}
 use Rattle.offers.proofs.list_of_plan_of_parts.Statement.{statement}
 use Rattle.offers.proofs.list_of_plan_of_parts.Tie as tie

@@ -4,7 +4,7 @@ use mathlib.Core.Path.{◌≡◌, sym, ◌∙◌, ap, ap₂, subst}
 use Prim.Native.Nat.{ℕ, ◌-◌}
 use lib.ListN.{length, take, drop, replicate}
 use Rattle.alphabet.specs.Codes.{code_on}
-use Rattle.numbers-1.specs.numbers-1.{numbers_of}
+use Rattle.numbers.specs.Numbers.{numbers_of}
 use Rattle.output.proofs.Input.{no_header, header, in_front, front_within, bytes_are}
 use Rattle.output.specs.Program.{header_bytes}
 use Rattle.output.specs.Rooms.{numbers_read}
@@ -20,7 +20,7 @@ returns c =
     let put = c.put_refused in
     let told = ap₂ refused_line c.number.ensures.0 c.place.ensures in
     let e = told ∙ no_header (code_on a.alphabet) a.input.now c.if-input-lt-HEADER.true in
-    subst (λ (text : List ℕ). Puts a.out-1.now 0 text put.result put.new.0) e put.ensures
+    subst (λ (text : List ℕ). Puts a.out.now 0 text put.result put.new.0) e put.ensures
 
 abbrev bytes : tie.After-read-count → List ℕ
 bytes at_read = at_read.args.input.now
@@ -55,7 +55,7 @@ returns-2 c =
     let e = header (code_on a.alphabet) (bytes c.before.before.before.before.before.before) _ c.wide-n.result c.wide-k.result c.wide-level.result c.wide-limit.result
     c.if-input-lt-HEADER.false c.wide-n.ensures.0 c.wide-k.ensures.0 c.wide-level.ensures.0 c.wide-limit.ensures.0
     (words-in-front c.before.before.before.before.before.before ∙ ap numbers_of (bytes_are (bytes c.before.before.before.before.before.before))) in
-    subst (λ (text : List ℕ). Puts a.out-1.now 0 text put.result put.new.1.1.1.1.1.1.0) e put.ensures
+    subst (λ (text : List ℕ). Puts a.out.now 0 text put.result put.new.1.1.1.1.1.1.0) e put.ensures
 
 pub answer_to_spec : {M : Type 1} → statement M
 answer_to_spec =

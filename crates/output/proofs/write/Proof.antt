@@ -40,11 +40,11 @@ answer-to-requires c κs =
 answered : (at-start : tie.Start) (words after : List ℕ) (end : ℕ)
     → (let a = at-start.args in
     let text = output (code_on a.alphabet) a.input.now in
-    words ≡ text → Puts a.out-1.now 0 words end after → Puts a.out-1.now 0 text end after × IsPrefixLen end after)
+    words ≡ text → Puts a.out.now 0 words end after → Puts a.out.now 0 text end after × IsPrefixLen end after)
 answered at-start words after end e puts =
     let a = at-start.args in
-    let whole = subst (λ (w : List ℕ). Puts a.out-1.now 0 w end after) e puts in
-    (whole, puts_within a.out-1.now after (output (code_on a.alphabet) a.input.now) 0 end (omega arith) whole)
+    let whole = subst (λ (w : List ℕ). Puts a.out.now 0 w end after) e puts in
+    (whole, puts_within a.out.now after (output (code_on a.alphabet) a.input.now) 0 end (omega arith) whole)
 
 -- The input is longer than what is answered: its beginning has one number too many already, and the
 -- same output.

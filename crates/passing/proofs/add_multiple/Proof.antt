@@ -5,7 +5,7 @@ use native.Mathlib.Omega.{arith}
 use lib.ListN.{get_or, set}
 use Rattle.alphabet.specs.Codes.{code_on}
 use Rattle.blocks.proofs.Blocks.{changed_none, changed_more}
-use Rattle.blocks.specs.row-1.{Changed}
+use Rattle.blocks.specs.Row.{Changed}
 use Rattle.definitions.specs.Field.{sum_of}
 use Rattle.definitions.specs.Limits.{greatest_level}
 use borrow.Author.Rules.{rules}

@@ -7,7 +7,7 @@ use lib.ListN.{length}
 use Rattle.alphabet.specs.Codes.{code_on}
 use Rattle.definitions.specs.Limits.{greatest_limit}
 use Rattle.pivots.proofs.Blocks.{lower_none, lower_more, listed_rows}
-use Rattle.pivots.specs.system-1.{DoneIn, LoweredIn, column_of}
+use Rattle.pivots.specs.System.{DoneIn, LoweredIn, column_of}
 use Rattle.instances.proofs.Codes.{field_on}
 use Rattle.blocks.specs.Row.{block, InRow}
 use borrow.Author.Rules.{rules}

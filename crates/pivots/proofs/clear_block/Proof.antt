@@ -5,7 +5,7 @@ use mathlib.Core.Path.{sym, subst}
 use Prim.Native.Nat.{ℕ, ◌+◌}
 use Rattle.alphabet.specs.Codes.{code_on}
 use Rattle.alphabet.specs.declared.Alphabet.{Alphabet}
-use Rattle.pivots.specs.system-1.{System, Factors, DoneIn}
+use Rattle.pivots.specs.System.{System, Factors, DoneIn}
 use Rattle.blocks.specs.Row.{block}
 use borrow.Author.Rules.{rules}
 use Rattle.pivots.proofs.clear_block.Statement.{statement}

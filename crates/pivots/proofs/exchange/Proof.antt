@@ -4,7 +4,7 @@ use Prim.Native.Nat.{ℕ, ◌*◌, ◌/◌, ◌-◌, ◌≤◌}
 use native.Mathlib.Omega.{arith}
 use Rattle.alphabet.specs.Codes.{code_on}
 use Rattle.pivots.proofs.Blocks.{exchange_none, exchange_more}
-use Rattle.pivots.specs.system-1.{ExchangedIn}
+use Rattle.pivots.specs.System.{ExchangedIn}
 use Rattle.blocks.specs.Row.{block}
 use borrow.Author.Rules.{rules}
 use Rattle.pivots.proofs.exchange.Statement.{statement}

@@ -35,7 +35,7 @@ loop-again c =
       omega arith,
       length-set c.loop-t.places c.loop-t.n t.result ∙ i.3,
       length-set c.loop-t.c c.loop-t.n _ ∙ i.4,
-      rows_more c.loop-t.t a.j c.loop-t.n _ _ _ a.system.now c.loop-t.places c.loop-t.c i.0 p q i.5 refl t.ensures c.one_of_lem.ensures.0,
+      rows_more c.loop-t.t a.j c.loop-t.n _ _ _ a.system.now c.loop-t.places c.loop-t.c i.0 p q i.5 refl t.ensures c.one_of-n.ensures.0,
     )
 
 -- The loop has ended at t = rows, so all rows behind j are looked at.

@@ -13,7 +13,7 @@ use Rattle.definitions.specs.Refusals.{Line, size, entries, entries_of, columns}
 use Rattle.turning.proofs.Turned.{bytes_within, turned_bytes, turned_costs}
 use Rattle.planner.proofs.Checking.{plan_left}
 use Rattle.refusals.proofs.Chain.{Came, start, ◌▸◌, further, accepts_front, accepted, answers}
-use Rattle.refusals.specs.checked-1.{told_checked}
+use Rattle.refusals.specs.Checked.{told_checked}
 use borrow.Author.Rules.{rules}
 use Rattle.planner.proofs.check_plan.Statement.{statement}
 use Rattle.planner.proofs.check_plan.Tie as tie

@@ -17,7 +17,7 @@ use Rattle.definitions.specs.Refusals.{Line, size, entries, entries_of, columns}
 use Rattle.matrix.proofs.Record.{stored_tried}
 use Rattle.planner.proofs.Checking.{plan_left}
 use Rattle.refusals.proofs.Chain.{Came, start, ◌▸◌, further, accepts_front, accepted, answers}
-use Rattle.refusals.specs.checked-1.{told_checked}
+use Rattle.refusals.specs.Checked.{told_checked}
 use borrow.Author.Rules.{rules}
 use Rattle.planner.proofs.check_plan_of_parts.Statement.{statement}
 use Rattle.planner.proofs.check_plan_of_parts.Tie as tie

@@ -15,7 +15,7 @@ use Rattle.definitions.specs.Refusals.{Line, size, entries, room, columns}
 use Rattle.plans.proofs.Planning.{length_plan}
 use Rattle.planner.proofs.Checking.{length_cleared, cleared_front, kept_behind}
 use Rattle.refusals.proofs.Chain.{Came, start, ◌▸◌, further, accepts_front, accepted, answers, stops, goes_on}
-use Rattle.refusals.specs.checked-1.{told_checked}
+use Rattle.refusals.specs.Checked.{told_checked}
 use borrow.Author.Rules.{rules}
 use Rattle.planner.proofs.plan.Statement.{statement}
 use Rattle.planner.proofs.plan.Tie as tie
@@ -39,16 +39,16 @@ module _ (s : tie.Start) where
   code = code_on s.args.alphabet
 
   abbrev lines : List Line
-  lines = let a = s.args in settling code a.n a.steps a.reliabilities.now (length a.out-1.now)
+  lines = let a = s.args in settling code a.n a.steps a.reliabilities.now (length a.out.now)
 
   abbrev column-line : List Line
   column-line = columns code s.args.n s.args.reliabilities.now ∷ []
 
   abbrev Fits : Type 0
-  Fits = let a = s.args in Fit code a.n a.steps a.reliabilities.now (length a.out-1.now)
+  Fits = let a = s.args in Fit code a.n a.steps a.reliabilities.now (length a.out.now)
 
   fits-call : Accepts lines → Fits
-  fits-call = let a = s.args in fits code a.n a.steps a.reliabilities.now (length a.out-1.now)
+  fits-call = let a = s.args in fits code a.n a.steps a.reliabilities.now (length a.out.now)
 
 settled : (c : tie.After-entries_room-settled) → Came (lines c.before.before.before.before.before.before) [] (told_checked c.entries_room-settled.result)
 settled c =
@@ -56,7 +56,7 @@ settled c =
 
 came : (c : tie.After-columns_checked-checked)
     → (let a = c.args in
-    Came (plan_table (code c.before.before.before.before.before.before.before) a.n a.steps a.reliabilities.now (length a.out-1.now)) [] (told_checked c.columns_checked-checked.result))
+    Came (plan_table (code c.before.before.before.before.before.before.before) a.n a.steps a.reliabilities.now (length a.out.now)) [] (told_checked c.columns_checked-checked.result))
 came c = further (column-line c.before.before.before.before.before.before.before) (settled c.before) ▸ c.columns_checked-checked.ensures
 
 columns-checked-requires : tie.Need-columns_checked-checked-requires

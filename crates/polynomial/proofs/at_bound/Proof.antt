@@ -4,11 +4,11 @@ use mathlib.Core.Path.{◌∙◌, ap}
 use Prim.Native.Nat.{ℕ, ◌-◌, ◌≤◌, ◌<◌}
 use native.Mathlib.Omega.{arith}
 use Rattle.definitions.proofs.Powers.{bound_fits}
-use Rattle.definitions.specs.bound-bound.{bound}
-use Rattle.polynomial-leading.proofs.Coefficients.{count_small}
+use Rattle.definitions.specs.Bound.{bound}
+use Rattle.polynomial.proofs.Coefficients.{count_small}
 use borrow.Author.Rules.{rules}
-use Rattle.polynomial-leading.proofs.at_bound.Statement.{statement}
-use Rattle.polynomial-leading.proofs.at_bound.Tie as tie
+use Rattle.polynomial.proofs.at_bound.Statement.{statement}
+use Rattle.polynomial.proofs.at_bound.Tie as tie
 
 count-requires : tie.Need-count-count-requires
 count-requires c κs =

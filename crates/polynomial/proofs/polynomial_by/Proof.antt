@@ -5,7 +5,7 @@ use native.Mathlib.Omega.{arith}
 use lib.ListN.{length}
 use Rattle.alphabet.proofs.Sizes.{sized}
 use Rattle.alphabet.specs.Codes.{code_on}
-use Rattle.pivots.specs.system-1.{System, Within}
+use Rattle.pivots.specs.System.{System, Within}
 use Rattle.instances.proofs.Codes.{field_on}
 use Rattle.polynomial.proofs.Coefficients.{degree_small, blocks_fit, rows_priced, more, start_system, start_within, polynomial_found}
 use Rattle.polynomial.proofs.Empty.{clear_from, clear_system}

@@ -12,11 +12,11 @@ use Rattle.polynomial.proofs.polynomial_in.Tie as tie
 
 -- what the entry says of a matrix of symbols of this alphabet
 abbrev GivenOf : tie.Start → Alphabet → Type 0
-GivenOf s w = let a = s.args in Given (code_on w) a.matrix.now a.v a.d a.count a.cost a.out-1.now
+GivenOf s w = let a = s.args in Given (code_on w) a.matrix.now a.v a.d a.count a.cost a.out.now
 
 -- the polynomial of a matrix of symbols of this alphabet
 abbrev FoundOf : tie.Start → ℕ → List ℕ → Alphabet → Type 0
-FoundOf s place after w = let a = s.args in Found (code_on w) a.matrix.now a.v a.d a.out-1.now place after
+FoundOf s place after w = let a = s.args in Found (code_on w) a.matrix.now a.v a.d a.out.now place after
 
 polynomial-by-requires : tie.Need-polynomial_by-requires
 polynomial-by-requires c κs =

@@ -12,7 +12,7 @@ use Rattle.alphabet.specs.Codes.{code_on}
 use Rattle.definitions.proofs.Monomials.{degree_grows}
 use Rattle.definitions.proofs.Powers.{powers_of_y}
 use Rattle.definitions.proofs.Proposals.{yes_means}
-use Rattle.definitions.specs.bound-bound.{bound}
+use Rattle.definitions.specs.Bound.{bound}
 use Rattle.definitions.specs.Field.{Code}
 use Rattle.definitions.specs.Limits.{greatest_limit}
 use Rattle.definitions.specs.Proposals.{within_bound, is_yes, proposed}
@@ -22,8 +22,8 @@ use Rattle.list_within.proofs.Answers.{refused_by_cost}
 use Rattle.list_within.proofs.Found.{degree_small}
 use Rattle.list_within.proofs.Listing.{lists}
 use Rattle.list_within.specs.Within.{Rooted}
-use Rattle.matrix.proofs.columns-1.{columns_front}
-use Rattle.matrix.specs.columns-1.{matrix_of}
+use Rattle.matrix.proofs.Columns.{columns_front}
+use Rattle.matrix.specs.Columns.{matrix_of}
 use Rattle.proposal_within.proofs.Answers.{refused_by_degree, refused_by_proposal, listed_by_proposal}
 use borrow.Author.Rules.{rules}
 use Rattle.proposal_within.proofs.list_proposed.Statement.{statement}

@@ -5,7 +5,7 @@ use mathlib.Core.Path.{◌≡◌, refl, sym, ◌∙◌, ap}
 use Prim.Native.Nat.{ℕ, ◌*◌, ◌-◌, ◌≤◌}
 use native.Mathlib.Omega.{arith}
 use lib.ListN.{length, get_or}
-use Rattle.alphabet.proofs.sizes-sized.{sized}
+use Rattle.alphabet.proofs.Sizes.{sized}
 use Rattle.alphabet.specs.Codes.{code_on}
 use Rattle.definitions.proofs.Table.{Accepts}
 use Rattle.definitions.specs.Code.{Symbols}
@@ -16,7 +16,7 @@ use Rattle.definitions.specs.Refusals.{Line}
 use Rattle.proposals.proofs.Answers.{says_yes, says_no}
 use Rattle.proposals.proofs.Fits.{Fits, sized_fit, symbol_lines, symbols_fit, given_front, check_start, check_fits}
 use Rattle.refusals.proofs.Chain.{Came, start, ◌▸◌, further, accepts_front, accepts_behind, accepted, answers}
-use Rattle.refusals.specs.checked-1.{told_checked}
+use Rattle.refusals.specs.Checked.{told_checked}
 use Rattle.turning.proofs.Turned.{bytes_within, turned_bytes, turned_costs}
 use borrow.Author.Rules.{rules}
 use Rattle.proposals.proofs.check_proposal.Statement.{statement}

@@ -4,7 +4,7 @@ use mathlib.Core.List.{List, [], ◌++◌}
 use mathlib.Core.Path.{refl, sym, ◌∙◌}
 use Prim.Native.Nat.{◌-◌}
 use native.Mathlib.Omega.{arith}
-use Rattle.alphabet.proofs.sizes-sized.{sized}
+use Rattle.alphabet.proofs.Sizes.{sized}
 use Rattle.alphabet.specs.Codes.{code_on}
 use Rattle.definitions.proofs.Held.{Rightly, used_within}
 use Rattle.definitions.proofs.Table.{Accepts}
@@ -15,7 +15,7 @@ use Rattle.matrix.proofs.Record.{stored_tried}
 use Rattle.proposals.proofs.Answers.{says_yes, says_no}
 use Rattle.proposals.proofs.Fits.{Fits, sized_fit, symbol_lines, symbols_fit, given_entries, held_check_start, held_check_fits}
 use Rattle.refusals.proofs.Chain.{Came, start, ◌▸◌, further, accepts_front, accepts_behind, accepted, answers}
-use Rattle.refusals.specs.checked-1.{told_checked}
+use Rattle.refusals.specs.Checked.{told_checked}
 use borrow.Author.Rules.{rules}
 use Rattle.proposals.proofs.check_proposal_of_parts.Statement.{statement}
 use Rattle.proposals.proofs.check_proposal_of_parts.Tie as tie

@@ -5,7 +5,7 @@ use mathlib.Core.Path.{◌≡◌, refl}
 use Prim.Native.Nat.{ℕ, ◌*◌, ◌≤◌}
 use native.Mathlib.Omega.{arith}
 use lib.ListN.{length, get_or}
-use Rattle.alphabet.proofs.sizes.{sized}
+use Rattle.alphabet.proofs.Sizes.{sized}
 use Rattle.alphabet.specs.Codes.{code_on}
 use Rattle.definitions.proofs.Table.{Accepts}
 use Rattle.definitions.specs.Code.{Symbols}
@@ -17,7 +17,7 @@ use Rattle.list_within.specs.Within.{Fit}
 use Rattle.proposal_within.specs.Lines.{list_lines}
 use Rattle.proposals.proofs.Fits.{Fits, priced_fit, symbol_lines, symbols_fit, given_front, list_start, list_fits}
 use Rattle.refusals.proofs.Chain.{Came, start, ◌▸◌, further, accepts_front, accepts_behind, accepted}
-use Rattle.refusals.specs.checked-1.{told_checked}
+use Rattle.refusals.specs.Checked.{told_checked}
 use Rattle.turning.proofs.Turned.{bytes_within, turned_bytes, turned_costs}
 use borrow.Author.Rules.{rules}
 use Rattle.proposals.proofs.list_of_proposal.Statement.{statement}

@@ -5,7 +5,7 @@ use mathlib.Core.Path.{refl}
 use Prim.Native.Nat.{ℕ, ◌≤◌}
 use native.Mathlib.Omega.{arith}
 use lib.ListN.{length, get_or}
-use Rattle.alphabet.proofs.sizes.{sized}
+use Rattle.alphabet.proofs.Sizes.{sized}
 use Rattle.alphabet.specs.Codes.{code_on}
 use Rattle.definitions.proofs.Held.{Rightly}
 use Rattle.definitions.proofs.Table.{Accepts}
@@ -21,7 +21,7 @@ use Rattle.matrix.proofs.Record.{stored_tried}
 use Rattle.proposal_within.specs.Lines.{list_lines}
 use Rattle.proposals.proofs.Fits.{Fits, priced_fit, symbol_lines, symbols_fit, given_entries, held_list_start, held_list_fits}
 use Rattle.refusals.proofs.Chain.{Came, start, ◌▸◌, further, accepts_front, accepts_behind, accepted}
-use Rattle.refusals.specs.checked-1.{told_checked}
+use Rattle.refusals.specs.Checked.{told_checked}
 use borrow.Author.Rules.{rules}
 use Rattle.proposals.proofs.list_of_proposal_of_parts.Statement.{statement}
 use Rattle.proposals.proofs.list_of_proposal_of_parts.Tie as tie

@@ -8,7 +8,7 @@ use Rattle.alphabet.proofs.Sizes.{sized}
 use Rattle.alphabet.specs.Codes.{code_on}
 use Rattle.definitions.specs.Refusals.{entries_of, runs_on, symbols}
 use Rattle.proposals.proofs.Lines.{kept_twice, tries_two}
-use Rattle.refusals.specs.checked-1.{or_line, told_checked}
+use Rattle.refusals.specs.Checked.{or_line, told_checked}
 use borrow.Author.Rules.{rules}
 use Rattle.proposals.proofs.symbols_checked.Statement.{statement}
 use Rattle.proposals.proofs.symbols_checked.Tie as tie

@@ -11,7 +11,7 @@ interpolated-requires : tie.Need-interpolated-requires
 interpolated-requires c κs =
     let a = c.args in
     let h = held a.n a.cost a.totals.now a.entries.now in
-    held_interpolation_narrow a.alphabet h a.k a.limit a.out-1.now _ _ c.interpolate_parts.ensures
+    held_interpolation_narrow a.alphabet h a.k a.limit a.out.now _ _ c.interpolate_parts.ensures
 
 -- The only end: what `interpolation::interpolate_parts` promises of its answer is true of what
 -- crosses.

@@ -16,7 +16,7 @@ use Rattle.definitions.specs.Limits.{greatest_count}
 use Rattle.definitions.specs.Polynomial.{is_zero}
 use Rattle.definitions.specs.Refusals.{roots_table}
 use Rattle.refusals.proofs.Chain.{Came, has_tried, accepted, answers, stops, goes_on}
-use Rattle.refusals.specs.checked-checked.{told_checked}
+use Rattle.refusals.specs.Checked.{told_checked}
 use borrow.Author.Rules.{rules}
 use Rattle.roots.proofs.roots.Statement.{statement}
 use Rattle.roots.proofs.roots.Tie as tie
@@ -42,7 +42,7 @@ module _ (C : Code) (pos : 0 < C.symbols) (D k : ℕ) (q : List ℕ) (room : ℕ
 
 came : (c : tie.After-checked-checked)
     → (let a = c.args in
-    Came (roots_table (code_on a.alphabet) a.degree a.k a.coefficients.now (length a.out-1.now)) [] (told_checked c.checked-checked.result))
+    Came (roots_table (code_on a.alphabet) a.degree a.k a.coefficients.now (length a.out.now)) [] (told_checked c.checked-checked.result))
 came c = has_tried _ c.checked-checked.ensures
 
 -- A line of the table is given: its refusal, and the lent memory is as it was.
@@ -56,7 +56,7 @@ roots-into-requires c κs =
     let a = c.args in
     let some : 0 < (code_on a.alphabet).symbols = let z = (sized a.alphabet).least in omega arith in
     let accepts = accepted (came c.before.before) c.in_default.is in
-    let f = fits (code_on a.alphabet) some a.degree a.k a.coefficients.now (length a.out-1.now) accepts in
+    let f = fits (code_on a.alphabet) some a.degree a.k a.coefficients.now (length a.out.now) accepts in
     ((f.sized.0, f.sized.1, f.few), ((f.full, f.spacious), (f.symbols, f.nonzero)))
 
 -- The table accepts the call, so its answer and its memory are those of the search.

@@ -5,7 +5,7 @@ use mathlib.Core.Path.{sym, ◌∙◌, ap, ap₂}
 use borrow.Author.Rules.{rules}
 use Rattle.definitions.specs.Refusals.{line}
 use Rattle.refusals.proofs.Lines.{refusal_kept}
-use Rattle.refusals.specs.checked-1.{Outcome, or_line, told_checked}
+use Rattle.refusals.specs.Checked.{Outcome, or_line, told_checked}
 use Rattle.rows.specs.Rows.{list_line}
 use Rattle.rows.proofs.list_checked.Statement.{statement}
 use Rattle.rows.proofs.list_checked.Tie as tie

@@ -22,7 +22,7 @@ decreases-loop alphabet table p₀ h w bit g b₀ p b = h - b
 loop-holds : tie.Need-loop-b-init invariant-loop decreases-loop
 loop-holds c =
     let a = c.args in
-    (omega arith, refl, c.requires.1.0, folded_none (code_on a.alphabet) a.h a.w a.bit a.g a.p-1.now)
+    (omega arith, refl, c.requires.1.0, folded_none (code_on a.alphabet) a.h a.w a.bit a.g a.p.now)
 
 add-multiple-requires : tie.Need-add_multiple-requires invariant-loop decreases-loop
 add-multiple-requires c κs =
@@ -31,7 +31,7 @@ add-multiple-requires c κs =
 -- one entry more, whether it has the bit or not
 stepped : (c : tie.Joined-b-bit-eq0 invariant-loop decreases-loop)
     → (let a = c.args in let C = code_on a.alphabet in
-    (length c.if-b-bit-eq0.p ≡ length a.p-1.now) × Symbols C c.if-b-bit-eq0.p × FoldedTo C a.h a.w a.bit a.g a.p-1.now (c.loop-b.b + 1) c.if-b-bit-eq0.p)
+    (length c.if-b-bit-eq0.p ≡ length a.p.now) × Symbols C c.if-b-bit-eq0.p × FoldedTo C a.h a.w a.bit a.g a.p.now (c.loop-b.b + 1) c.if-b-bit-eq0.p)
 stepped c =
     let c.before.before = c.loop-b in
     let a = c.args in
@@ -39,10 +39,10 @@ stepped c =
     let inside = c.loop-b-test.true in
     ⊎_elim
     (λ w.
-    let more = folded_more C a.h a.w a.bit a.g a.p-1.now c.b c.p c.invariant.3 inside w.2.last.1.1.0 w.0.true c.requires.1.1.0 w.2.ensures.0 in
+    let more = folded_more C a.h a.w a.bit a.g a.p.now c.b c.p c.invariant.3 inside w.2.last.1.1.0 w.0.true c.requires.1.1.0 w.2.ensures.0 in
     rw w.5 (w.2.kept.1.1.0 ∙ c.invariant.1, w.2.ensures.1, more))
     (λ w.
-    let kept = folded_kept C a.h a.w a.bit a.g a.p-1.now c.b c.p c.invariant.3 inside w.0.false in
+    let kept = folded_kept C a.h a.w a.bit a.g a.p.now c.b c.p c.invariant.3 inside w.0.false in
     rw w.1 (c.invariant.1, c.invariant.2, kept))
     c.if-b-bit-eq0.branch
 
@@ -57,7 +57,7 @@ returns : tie.Need-returns invariant-loop decreases-loop
 returns c =
     let l = c.loop-b in
     let a = c.args in
-    let all = folded_all (code_on a.alphabet) a.h a.w a.bit a.g a.p-1.now (field_on a.alphabet) c.requires.1.1.4 c.requires.1.0 l.b l.p (omega arith) l.invariant.3 in
+    let all = folded_all (code_on a.alphabet) a.h a.w a.bit a.g a.p.now (field_on a.alphabet) c.requires.1.1.4 c.requires.1.0 l.b l.p (omega arith) l.invariant.3 in
     (all, l.invariant.2)
 
 pub fold_spec : {M : Type 1} → statement M

@@ -25,7 +25,7 @@ decreases-loop alphabet table p₀ h w g bit₀ power₀ p bit power = h - bit
 loop-holds : tie.Need-loop-bit-init invariant-loop decreases-loop
 loop-holds c =
     let a = c.args in
-    let all = left_of_all (code_on a.alphabet) (field_on a.alphabet) a.h a.w a.g a.p-1.now in
+    let all = left_of_all (code_on a.alphabet) (field_on a.alphabet) a.h a.w a.g a.p.now in
     ((0, refl), c.requires.1.1.2, refl, c.requires.1.0, all)
 
 -- the bit is not zero
@@ -54,7 +54,7 @@ loop-again c =
     let r = c.fold in
     let k = l.invariant.0.0 in
     let e = l.invariant.0.1 in
-    let more = left_of_more C F a.h a.w a.g a.p-1.now k l.bit l.power l.p r.new.1.1.0 e l.invariant.1 l.invariant.3 r.ensures.0 l.invariant.4 in (
+    let more = left_of_more C F a.h a.w a.g a.p.now k l.bit l.power l.p r.new.1.1.0 e l.invariant.1 l.invariant.3 r.ensures.0 l.invariant.4 in (
       (suc k, ap (λ (n : ℕ). n * 2) e ∙ sym (pow-suc 2 k)),
       rw c.look-power.ensures (times_symbol C F _ _ (omega arith) (omega arith)),
       r.auto.1.1.0 ∙ l.invariant.2,
@@ -70,7 +70,7 @@ returns : tie.Need-returns invariant-loop decreases-loop
 returns c =
     let l = c.loop-bit in
     let a = c.args in
-    let none = left_of_none (code_on a.alphabet) (field_on a.alphabet) a.h a.w a.g a.p-1.now c.requires.1.1.2 c.requires.1.0
+    let none = left_of_none (code_on a.alphabet) (field_on a.alphabet) a.h a.w a.g a.p.now c.requires.1.1.2 c.requires.1.0
     l.bit l.power l.p c.loop-bit-test.false l.invariant.3 l.invariant.4 in
     (none, l.invariant.3)
 

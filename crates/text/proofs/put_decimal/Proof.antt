@@ -1,7 +1,7 @@
 -- The kit finds the fewest digits that hold the number: they are the page's decimal text, at most twenty.
 use Prim.Native.Nat.{◌≤◌}
 use native.Mathlib.Omega.{arith}
-use Rattle.text.proofs.decimal-count.{twenty, decimal_put}
+use Rattle.text.proofs.Decimal.{twenty, decimal_put}
 use Rattle.text.specs.Rooms.{greatest_digits}
 use borrow.Author.Rules.{rules}
 use Rattle.text.proofs.put_decimal.Statement.{statement}
@@ -21,7 +21,7 @@ returns c =
     let number = c.wide in
     let digits = c.decimal-count in
     let put = c.put in
-    decimal_put a.out-1.now put.new.0 digits.new.1.0 a.at a.x number.result digits.result put.result number.ensures.0 number.ensures.1
+    decimal_put a.out.now put.new.0 digits.new.1.0 a.at a.x number.result digits.result put.result number.ensures.0 number.ensures.1
     digits.ensures.1.0 digits.ensures.1.1 digits.ensures.0.1 put.ensures
 
 pub put_decimal_spec : {M : Type 1} → statement M

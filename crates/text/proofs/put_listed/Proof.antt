@@ -14,7 +14,7 @@ returns c =
     let word = c.put-named.ensures in
     let count = c.put_decimal-counted.ensures in
     let feed = c.put.ensures in
-    let within : a.at ≤ length a.out-1.now = omega arith in
+    let within : a.at ≤ length a.out.now = omega arith in
     (puts_in_turn within (begun ▸ word ▸ count.0 ▸ feed), omega arith)
 
 pub put_listed_spec : {M : Type 1} → statement M

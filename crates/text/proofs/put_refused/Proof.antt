@@ -16,7 +16,7 @@ returns c =
     let word = c.put-joined.ensures in
     let place = c.put_decimal-placed.ensures in
     let feed = c.put.ensures in
-    let within : a.at ≤ length a.out-1.now = omega arith in
+    let within : a.at ≤ length a.out.now = omega arith in
     puts_in_turn within (begun ▸ name ▸ number.0 ▸ word ▸ place.0 ▸ feed)
 
 pub put_refused_spec : {M : Type 1} → statement M

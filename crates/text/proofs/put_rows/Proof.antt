@@ -22,7 +22,7 @@ decreases-loop alphabet out₀ at k count rows scores end₀ j₀ out end j = co
 loop-holds : tie.Need-loop-j-init invariant-loop decreases-loop
 loop-holds c =
     let a = c.args in
-    (omega arith, omega arith, lines_begun (code_on a.alphabet) a.k a.rows.now a.scores.now a.out-1.now a.at)
+    (omega arith, omega arith, lines_begun (code_on a.alphabet) a.k a.rows.now a.scores.now a.out.now a.at)
 
 put-row-of-requires : tie.Need-put_row_of-end-requires invariant-loop decreases-loop
 put-row-of-requires c κs =
@@ -35,8 +35,8 @@ loop-again c =
     let a = c.args in
     let l = c.loop-j in
     let put = c.put_row_of-end in
-    let within : a.at ≤ length a.out-1.now = omega arith in
-    let lines = lines_more (code_on a.alphabet) a.k a.rows.now a.scores.now a.out-1.now l.out put.new.1.0 a.at l.end put.result l.j
+    let within : a.at ≤ length a.out.now = omega arith in
+    let lines = lines_more (code_on a.alphabet) a.k a.rows.now a.scores.now a.out.now l.out put.new.1.0 a.at l.end put.result l.j
     within l.invariant.2 put.ensures.0 in
     (omega arith, omega arith, lines)
 

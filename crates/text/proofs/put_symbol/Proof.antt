@@ -17,13 +17,13 @@ textOn w at-start = symbol_text (code_on w) at-start.args.x
 -- both promises, from the digits that were put: on the alphabet w they are the symbol's text
 digits-put : (at-start : tie.Start) (w : Alphabet) (digits after : List ℕ) (end : ℕ)
     → (let a = at-start.args in
-    a.alphabet ≡ w → digits ≡ textOn w at-start → length digits ≤ 2 → Puts a.out-1.now a.at digits end after
-    → Puts a.out-1.now a.at (textOn a.alphabet at-start) end after × (end ≤ a.at + 2))
+    a.alphabet ≡ w → digits ≡ textOn w at-start → length digits ≤ 2 → Puts a.out.now a.at digits end after
+    → Puts a.out.now a.at (textOn a.alphabet at-start) end after × (end ≤ a.at + 2))
 digits-put at-start w digits after end on same few puts =
     let a = at-start.args in
     let e : digits ≡ textOn a.alphabet at-start = same ∙ ap (λ (v : Alphabet). textOn v at-start) (sym on) in
     let last : end ≡ a.at + length digits = puts.0 in
-    (subst (λ (words : List ℕ). Puts a.out-1.now a.at words end after) e puts, omega arith)
+    (subst (λ (words : List ℕ). Puts a.out.now a.at words end after) e puts, omega arith)
 
 -- Thirty-two symbols: two digits are put.
 returns : tie.Need-returns-in-ThirtyTwo

@@ -19,7 +19,7 @@ decreases-loop alphabet out₀ at message end₀ j₀ out end j = length message
 loop-holds : tie.Need-loop-j-init invariant-loop decreases-loop
 loop-holds c =
     let a = c.args in
-    (omega arith, omega arith, text_begun (code_on a.alphabet) a.message.now a.out-1.now a.at)
+    (omega arith, omega arith, text_begun (code_on a.alphabet) a.message.now a.out.now a.at)
 
 put-symbol-requires : tie.Need-put_symbol-end-requires invariant-loop decreases-loop
 put-symbol-requires c κs =
@@ -31,8 +31,8 @@ loop-again c =
     let a = c.args in
     let l = c.loop-j in
     let put = c.put_symbol-end in
-    let within : a.at ≤ length a.out-1.now = omega arith in
-    let text = text_more (code_on a.alphabet) a.message.now a.out-1.now l.out put.new.1.0 a.at l.end put.result l.j
+    let within : a.at ≤ length a.out.now = omega arith in
+    let text = text_more (code_on a.alphabet) a.message.now a.out.now l.out put.new.1.0 a.at l.end put.result l.j
     within (omega arith) l.invariant.2 put.ensures.0 in
     (omega arith, omega arith, text)
 
@@ -45,7 +45,7 @@ returns c =
     let a = c.args in
     let l = c.loop-j in
     let all : l.j ≡ length a.message.now = omega arith in
-    (text_whole (code_on a.alphabet) a.message.now a.out-1.now l.out a.at l.end l.j all l.invariant.2, omega arith)
+    (text_whole (code_on a.alphabet) a.message.now a.out.now l.out a.at l.end l.j all l.invariant.2, omega arith)
 
 pub put_symbols_spec : {M : Type 1} → statement M
 put_symbols_spec =

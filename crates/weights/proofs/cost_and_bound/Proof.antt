@@ -5,7 +5,7 @@ use mathlib.Core.Path.{◌≡◌}
 use Prim.Native.Nat.{ℕ, ◌*◌, ◌≤◌}
 use native.Mathlib.Omega.{arith}
 use lib.ListN.{length, get_or}
-use Rattle.alphabet.proofs.sizes.{sized}
+use Rattle.alphabet.proofs.Sizes.{sized}
 use Rattle.alphabet.specs.Codes.{code_on}
 use Rattle.definitions.proofs.Table.{Accepts, next, end, sizes_mean, entries_mean, above_means}
 use Rattle.definitions.specs.Field.{Code}
@@ -15,7 +15,7 @@ use Rattle.definitions.specs.Refusals.{cost_table}
 use Rattle.turning.proofs.Turned.{bytes_within}
 use Rattle.matrix.proofs.Columns.{places_within, cost_small}
 use Rattle.refusals.proofs.Chain.{Came, start, ◌▸◌, accepted, answers}
-use Rattle.refusals.specs.checked-1.{told_checked}
+use Rattle.refusals.specs.Checked.{told_checked}
 use Rattle.weights.proofs.Costing.{costed_is}
 use borrow.Author.Rules.{rules}
 use Rattle.weights.proofs.cost_and_bound.Statement.{statement}

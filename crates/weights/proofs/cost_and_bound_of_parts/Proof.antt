@@ -4,7 +4,7 @@ use mathlib.Core.List.{[]}
 use Prim.Native.Nat.{ℕ, ◌≤◌}
 use native.Mathlib.Omega.{arith}
 use lib.ListN.{get_or}
-use Rattle.alphabet.proofs.sizes.{sized}
+use Rattle.alphabet.proofs.Sizes.{sized}
 use Rattle.alphabet.specs.Codes.{code_on}
 use Rattle.definitions.proofs.Editing.{stored_means}
 use Rattle.definitions.proofs.Held.{Rightly, cost_bytes}
@@ -16,7 +16,7 @@ use Rattle.definitions.specs.Limits.{greatest_level}
 use Rattle.matrix.proofs.Columns.{places_within, cost_small}
 use Rattle.matrix.proofs.Record.{stored_tried}
 use Rattle.refusals.proofs.Chain.{Came, start, ◌▸◌, accepted, answers}
-use Rattle.refusals.specs.checked-1.{told_checked}
+use Rattle.refusals.specs.Checked.{told_checked}
 use Rattle.weights.proofs.Costing.{costed_is}
 use borrow.Author.Rules.{rules}
 use Rattle.weights.proofs.cost_and_bound_of_parts.Statement.{statement}

@@ -13,7 +13,7 @@ use Rattle.definitions.specs.Limits.{greatest_level}
 use Rattle.definitions.specs.Refusals.{Line, size, level, entries, room, columns, multiplicities_table}
 use Rattle.definitions.specs.Weights.{matrix}
 use Rattle.refusals.proofs.Chain.{Came, start, ◌▸◌, further, accepts_front, accepted, answers, stops, goes_on}
-use Rattle.refusals.specs.checked-1.{told_checked}
+use Rattle.refusals.specs.Checked.{told_checked}
 use borrow.Author.Rules.{rules}
 use Rattle.weights.proofs.multiplicities.Statement.{statement}
 use Rattle.weights.proofs.multiplicities.Tie as tie
@@ -42,16 +42,16 @@ module _ (s : tie.Start) where
   code = code_on s.args.alphabet
 
   abbrev lines : List Line
-  lines = let a = s.args in settling code a.n a.level a.reliabilities.now (length a.out-1.now)
+  lines = let a = s.args in settling code a.n a.level a.reliabilities.now (length a.out.now)
 
   abbrev column-line : List Line
   column-line = columns code s.args.n s.args.reliabilities.now ∷ []
 
   abbrev Fits : Type 0
-  Fits = let a = s.args in Fit code a.n a.level a.reliabilities.now (length a.out-1.now)
+  Fits = let a = s.args in Fit code a.n a.level a.reliabilities.now (length a.out.now)
 
   fits-call : Accepts lines → Fits
-  fits-call = let a = s.args in fits code a.n a.level a.reliabilities.now (length a.out-1.now)
+  fits-call = let a = s.args in fits code a.n a.level a.reliabilities.now (length a.out.now)
 
 settled : (c : tie.After-entries_room-settled) → Came (lines c.before.before.before.before.before.before) [] (told_checked c.entries_room-settled.result)
 settled c =
@@ -59,7 +59,7 @@ settled c =
 
 came : (c : tie.After-columns_checked-checked)
     → (let a = c.args in
-    Came (multiplicities_table (code c.before.before.before.before.before.before.before) a.n a.level a.reliabilities.now (length a.out-1.now)) [] (told_checked c.columns_checked-checked.result))
+    Came (multiplicities_table (code c.before.before.before.before.before.before.before) a.n a.level a.reliabilities.now (length a.out.now)) [] (told_checked c.columns_checked-checked.result))
 came c = further (column-line c.before.before.before.before.before.before.before) (settled c.before) ▸ c.columns_checked-checked.ensures
 
 columns-checked-requires : tie.Need-columns_checked-checked-requires
@@ -86,8 +86,8 @@ returns-2 c =
     let on = came c.before.before.before.before.before in
     let acceptance = c.in_default.is in (
       ap counted full ∙ goes_on on [] refused (counted ((code c.before.before.before.before.before.before.before.before.before.before.before.before).symbols * a.n)) acceptance,
-      c.multiplicities_into.ensures ∙ ap (λ (j : ℕ). matrix a.level a.reliabilities.now ++ drop j a.out-1.now) full
-          ∙ goes_on on [] (λ _ _. a.out-1.now) _ acceptance,
+      c.multiplicities_into.ensures ∙ ap (λ (j : ℕ). matrix a.level a.reliabilities.now ++ drop j a.out.now) full
+          ∙ goes_on on [] (λ _ _. a.out.now) _ acceptance,
     )
 
 pub multiplicities_spec : {M : Type 1} → statement M

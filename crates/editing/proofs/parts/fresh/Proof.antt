@@ -16,7 +16,7 @@ use Rattle.editing.proofs.After.{parts_promised}
 use Rattle.edits.proofs.Edits.{edit_refused, edit_goes_on, edit_counted}
 use Rattle.turning.proofs.Filled.{laid_fresh}
 use Rattle.refusals.proofs.Chain.{Came, start, ◌▸◌, accepted}
-use Rattle.refusals.specs.checked-1.{told_checked}
+use Rattle.refusals.specs.Checked.{told_checked}
 use Rattle.editing.proofs.parts.fresh.Statement.{statement}
 use Rattle.editing.proofs.parts.fresh.Tie as tie
 

@@ -16,7 +16,7 @@ use Rattle.editing.proofs.After.{parts_promised}
 use Rattle.definitions.specs.Refusals.{Line}
 use Rattle.edits.proofs.Edits.{edit_refused, edit_goes_on, edit_counted}
 use Rattle.refusals.proofs.Chain.{Came, start, ◌▸◌, accepted}
-use Rattle.refusals.specs.checked-1.{told_checked}
+use Rattle.refusals.specs.Checked.{told_checked}
 use Rattle.editing.proofs.parts.of_bytes.Statement.{statement}
 use Rattle.editing.proofs.parts.of_bytes.Tie as tie
 

@@ -18,7 +18,7 @@ use Rattle.matrix.proofs.Record.{stored_tried}
 use Rattle.editing.proofs.After.{parts_promised}
 use Rattle.edits.proofs.Edits.{edit_refused, edit_goes_on}
 use Rattle.refusals.proofs.Chain.{Came, start, ◌▸◌, accepted}
-use Rattle.refusals.specs.checked-1.{or_line, told_checked}
+use Rattle.refusals.specs.Checked.{or_line, told_checked}
 use Rattle.editing.proofs.parts.set_entry.Statement.{statement}
 use Rattle.editing.proofs.parts.set_entry.Tie as tie
 

@@ -8,7 +8,7 @@ use Rattle.entries.proofs.planning.plan.Tie as tie
 planned-requires : tie.Need-planned-requires
 planned-requires c κs =
     let a = c.args in
-    rw c.plan.ensures.0 (plan_narrow a.alphabet a.n a.steps a.reliabilities.now a.out-1.now)
+    rw c.plan.ensures.0 (plan_narrow a.alphabet a.n a.steps a.reliabilities.now a.out.now)
 
 -- The only end: what crosses to C is what `planner::plan` answered, and the memory is as that left
 -- it.

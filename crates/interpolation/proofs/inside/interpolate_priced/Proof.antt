@@ -7,13 +7,13 @@ use native.Mathlib.Omega.{arith}
 use lib.ListN.{take}
 use lib.Seq.{length-take-le}
 use Rattle.alphabet.specs.Codes.{code_on}
-use Rattle.definitions.proofs.bound-bound.{bound_le}
-use Rattle.definitions.specs.bound-bound.{bound}
+use Rattle.definitions.proofs.Bound.{bound_le}
+use Rattle.definitions.specs.Bound.{bound}
 use Rattle.definitions.specs.Limits.{greatest_limit}
 use Rattle.interpolation.proofs.Answers.{refused_by_cost, found_is_answered}
 use Rattle.polynomial.proofs.Coefficients.{count_small}
-use Rattle.matrix.proofs.columns-1.{columns_front, columns_cost}
-use Rattle.matrix.specs.columns-1.{matrix_cost}
+use Rattle.matrix.proofs.Columns.{columns_front, columns_cost}
+use Rattle.matrix.specs.Columns.{matrix_cost}
 use borrow.Author.Rules.{rules}
 use Rattle.interpolation.proofs.inside.interpolate_priced.Statement.{statement}
 use Rattle.interpolation.proofs.inside.interpolate_priced.Tie as tie
@@ -27,7 +27,7 @@ returns : tie.Need-returns-then-limit-cost
 returns c =
     let a = c.args in
     let paid = c.requires.1.paid in
-    refused_by_cost (code_on a.alphabet) a.n a.k a.limit (bytes c.before.before.before) a.out-1.now (omega arith)
+    refused_by_cost (code_on a.alphabet) a.n a.k a.limit (bytes c.before.before.before) a.out.now (omega arith)
 
 -- The cost is at most the limit, and the limit at most the greatest.
 cheap : (c : tie.Else-limit-cost) → c.args.cost ≤ greatest_limit
@@ -69,7 +69,7 @@ returns-2 c =
     let C = code_on a.alphabet in
     let f = c.requires.0 in
     let h = c.requires.1 in
-    found_is_answered C a.n a.k a.limit (bytes c.before.before.before.before.before.before.before.before.before.before.before) a.out-1.now f.sized.2 (length-take-le (C.symbols * a.n) a.entries.now h.within)
+    found_is_answered C a.n a.k a.limit (bytes c.before.before.before.before.before.before.before.before.before.before.before) a.out.now f.sized.2 (length-take-le (C.symbols * a.n) a.entries.now h.within)
     c.in_columns-columns.result (columns_front C a.n a.cost a.entries.now f.sized.2 h c.in_columns-columns.result c.in_columns-columns.ensures) a.cost c.bound-bound.result
     c.count-count.result c.polynomial.result c.polynomial.new.out h.paid c.if-limit-cost.false c.bound-bound.ensures c.count-count.ensures
     c.polynomial.ensures

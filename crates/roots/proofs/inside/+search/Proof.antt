@@ -9,7 +9,7 @@ use native.Mathlib.Omega.{arith}
 use borrow.Author.Rules.{rules}
 use lib.ListN.{length, take}
 use lib.Seq.{length-take-le}
-use Rattle.alphabet.proofs.Alphabet.greatest_symbol-greatest.Reads as greatest-symbol-reads
+use Rattle.alphabet.proofs.Alphabet.greatest_symbol.Reads as greatest-symbol-reads
 use Rattle.alphabet.proofs.Sizes.{sized}
 use Rattle.alphabet.specs.Codes.{code_on}
 use Rattle.definitions.specs.Code.{Symbols}
@@ -26,12 +26,12 @@ use Rattle.roots.proofs.Rows.{positive, fewer, fewer_fit, same_room, row_holds, 
 use Rattle.roots.proofs.Rows.{begins_yes, begins_no, tried_none, GoneOn, gone_on}
 use borrow.Fn.Kinds.{In, Out}
 use borrow.Fn.PlainCycle.{Measures, is, falls, and}
-use Rattle.roots.proofs.inside.search-end.Reads as search'
-use Rattle.roots.proofs.inside.search-end.Kinds as search-kinds
+use Rattle.roots.proofs.inside.search.Reads as search'
+use Rattle.roots.proofs.inside.search.Kinds as search-kinds
 use Rattle.roots.proofs.inside.+search.Lts-search as search-lts
 use Rattle.substitution.proofs.constants_zero.Reads as constants-zero-reads
 use Rattle.substitution.proofs.first_value.Reads as first-value-reads
-use Rattle.substitution.proofs.handed-rest.Reads as handed-reads
+use Rattle.substitution.proofs.handed.Reads as handed-reads
 use Rattle.memory.proofs.put.Reads as put_reads
 use Rattle.roots.proofs.inside.+search.{statement}
 use Rattle.roots.proofs.inside.+search.Tie.{close}
@@ -170,7 +170,7 @@ module _ (t : ℕ) where
       let s = root w in
       let a = s.args in (
         ap (λ (n : ℕ). a.at + n) (sym (root-length w)),
-        leaf_written (C s) a.t6 a.k a.left (M s) w.before.before.before.if-left-eq0.true (is-root w) a.out-1.now _ a.at c.before.before.put.ensures,
+        leaf_written (C s) a.t6 a.k a.left (M s) w.before.before.before.if-left-eq0.true (is-root w) a.out.now _ a.at c.before.before.put.ensures,
       )
 
   -- No symbol is left and a constant is not zero: there is no row, and nothing is written.
@@ -179,7 +179,7 @@ module _ (t : ℕ) where
       let s = leaf c.before.before in
       let a = s.args in
       let no-root = sym c.if-constants_zero.false ∙ c.before.constants_zero.ensures a.alphabet in
-      leaf_nothing (C s) a.t6 a.k a.left (M s) c.before.before.before.if-left-eq0.true no-root a.out-1.now a.at
+      leaf_nothing (C s) a.t6 a.k a.left (M s) c.before.before.before.if-left-eq0.true no-root a.out.now a.at
 
   -- ---- one symbol after the other
 
@@ -229,14 +229,14 @@ module _ (t : ℕ) where
   gone : (c : Of search-lts.After-first_value t) (r : List ℕ)
       → (let l = (tried c).loop-g in let s = level (tried c) in let a = s.args in
       c.first_value.result ≡ 0 → Symbols (C s) r → Handed (C s) a.h (a.degree + 1) l.g a.t3 r
-      → GoneOn (C s) a.k a.left a.degree a.h a.t6 a.t3 a.out-1.now a.at l.out l.end l.g r)
+      → GoneOn (C s) a.k a.left a.degree a.h a.t6 a.t3 a.out.now a.at l.out l.end l.g r)
   gone c r zero sr handed =
       let l = (tried c).loop-g in
       let s = level (tried c) in
       let a = s.args in
       let v = c.first_value in
       let begun = begins_yes (C s) a.h a.degree l.g a.t3 v.result v.ensures zero in
-      gone_on (C s) (field_on a.alphabet) a.k a.left a.degree a.h a.t6 a.t3 a.out-1.now a.at l.out l.end l.g
+      gone_on (C s) (field_on a.alphabet) a.k a.left a.degree a.h a.t6 a.t3 a.out.now a.at l.out l.end l.g
       (is-symbol c.before.before) (some_left (tried c)) (sizes s).2 (long s) (room s) l.invariant.2 l.invariant.3 (sizes s).0 (symbols s) (within s) begun r sr handed
 
   search-requires : Of search-lts.Need-search-end-requires t
@@ -271,7 +271,7 @@ module _ (t : ℕ) where
       (omega arith, ap length w.6 ∙ w.3.kept.1.1.1.1.1.1.1.1.0 ∙ l.invariant.1, more.0, more.1))
       (λ w.
       let begins = begins_no (C s) a.h a.degree l.g a.t3 v.result v.ensures w.0.false in
-      let same = tried_none (C s) (prefix s) (a.left - 1) (M s) a.out-1.now a.at l.out l.end l.g l.invariant.2 l.invariant.3 begins in
+      let same = tried_none (C s) (prefix s) (a.left - 1) (M s) a.out.now a.at l.out l.end l.g l.invariant.2 l.invariant.3 begins in
       (omega arith, ap length w.1 ∙ l.invariant.1, w.2 ∙ same.0, w.1 ∙ same.1))
       c.if-first_value-eq0.branch
 
@@ -288,7 +288,7 @@ module _ (t : ℕ) where
       let end : l.g ≡ (C s).symbols = omega arith in
       let before = rows_before (C s) (prefix s) (a.left - 1) (M s) in
       let all : before l.g ≡ rows s = ap before end ∙ sym (rows_all (C s) (prefix s) a.left (M s) (some_left c.before)) in
-      (l.invariant.2 ∙ ap (λ (x : List ℕ). a.at + length x) all, l.invariant.3 ∙ ap (laid a.out-1.now a.at) all)
+      (l.invariant.2 ∙ ap (λ (x : List ℕ). a.at + length x) all, l.invariant.3 ∙ ap (laid a.out.now a.at) all)
 
 pub +search_spec : {M : Type 1} → statement M
 +search_spec = close μ-search λ t. search-lts.spec (claims t)

@@ -69,7 +69,7 @@ Ready c w =
     let p = c.freed-p.result in
     Symbols (code_on w) p
     × (((0 < height c.before.before.before.before.before) × ((a.degree + 1) * height c.before.before.before.before.before ≤ places) × (a.k ≤ a.k) × (a.k ≤ (code_on w).positions))
-    × (DegreeWithin (code_on w) (a.k - 1) a.degree (height c.before.before.before.before.before) p × (0 + length (rows c w) ≤ length a.out-1.now)))
+    × (DegreeWithin (code_on w) (a.k - 1) a.degree (height c.before.before.before.before.before) p × (0 + length (rows c w) ≤ length a.out.now)))
 
 -- it holds of the call's alphabet
 ready : (c : tie.After-freed-p) → Ready c c.args.alphabet
@@ -98,7 +98,7 @@ roots c = let a = c.args in roots_of (code_on a.alphabet) a.degree a.k a.coeffic
 -- of the call's alphabet it is the answer
 answered : (c : tie.After-freed-p) (w : Alphabet) (e : ℕ) (r : List ℕ)
     → (let a = c.args in
-    a.alphabet ≡ w → Found c e r w → (e / a.k ≡ length (roots c)) × (r ≡ rows_onto a.k (roots c) a.out-1.now))
+    a.alphabet ≡ w → Found c e r w → (e / a.k ≡ length (roots c)) × (r ≡ rows_onto a.k (roots c) a.out.now))
 answered c w e r same found =
     let C = code_on c.args.alphabet in
     let F = field_on c.args.alphabet in
