@@ -74,7 +74,7 @@ loop-again c =
       omega arith,
       search rules,
       p.ensures.0 ∙ ap (λ (m : ℕ). c.loop-b.next + length (rowsWith c.before.before.before.before.before.before.before m)) m ∙ count_more (rows_of c.before.before.before.before.before.before.before.before.before.before) o c.args.at c.loop-b.b c.loop-b.next c.loop-b.invariant.2,
-      joined_more (rows_of c.before.before.before.before.before.before.before.before.before.before) o c.args.at c.loop-b.rows p.new.1.0 c.loop-b.b c.loop-b.next c.loop-b.invariant.3 c.loop-b.invariant.2
+      joined_more (rows_of c.before.before.before.before.before.before.before.before.before.before) o c.args.at c.loop-b.rows p.new.rows c.loop-b.b c.loop-b.next c.loop-b.invariant.3 c.loop-b.invariant.2
           (p.ensures.1 ∙ ap (λ (m : ℕ). sets c.loop-b.rows c.loop-b.next (rowsWith c.before.before.before.before.before.before.before m)) m),
     )
 

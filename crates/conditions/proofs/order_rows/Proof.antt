@@ -45,7 +45,7 @@ loop-again : tie.Need-loop-t-preserved invariant-loop decreases-loop
 loop-again c =
     let t = c.loop-t.t in
     let kept = c.keep.new.out in
-    let is_row = c.keep.ensures ∙ ap (λ (c.before.before : ℕ). row_by c.before.before.before.before.before c.before.before t) c.asked_at.ensures in (
+    let is_row = c.keep.ensures ∙ ap (λ (asked : ℕ). row_by c.before.before.before.before.before asked t) c.asked_at.ensures in (
       omega arith,
       length-set c.loop-t.rows c.loop-t.next kept ∙ c.loop-t.invariant.1,
       omega arith,

@@ -65,7 +65,7 @@ loop-again c =
       omega arith,
       search rules,
       omega arith,
-      joined_more (rows_of c.before.before.before.before.before.before.before.before) a.rows.now a.at c.loop-s.rows o.new.0 c.loop-s.s c.loop-s.next c.loop-s.invariant.3 c.loop-s.invariant.2
+      joined_more (rows_of c.before.before.before.before.before.before.before.before) a.rows.now a.at c.loop-s.rows o.new.rows c.loop-s.s c.loop-s.next c.loop-s.invariant.3 c.loop-s.invariant.2
           (o.ensures.1 ∙ ap (λ (part : List ℕ). sets c.loop-s.rows c.loop-s.next (rowsWith c.before.before.before.before.before.before.before part)) c.keep.ensures),
       subst (ZeroFrom (a.blocks * block)) (sym c.keep.ensures) (filled_zeros kept (a.blocks * block) c.requires.1),
     )
@@ -84,7 +84,7 @@ orders_rows_spec =
     decreases-loop
     loop-holds
     (λ c. search rules)
-    (λ c κs. (l.before.requires.1, c.loop-s.invariant.4))
+    (λ c κs. (c.requires.1, c.loop-s.invariant.4))
     (λ c. search rules)
     (λ c. search rules)
     order-rows-requires

@@ -25,7 +25,7 @@ first_fits : (c : tie.Else-other_scores-eq0)
 first_fits c =
     let a = c.args in (
       row_fits a.k (length a.scores.now) 0 (length a.rows.now) c.requires.0 (omega arith),
-      row_fits a.k (length a.other-scores.now) 0 (length a.others.now) c.requires.1 (omega arith),
+      row_fits a.k (length a.other_scores.now) 0 (length a.others.now) c.requires.1 (omega arith),
     )
 
 row-requires : tie.Need-row-requires

@@ -20,14 +20,14 @@ returns-2 : tie.Need-returns-then-scores-ne0
 returns-2 c =
     let a = c.args in
     rw (sym c.apart.ensures ∙ c.if-apart.false)
-    (c.judged.ensures ∙ ap (λ (l : List ℕ). valued (judged a.lead l)) (first_judged a.scores.now a.scores.now a.other-scores.now (omega arith)))
+    (c.judged.ensures ∙ ap (λ (l : List ℕ). valued (judged a.lead l)) (first_judged a.scores.now a.scores.now a.other_scores.now (omega arith)))
 
 -- The lists are not apart and the first has no rows: the page judges the second list's scores.
 returns-3 : tie.Need-returns
 returns-3 c =
     let a = c.args in
     rw (sym c.apart.ensures ∙ c.if-apart.false)
-    (c.judged-2.ensures ∙ ap (λ (l : List ℕ). valued (judged a.lead l)) (second_judged a.scores.now a.scores.now a.other-scores.now (omega arith)))
+    (c.judged-2.ensures ∙ ap (λ (l : List ℕ). valued (judged a.lead l)) (second_judged a.scores.now a.scores.now a.other_scores.now (omega arith)))
 
 pub both_judged_spec : {M : Type 1} → statement M
 both_judged_spec =

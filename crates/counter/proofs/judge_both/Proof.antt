@@ -45,13 +45,13 @@ abbrev lists : tie.Start → List Line
 lists s =
     let a = s.args in
     let C = code_on a.alphabet in
-    list_line a.first.k a.rows.now a.scores.now ∷ list_line a.second.k a.others.now a.other-scores.now
+    list_line a.first.k a.rows.now a.scores.now ∷ list_line a.second.k a.others.now a.other_scores.now
     ∷ symbols C a.rows.now ∷ runs_on (length a.rows.now) (symbols C a.others.now) ∷ []
 
 -- All ten checks try the ten lines of the table.
 came : (c : tie.After-symbols_of_after-checked)
     → (let a = c.args in
-    Came (both_table (code_on a.alphabet) a.first a.rows.now a.scores.now a.second a.others.now a.other-scores.now a.lead) []
+    Came (both_table (code_on a.alphabet) a.first a.rows.now a.scores.now a.second a.others.now a.other_scores.now a.lead) []
     (told_checked c.symbols_of_after-checked.result))
 came c =
     further (lists c.before.before.before.before.before.before.before.before.before.before.before.before.before.before.before) (settled c.before.before.before.before)
@@ -66,7 +66,7 @@ both-judged-requires : tie.Need-both_judged-requires
 both-judged-requires c κs =
     let a = c.args in
     let through = accepted (came c.before) c.in_default.is in
-    let full = both_full (code_on a.alphabet) a.first a.second a.rows.now a.scores.now a.others.now a.other-scores.now a.lead through in
+    let full = both_full (code_on a.alphabet) a.first a.second a.rows.now a.scores.now a.others.now a.other_scores.now a.lead through in
     (omega arith, omega arith)
 
 -- The chain let the call pass, so no line of the table fails, and the answer is the verdict on both
@@ -76,7 +76,7 @@ returns-2 c =
     let a = c.args in
     c.both_judged.ensures
     ∙ goes_on (came c.before.before) [] refused
-    (valued (both_judged a.first.k a.lead a.rows.now a.scores.now a.others.now a.other-scores.now)) c.in_default.is
+    (valued (both_judged a.first.k a.lead a.rows.now a.scores.now a.others.now a.other_scores.now)) c.in_default.is
 
 pub judge_both_spec : {M : Type 1} → statement M
 judge_both_spec =

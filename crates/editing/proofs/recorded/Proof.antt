@@ -9,7 +9,7 @@ use Rattle.editing.proofs.recorded.Tie as tie
 
 -- the record after an outcome
 abbrev after : tie.Start → Priced → Held
-after s o = let a = s.args in record_after o a.old-n a.old-cost a.n a.totals a.entries
+after s o = let a = s.args in record_after o a.old_n a.old_cost a.n a.totals a.entries
 
 -- A cost: the record has the new n, and the cost that is answered.
 returns : tie.Need-returns-in-Cost

@@ -76,7 +76,7 @@ passed c =
 
 -- the total and the cost that are stored are small
 small : (c : tie.Else-bad-entries)
-    → ((get_or c.args.totals.now c.args.position 0 ≤ 5 * 32) × (s.args.cost ≤ 15 * 992))
+    → ((get_or c.args.totals.now c.args.position 0 ≤ 5 * 32) × (c.args.cost ≤ 15 * 992))
 small c =
     let total = total_limited (code c.before.before.before.before.before) (handed c.before.before.before.before.before) (right c.before.before.before.before.before) (after c.before.before.before.before.before ∷ []) (passed c) c.args.position (here c.before.before.before.before.before) in
     let price = cost_limited (code c.before.before.before.before.before) (handed c.before.before.before.before.before) (right c.before.before.before.before.before) (after c.before.before.before.before.before ∷ []) (passed c) in

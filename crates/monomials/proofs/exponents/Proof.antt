@@ -1,5 +1,4 @@
 -- The loop walks along the monomials in their order, and each step fills in one power of x and one of y.
-use mathlib.Core.Logic.{⊎_elim}
 use mathlib.Core.List.{List, [], ◌∷◌}
 use mathlib.Core.Path.{◌≡◌, ◌∙◌, ap₂}
 use Prim.Native.Nat.{ℕ, ◌-◌, ◌≤◌}
@@ -11,6 +10,7 @@ use Rattle.monomials.specs.Walk.{walked}
 use Rattle.blocks.proofs.Filled.{zeros_from, Filling, filling_none, filling_more, filling_whole}
 use Rattle.blocks.specs.Row.{width}
 use Rattle.monomials.proofs.exponents.Statement.{statement}
+use Rattle.monomials.proofs.exponents.Lts.{then-v-x, else-v-x}
 use Rattle.monomials.proofs.exponents.Tie as tie
 
 -- x, y and degree are where the walk stands after so many steps, and the rows hold the powers of the
@@ -53,13 +53,14 @@ loop-again c =
     let n = c.args.count in
     let i = c.loop-step.invariant.1 in (
       omega arith,
-      ⊎_elim
-          (λ w.
-          let r = walk_stays v c.loop-step.step _ _ _ i.0 i.1 i.2 w.0.true in
-          (w.1 ∙ r.0, w.2 ∙ r.1, w.3 ∙ r.2))
-          (λ w.
-          let r = walk_turns v c.loop-step.step _ _ _ i.0 i.1 i.2 w.0.false in
-          (w.1 ∙ r.0, w.2 ∙ r.1, w.3 ∙ r.2)) c.if-v-x.branch,
+      elim c.if-v-x.branch [
+        then-v-x w ↦
+            let r = walk_stays v c.loop-step.step _ _ _ i.0 i.1 i.2 w.if-v-x.true in
+            (w.x-is ∙ r.0, w.y-is ∙ r.1, w.degree-is ∙ r.2)
+        | else-v-x w ↦
+            let r = walk_turns v c.loop-step.step _ _ _ i.0 i.1 i.2 w.if-v-x.false in
+            (w.x-is ∙ r.0, w.y-is ∙ r.1, w.degree-is ∙ r.2)
+      ],
       filling_more n (λ k. (walked v k).0) c.loop-step.step c.loop-step.x c.loop-step.xs (omega arith) (omega arith) c.loop-step.invariant.2 i.0,
       filling_more n (λ k. (walked v k).1) c.loop-step.step c.loop-step.y c.loop-step.ys (omega arith) (omega arith) c.loop-step.invariant.3 i.1,
     )

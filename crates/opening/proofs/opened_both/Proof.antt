@@ -24,7 +24,7 @@ handed s opens none =
 -- The page's answer is Open where the verdict is.
 opens : (c : tie.In-Open)
     → (let a = c.args in
-    is_open (both_answer (code_on a.alphabet) a.first a.rows.now a.scores.now a.second a.others.now a.other-scores.now a.lead) ≡ true)
+    is_open (both_answer (code_on a.alphabet) a.first a.rows.now a.scores.now a.second a.others.now a.other_scores.now a.lead) ≡ true)
 opens c = ap is_open (sym c.judge_both.ensures ∙ ap told_verdict c.in-Open.is)
 
 -- The list that was judged has a first row: the second list where the first has no scores, the
@@ -34,7 +34,7 @@ there : (c : tie.In-Open)
     (length a.scores.now ≡ 0 → a.first.k ≤ length a.others.now) × ((length a.scores.now ≡ 0 → ⊥) → a.first.k ≤ length a.rows.now))
 there c =
     let a = c.args in
-    row_in_judged (code_on a.alphabet) a.first a.rows.now a.scores.now a.second a.others.now a.other-scores.now a.lead (opens c)
+    row_in_judged (code_on a.alphabet) a.first a.rows.now a.scores.now a.second a.others.now a.other_scores.now a.lead (opens c)
 
 row-requires : tie.Need-row-requires
 row-requires c κs =
@@ -64,7 +64,7 @@ returns-2 c =
 -- as the page asks.
 returns-3 : tie.Need-returns
 returns-3 c =
-    let none : is_open (told_verdict c.judge_both.result) ≡ false = other_verdict c.judge_both.result c.in_default.keys2 in
+    let none : is_open (told_verdict c.judge_both.result) ≡ false = other_verdict c.judge_both.result c.in_default-own.keys2 in
     empty_front c.args.rows
     ∙ sym (ap (λ (b : Bool). handed c.before.before.before.before.before.before.before b (eqb (length c.args.scores.now) 0)) (sym (ap is_open c.judge_both.ensures) ∙ none))
 

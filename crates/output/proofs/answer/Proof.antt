@@ -61,7 +61,7 @@ put-answer-requires c κs = (held c.before.before.before.before.before, omega ar
 returns : tie.Need-returns
 returns c =
     let put = c.put_answer in
-    subst (λ (words : List ℕ). Puts c.args.out.now 0 words put.result put.new.1.0) (text c.before.before.before.before.before.before.before.before) put.ensures
+    subst (λ (words : List ℕ). Puts c.args.out.now 0 words put.result put.new.out) (text c.before.before.before.before.before.before.before.before) put.ensures
 
 pub answer_spec : {M : Type 1} → statement M
 answer_spec =

@@ -20,7 +20,7 @@ returns c =
     let put = c.put_refused in
     let told = ap₂ refused_line c.number.ensures.0 c.place.ensures in
     let e = told ∙ no_header (code_on a.alphabet) a.input.now c.if-input-lt-HEADER.true in
-    subst (λ (text : List ℕ). Puts a.out.now 0 text put.result put.new.0) e put.ensures
+    subst (λ (text : List ℕ). Puts a.out.now 0 text put.result put.new.out) e put.ensures
 
 abbrev bytes : tie.After-read-count → List ℕ
 bytes at_read = at_read.args.input.now
@@ -35,12 +35,12 @@ rest at_read = drop (length (words at_read)) (replicate numbers_read 0)
 words-in-front : (at_read : tie.After-read-count) → take at_read.read-count.result at_read.read-count.new.out ≡ words at_read
 words-in-front at_read =
     let read = at_read.read-count in
-    in_front (words at_read) (rest at_read) read.new.1.0 read.result read.ensures.0 read.ensures.1
+    in_front (words at_read) (rest at_read) read.new.out read.result read.ensures.0 read.ensures.1
 
 array-share-prefix-numbers : tie.Need-slice_bounds-numbers-end
 array-share-prefix-numbers c =
     let read = c.read-count in
-    front_within (words c.before) (rest c.before) read.new.1.0 read.result read.ensures.0 read.ensures.1
+    front_within (words c.before) (rest c.before) read.new.out read.result read.ensures.0 read.ensures.1
 
 slice-aggregate-answer : tie.Need-slice_bounds-answer-end
 slice-aggregate-answer c =
@@ -55,7 +55,7 @@ returns-2 c =
     let e = header (code_on a.alphabet) (bytes c.before.before.before.before.before.before) _ c.wide-n.result c.wide-k.result c.wide-level.result c.wide-limit.result
     c.if-input-lt-HEADER.false c.wide-n.ensures.0 c.wide-k.ensures.0 c.wide-level.ensures.0 c.wide-limit.ensures.0
     (words-in-front c.before.before.before.before.before.before ∙ ap numbers_of (bytes_are (bytes c.before.before.before.before.before.before))) in
-    subst (λ (text : List ℕ). Puts a.out.now 0 text put.result put.new.1.1.1.1.1.1.0) e put.ensures
+    subst (λ (text : List ℕ). Puts a.out.now 0 text put.result put.new.out) e put.ensures
 
 pub answer_to_spec : {M : Type 1} → statement M
 answer_to_spec =

@@ -30,7 +30,7 @@ returns-2 c =
     let a = c.args in
     let put = c.put_refused in
     rw c.in-Refused.is
-    (subst (λ (text : List ℕ). Puts a.out.now 0 text put.result put.new.0)
+    (subst (λ (text : List ℕ). Puts a.out.now 0 text put.result put.new.out)
     (refusal_text (code_on a.alphabet) a.k a.rows.now a.scores.now c.in-Refused.r c.number.result c.place.result
     c.number.ensures.0 c.place.ensures)
     put.ensures)

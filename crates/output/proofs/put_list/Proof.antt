@@ -13,7 +13,7 @@ returns c =
     let a = c.args in
     let listed = c.put_listed-end in
     let rows = c.put_rows in
-    puts_more a.out.now listed.new.0 rows.new.1.0 (listed_line a.count) (row_lines (code_on a.alphabet) a.k a.rows.now a.scores.now a.count) 0
+    puts_more a.out.now listed.new.out rows.new.out (listed_line a.count) (row_lines (code_on a.alphabet) a.k a.rows.now a.scores.now a.count) 0
     listed.result rows.result (omega arith) listed.ensures.0 rows.ensures
 
 pub put_list_spec : {M : Type 1} → statement M

@@ -56,7 +56,7 @@ returns c =
     let most = c.longest-most in
     let put = c.answer_to in
     let e = beginning C (omega arith) most.result most.ensures a.input.now (omega arith) in
-    answered c.before.before.before.before.before.before.before.before (output C (take most.result a.input.now)) put.new.1.1.0 put.result e put.ensures
+    answered c.before.before.before.before.before.before.before.before (output C (take most.result a.input.now)) put.new.out put.result e put.ensures
 
 answer-to-requires-2 : tie.Need-answer_to-requires-2
 answer-to-requires-2 c κs =
@@ -68,7 +68,7 @@ answer-to-requires-2 c κs =
 returns-2 : tie.Need-returns
 returns-2 c =
     let put = c.answer_to-2 in
-    answered c.before.before.before.before.before.before.before.before _ put.new.1.1.0 put.result refl put.ensures
+    answered c.before.before.before.before.before.before.before.before _ put.new.out put.result refl put.ensures
 
 pub write_spec : {M : Type 1} → statement M
 write_spec =

@@ -62,7 +62,7 @@ is-test p =
 returns : tie.Need-returns-then-not-point_passes invariant-loop decreases-loop
 returns c =
     let z = (sized c.args.alphabet).least in
-    let other : c.point_passes.result ≡ false = not-true c.point_passes.result c.if-not-point_passes.true in
+    let other : c.point_passes.result ≡ false = c.if-not-point_passes.true in
     sym (every_but (test c.before.before.before.before.before.before.before.before.before.before) (code_on c.args.alphabet).symbols c.loop-b.b (omega arith) (sym (is-test c.before) ∙ other))
 
 add-b : tie.Need-overflow_add-b invariant-loop decreases-loop
@@ -74,7 +74,7 @@ loop-less c = let z = sized c.args.alphabet in omega arith
 loop-again : tie.Need-loop-b-preserved invariant-loop decreases-loop
 loop-again c =
     let z = (sized c.args.alphabet).least in
-    let passes : c.point_passes.result ≡ true = not-false c.point_passes.result c.if-not-point_passes.false in
+    let passes : c.point_passes.result ≡ true = c.if-not-point_passes.false in
     (omega arith, every_more (test c.before.before.before.before.before.before.before.before.before.before) c.loop-b.b c.loop-b.invariant.1 (sym (is-test c.before) ∙ passes))
 
 -- The loop has ended behind the greatest symbol: all points pass.

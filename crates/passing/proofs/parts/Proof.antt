@@ -12,6 +12,7 @@ use Rattle.monomials.specs.Walk.{walked}
 use Rattle.passing.proofs.Gathered.{PartsTo, parts_none, parts_more, parts_done}
 use borrow.Author.Rules.{rules}
 use Rattle.passing.proofs.parts.Statement.{statement}
+use Rattle.passing.proofs.parts.Lts.{then-v-x, else-v-x}
 use Rattle.passing.proofs.parts.Tie as tie
 
 -- x, y and degree are where the walk stands after j steps, and the rows hold what the first j
@@ -65,13 +66,14 @@ loop-again c =
     let at = c.loop-j.invariant.1 in
     let given = c.requires.1.1 in (
       omega arith,
-      ⊎_elim
-          (λ w.
-          let r = walk_stays a.v c.loop-j.j _ _ _ at.0 at.1 at.2 w.0.true in
-          (w.1 ∙ r.0, w.2 ∙ r.1, w.3 ∙ r.2))
-          (λ w.
-          let r = walk_turns a.v c.loop-j.j _ _ _ at.0 at.1 at.2 w.0.false in
-          (w.1 ∙ r.0, w.2 ∙ r.1, w.3 ∙ r.2)) c.if-v-x.branch,
+      elim c.if-v-x.branch [
+        then-v-x w ↦
+            let r = walk_stays a.v c.loop-j.j _ _ _ at.0 at.1 at.2 w.if-v-x.true in
+            (w.x-is ∙ r.0, w.y-is ∙ r.1, w.degree-is ∙ r.2)
+        | else-v-x w ↦
+            let r = walk_turns a.v c.loop-j.j _ _ _ at.0 at.1 at.2 w.if-v-x.false in
+            (w.x-is ∙ r.0, w.y-is ∙ r.1, w.degree-is ∙ r.2)
+      ],
       parts_more (code_on a.alphabet) (field_on a.alphabet) a.v a.px.now a.coefficients.now given.1 given.0 c.loop-j.j _ _ at.0 at.1
           c.loop-j.rows _ (low c.before.before.before.before).1 c.loop-j.invariant.2 c.add_multiple.ensures,
     )

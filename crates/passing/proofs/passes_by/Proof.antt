@@ -133,7 +133,7 @@ column-passes-requires c κs =
 
 -- What was tested is position i.
 is-test : (p : tie.After-column_passes invariant-loop decreases-loop)
-    → (let p.before.before.before.before.before.before.before = at-loop p.before.before.before.before in p.column_passes.result ≡ test p.before.before.before.before.before.before.before.before.before.before.before p.loop-i.i)
+    → (p.column_passes.result ≡ test p.before.before.before.before.before.before.before.before.before.before.before p.loop-i.i)
 is-test p =
     let a = p.args in
     let C = code_of p.before.before.before.before.before.before.before.before.before.before.before in
@@ -151,7 +151,7 @@ returns : tie.Need-returns-then-not-column_passes invariant-loop decreases-loop
 returns c =
     let l = at-loop c.before.before.before.before.before in
     let s = entry_of l in
-    let other : c.column_passes.result ≡ false = not-true c.column_passes.result c.if-not-column_passes.true in
+    let other : c.column_passes.result ≡ false = c.if-not-column_passes.true in
     sym (every_but (test s) s.args.n l.loop-i.i (left c.before.before.before.before.before) (sym (is-test c.before) ∙ other))
 
 look-requires : tie.Need-look-x-requires invariant-loop decreases-loop
@@ -167,7 +167,7 @@ loop-again c =
     let C = code_of s in
     let i = l.loop-i.i in
     let goes_on = left c.before.before.before.before.before.before in
-    let passes : c.column_passes.result ≡ true = not-false c.column_passes.result c.if-not-column_passes.false in (
+    let passes : c.column_passes.result ≡ true = c.if-not-column_passes.false in (
       omega arith,
       c.look-x.ensures ∙ ap (C.times 2) l.loop-i.invariant.1 ∙ sym (power_suc (numbers C) 2 i) ∙ ap (point C) (sym (add-one i)),
       every_more (test s) i l.loop-i.invariant.2 (sym (is-test c.before.before) ∙ passes),

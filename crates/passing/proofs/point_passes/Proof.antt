@@ -49,12 +49,12 @@ is-test o =
 -- An order by x does not pass.
 returns-2 : tie.Need-returns-then-not-order_passes invariant-loop decreases-loop
 returns-2 c =
-    let other : c.order_passes.result ≡ false = not-true c.order_passes.result c.if-not-order_passes.true in
+    let other : c.order_passes.result ≡ false = c.if-not-order_passes.true in
     sym (every_but (test c.before.before.before.before.before.before.before.before) c.args.m c.loop-s.s (omega arith) (sym (is-test c.before) ∙ other))
 
 loop-again : tie.Need-loop-s-preserved invariant-loop decreases-loop
 loop-again c =
-    let passes : c.order_passes.result ≡ true = not-false c.order_passes.result c.if-not-order_passes.false in
+    let passes : c.order_passes.result ≡ true = c.if-not-order_passes.false in
     (omega arith, every_more (test c.before.before.before.before.before.before.before.before) c.loop-s.s c.loop-s.invariant.1 (sym (is-test c.before) ∙ passes))
 
 -- The loop has ended at s = m: all orders pass.

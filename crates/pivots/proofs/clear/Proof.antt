@@ -45,14 +45,14 @@ clear-block-requires c κs =
     let room : a.rows ≤ length c.loop-next.system = omega arith in
     let inside : InRow (c.loop-next.next * block) = omega arith in
     let few : f.result ≤ greatest_limit = omega arith in
-    (d.system, ((inside, omega arith, few), listed_rows _ _ _ _ _ _ f.new.1.1.1.0 f.new.1.1.1.1.0 room c.requires.0 f.ensures.1))
+    (d.system, ((inside, omega arith, few), listed_rows _ _ _ _ _ _ f.new.places f.new.c room c.requires.0 f.ensures.1))
 
 -- the block is cleared up to this column
 abbrev ClearedTo : tie.After-clear_block invariant-loop decreases-loop → ℕ → Type 0
 ClearedTo x to =
     let f = x.factors-n in
     let a = x.args in
-    DoneIn (code_on a.alphabet) (x.loop-next.next * block) to a.j f.result f.last.1.1.1.0 f.last.1.1.1.1.0 x.loop-next.system x.clear_block.new.system
+    DoneIn (code_on a.alphabet) (x.loop-next.next * block) to a.j f.result f.new.places f.new.c x.loop-next.system x.clear_block.new.system
 
 loop-again : tie.Need-loop-next-preserved invariant-loop decreases-loop
 loop-again c =

@@ -28,7 +28,7 @@ returns c =
     absurd (not_refused (code_on a.alphabet) (pivotOf c.before.before.before.before) (c.requires.0.symbols a.r a.j) c.requires.1.1.1.1.1 c.in_default.field-0 refused)
 
 -- u is a symbol, and u times the pivot is 1.
-inverts : (u : tie.In-Of-2) → (let x = u.in-Of.u in let C = code_on u.args.alphabet in (x < C.symbols) × (C.times x (pivotOf u.before.before.before.before) ≡ 1))
+inverts : (u : tie.In-Of-2) → (let x = u.u-1.given.0.0 in let C = code_on u.args.alphabet in (x < C.symbols) × (C.times x (pivotOf u.before.before.before.before) ≡ 1))
 inverts c =
     let a = c.args in
     let C = code_on a.alphabet in

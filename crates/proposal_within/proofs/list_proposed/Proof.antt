@@ -72,7 +72,7 @@ within y = let is = is_bound y.before.before in omega arith
 returns-3 : tie.Need-returns-then-not-is_yes
 returns-3 c =
     let a = c.args in
-    let no_of : c.is_yes.result ≡ false = not-true c.is_yes.result c.if-not-is_yes.true in
+    let no_of : c.is_yes.result ≡ false = c.if-not-is_yes.true in
     refused_by_proposal (code_of c.before.before.before.before.before.before.before.before.before) a.n a.k a.limit a.degree a.coefficients.now (bytes c.before.before.before.before.before.before.before.before.before) a.rows.now a.scores.now (cheap c.before.before.before) (within c.before)
     (sym c.is_yes.ensures ∙ no_of)
 
@@ -86,7 +86,7 @@ module _ (c : tie.After-in_columns-columns) where
 
   says_yes : (let a = start.args in is_yes (code_of start) a.n (a.k - 1) a.degree (bytes start) a.coefficients.now ≡ true)
   says_yes =
-      let yes_of : asked.is_yes.result ≡ true = not-false asked.is_yes.result c.if-not-is_yes.false in
+      let yes_of : asked.is_yes.result ≡ true = c.if-not-is_yes.false in
       sym asked.is_yes.ensures ∙ yes_of
 
   full : length (bytes start) ≡ (code_of start).symbols * start.args.n

@@ -11,7 +11,7 @@ use Rattle.reader.proofs.main.Tie as tie
 read : (at_count : tie.In-Bytes-2) → IsPrefixLen at_count.in-Bytes.count at_count.read_full.new.buf
 read at_count =
     let call = at_count.read_full in
-    subst (λ (moved : Moved). Within moved call.last.1.0) at_count.in-Bytes.is call.ensures
+    subst (λ (moved : Moved). Within moved call.new.buf) at_count.in-Bytes.is call.ensures
 
 pub main_spec : {M : Type 1} → statement M
 main_spec =

@@ -10,7 +10,7 @@ priced-requires : tie.Need-priced-requires
 priced-requires c κs =
     let a = c.args in
     let h = held a.n a.cost a.totals.now a.entries.now in
-    let o = held a.other-n a.other-cost a.other-totals.now a.other_entries.now in
+    let o = held a.other_n a.other_cost a.other_totals.now a.other_entries.now in
     rw c.add.ensures.0 (add_narrow a.alphabet h o)
 
 -- The only end: what crosses to C is what `editing::parts::add` answered, and both memories are as

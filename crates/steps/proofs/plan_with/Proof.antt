@@ -23,9 +23,6 @@ decreases-loop alphabet n reliabilities steps multiplicities₀ leaders₀ s₀ 
 from-zeros : (s : tie.Start invariant-loop decreases-loop) → s.args.multiplicities.now ≡ plan s.args.reliabilities.now 0
 from-zeros s = s.requires.1 ∙ sym (plan_zero s.args.reliabilities.now)
 
-abbrev lending : tie.After-lay-leaders-arg2 invariant-loop decreases-loop → tie.Start invariant-loop decreases-loop
-lending c = c.before.before.before.before.before
-
 lay-leaders-requires : tie.Need-lay_leaders-requires invariant-loop decreases-loop
 lay-leaders-requires c κs =
     let a = c.args in
@@ -36,7 +33,7 @@ loop-holds c =
     (omega arith, from-zeros c.before.before.before.before.before.before.before, done_zero c.args.reliabilities.now, c.lay_leaders.ensures)
 
 abbrev entry : tie.At-loop-s invariant-loop decreases-loop → tie.Start invariant-loop decreases-loop
-entry l = lending l.before.before.before.before
+entry l = l.before.before.before.before.before.before.before.before
 
 step-requires : tie.Need-step-requires invariant-loop decreases-loop
 step-requires c κs =

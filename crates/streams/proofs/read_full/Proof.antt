@@ -23,7 +23,7 @@ within : (at_more : tie.In-Bytes-2 invariant-loop decreases-loop)
 within at_more =
     let loop = at_more.loop-done in
     let read = at_more.read_some in
-    moved_within loop.done at_more.in-Bytes.more loop.buf read.last.1.0 read.result loop.invariant.1 at_more.buf-1.given.0 at_more.in-Bytes.is read.ensures
+    moved_within loop.done at_more.in-Bytes.more loop.buf read.new.buf read.result loop.invariant.1 at_more.buf-1.given.0 at_more.in-Bytes.is read.ensures
 
 add_done : tie.Need-overflow_add-done invariant-loop decreases-loop
 add_done c = omega (arith, within c.before)

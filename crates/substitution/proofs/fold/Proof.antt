@@ -9,6 +9,7 @@ use Rattle.definitions.specs.Code.{Symbols}
 use Rattle.instances.proofs.Codes.{field_on}
 use Rattle.substitution.proofs.Shifting.{FoldedTo, folded_none, folded_more, folded_kept, folded_all}
 use Rattle.substitution.proofs.fold.Statement.{statement}
+use Rattle.substitution.proofs.fold.Lts.{then-b-bit-eq0, else-b-bit-eq0}
 use Rattle.substitution.proofs.fold.Tie as tie
 
 -- Before round b the entries before b of each column are folded, and those from b on are as they were.
@@ -33,18 +34,18 @@ stepped : (c : tie.Joined-b-bit-eq0 invariant-loop decreases-loop)
     → (let a = c.args in let C = code_on a.alphabet in
     (length c.if-b-bit-eq0.p ≡ length a.p.now) × Symbols C c.if-b-bit-eq0.p × FoldedTo C a.h a.w a.bit a.g a.p.now (c.loop-b.b + 1) c.if-b-bit-eq0.p)
 stepped c =
-    let c.before.before = c.loop-b in
+    let l = c.loop-b in
     let a = c.args in
     let C = code_on a.alphabet in
     let inside = c.loop-b-test.true in
-    ⊎_elim
-    (λ w.
-    let more = folded_more C a.h a.w a.bit a.g a.p.now c.b c.p c.invariant.3 inside w.2.last.1.1.0 w.0.true c.requires.1.1.0 w.2.ensures.0 in
-    rw w.5 (w.2.kept.1.1.0 ∙ c.invariant.1, w.2.ensures.1, more))
-    (λ w.
-    let kept = folded_kept C a.h a.w a.bit a.g a.p.now c.b c.p c.invariant.3 inside w.0.false in
-    rw w.1 (c.invariant.1, c.invariant.2, kept))
-    c.if-b-bit-eq0.branch
+    elim c.if-b-bit-eq0.branch [
+      then-b-bit-eq0 w ↦
+          let more = folded_more C a.h a.w a.bit a.g a.p.now l.b l.p l.invariant.3 inside w.add_multiple.new.p w.if-b-bit-eq0.true c.requires.1.1.0 w.add_multiple.ensures.0 in
+          rw w.p-is (w.add_multiple.auto.p ∙ l.invariant.1, w.add_multiple.ensures.1, more)
+      | else-b-bit-eq0 w ↦
+          let kept = folded_kept C a.h a.w a.bit a.g a.p.now l.b l.p l.invariant.3 inside w.if-b-bit-eq0.false in
+          rw w.p-is (l.invariant.1, l.invariant.2, kept)
+    ]
 
 loop-again : tie.Need-loop-b-preserved invariant-loop decreases-loop
 loop-again c = let x = stepped c in (omega arith, x.0, x.1, x.2)

@@ -54,10 +54,10 @@ loop-again c =
     let r = c.fold in
     let k = l.invariant.0.0 in
     let e = l.invariant.0.1 in
-    let more = left_of_more C F a.h a.w a.g a.p.now k l.bit l.power l.p r.new.1.1.0 e l.invariant.1 l.invariant.3 r.ensures.0 l.invariant.4 in (
+    let more = left_of_more C F a.h a.w a.g a.p.now k l.bit l.power l.p r.new.p e l.invariant.1 l.invariant.3 r.ensures.0 l.invariant.4 in (
       (suc k, ap (λ (n : ℕ). n * 2) e ∙ sym (pow-suc 2 k)),
       rw c.look-power.ensures (times_symbol C F _ _ (omega arith) (omega arith)),
-      r.auto.1.1.0 ∙ l.invariant.2,
+      r.auto.p ∙ l.invariant.2,
       r.ensures.1,
       rw c.look-power.ensures more,
     )

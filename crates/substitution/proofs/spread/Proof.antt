@@ -35,10 +35,10 @@ within : (c : tie.In-loop-a invariant-loop decreases-loop)
 within c = let a = c.args in column_within c.loop-a.a a.h a.w (omega arith)
 
 mul-from : tie.Need-overflow_mul-from invariant-loop decreases-loop
-mul-from c = let i = within c in omega arith
+mul-from c = let i = column_within c.loop-a.a c.args.h c.args.w (omega arith) in omega arith
 
 add-to : tie.Need-overflow_add-to invariant-loop decreases-loop
-add-to c = let i = within c in omega arith
+add-to c = let i = column_within c.loop-a.a c.args.h c.args.w (omega arith) in omega arith
 
 part-lay-end : tie.Need-slice_bounds-lay-end-in-loop-a invariant-loop decreases-loop
 part-lay-end c = let i = within c.before in omega arith
@@ -69,7 +69,7 @@ loop-again c =
           let rest = drop_symbols (code_on c) (l.a * a.h) p sp in
           let column = take_symbols (code_on c) (zero_symbol (code_on c) (field_on c)) a.h (drop (l.a * a.h) p) rest in
           rw e at r.ensures.1 c column (l.invariant.2 c sp)),
-      spread_more a.h a.w p l.a l.q-1 r.new.0 l.invariant.3 (rw e at r.ensures.0),
+      spread_more a.h a.w p l.a l.q r.new.p l.invariant.3 (rw e at r.ensures.0),
     )
 
 -- The loop has ended at a = w: all columns are laid.
@@ -78,7 +78,7 @@ returns c =
     let l = c.loop-a in
     let a = c.args in
     let end : l.a ≡ a.w = omega arith in
-    (subst (λ (n : ℕ). Spread a.h a.w n a.p.now l.q-1) end l.invariant.3, l.invariant.2)
+    (subst (λ (n : ℕ). Spread a.h a.w n a.p.now l.q) end l.invariant.3, l.invariant.2)
 
 pub spread_spec : {M : Type 1} → statement M
 spread_spec =

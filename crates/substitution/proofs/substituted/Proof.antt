@@ -21,7 +21,7 @@ returns c =
     let x = c.shift in
     let a = c.args in
     let q = c.spread in (
-      spread_shifted (code_on a.alphabet) (field_on a.alphabet) a.h a.w a.g a.p x.new.1.1.0 q.result c.requires.1.1.1 c.requires.1.0 x.ensures.0 q.ensures.0,
+      spread_shifted (code_on a.alphabet) (field_on a.alphabet) a.h a.w a.g a.p x.new.p q.result c.requires.1.1.1 c.requires.1.0 x.ensures.0 q.ensures.0,
       q.ensures.1 a.alphabet x.ensures.1,
     )
 

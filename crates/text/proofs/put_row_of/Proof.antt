@@ -29,7 +29,7 @@ returns c =
     let a = c.args in
     let score = c.long-score in
     let put = c.put_row in
-    row_put (code_on a.alphabet) a.k a.rows.now a.scores.now a.out.now put.new.1.0 a.at a.j score.result put.result
+    row_put (code_on a.alphabet) a.k a.rows.now a.scores.now a.out.now put.new.out a.at a.j score.result put.result
     (few_symbols c.before.before.before.before.before.before.before.before.before.before) score.ensures.0 (omega arith) put.ensures.0 put.ensures.1
 
 pub put_row_of_spec : {M : Type 1} → statement M

@@ -36,7 +36,7 @@ loop-again c =
     let l = c.loop-j in
     let put = c.put_row_of-end in
     let within : a.at ≤ length a.out.now = omega arith in
-    let lines = lines_more (code_on a.alphabet) a.k a.rows.now a.scores.now a.out.now l.out put.new.1.0 a.at l.end put.result l.j
+    let lines = lines_more (code_on a.alphabet) a.k a.rows.now a.scores.now a.out.now l.out put.new.out a.at l.end put.result l.j
     within l.invariant.2 put.ensures.0 in
     (omega arith, omega arith, lines)
 

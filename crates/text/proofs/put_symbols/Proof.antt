@@ -32,7 +32,7 @@ loop-again c =
     let l = c.loop-j in
     let put = c.put_symbol-end in
     let within : a.at ≤ length a.out.now = omega arith in
-    let text = text_more (code_on a.alphabet) a.message.now a.out.now l.out put.new.1.0 a.at l.end put.result l.j
+    let text = text_more (code_on a.alphabet) a.message.now a.out.now l.out put.new.out a.at l.end put.result l.j
     within (omega arith) l.invariant.2 put.ensures.0 in
     (omega arith, omega arith, text)
 

@@ -18,13 +18,13 @@ use Rattle.opening.specs.Handing.{is_open}
 verdict : (c : tie.After-judged-verdict)
     → (let a = c.args in
     judgement_of c.judged-verdict.result
-    ≡ both_answer (code_on a.alphabet) a.first a.rows.now a.scores.now a.second a.others.now a.other-scores.now a.lead)
+    ≡ both_answer (code_on a.alphabet) a.first a.rows.now a.scores.now a.second a.others.now a.other_scores.now a.lead)
 verdict c = c.judged-verdict.ensures ∙ c.judge_both.ensures
 
 told-part-requires : tie.Need-told_part-requires
 told-part-requires c κs opens =
     let a = c.args in
-    let small = both_open_sized (code_on a.alphabet) a.first a.rows.now a.scores.now a.second a.others.now a.other-scores.now a.lead
+    let small = both_open_sized (code_on a.alphabet) a.first a.rows.now a.scores.now a.second a.others.now a.other_scores.now a.lead
     (sym (ap is_open (verdict c.before)) ∙ opens) in
     let size = sized a.alphabet in
     omega arith

@@ -28,10 +28,10 @@ abbrev handed : tie.Start → Held
 handed s = held s.args.n s.args.cost s.args.totals.now s.args.entries.now
 
 abbrev other : tie.Start → Held
-other s = held s.args.other-n s.args.other-cost s.args.other-totals.now s.args.other_entries.now
+other s = held s.args.other_n s.args.other_cost s.args.other_totals.now s.args.other_entries.now
 
 abbrev front : tie.Start → List Line
-front s = size (code s) s.args.n ∷ same_size s.args.n s.args.other-n ∷ stored (code s) (handed s) ∷ stored (code s) (other s) ∷ []
+front s = size (code s) s.args.n ∷ same_size s.args.n s.args.other_n ∷ stored (code s) (handed s) ∷ stored (code s) (other s) ∷ []
 
 abbrev sum : tie.Start → List ℕ
 sum s = with_added s.args.entries.now s.args.other_entries.now

@@ -1,6 +1,7 @@
 -- What stands in front of the entries is compared with the rule's result, which is written in front
 -- of zeros.
 use mathlib.Core.List.{List, ◌++◌}
+use mathlib.Core.Bool.{not}
 use mathlib.Core.Path.{◌≡◌, sym, ◌∙◌, ap}
 use Prim.Native.Nat.{ℕ, ◌≤◌}
 use native.Mathlib.Omega.{arith}
@@ -62,7 +63,7 @@ returns : tie.Need-returns-then-not-same_up_to
 returns c =
     let a = c.args in
     plan_refused (code_on a.alphabet) a.n a.steps a.reliabilities.now c.requires.0.full a.entries.now (front c.before.before.before.before ++ behind c.before.before.before.before) (behind c.before.before.before.before) (stands c.before.before.before.before)
-    c.same_up_to.result c.same_up_to.ensures c.if-not-same_up_to.true
+    c.same_up_to.result c.same_up_to.ensures (ap not c.if-not-same_up_to.true)
 
 -- It is the rule's result, so the plan's line accepts, and the steps told are those that the rule
 -- took.
@@ -70,7 +71,7 @@ returns-2 : tie.Need-returns
 returns-2 c =
     let a = c.args in
     plan_taken (code_on a.alphabet) a.n a.steps a.reliabilities.now c.requires.0.full a.entries.now (front c.before.before.before.before ++ behind c.before.before.before.before) (behind c.before.before.before.before) (stands c.before.before.before.before)
-    c.same_up_to.result c.same_up_to.ensures c.if-not-same_up_to.false c.plan_into-done.result c.plan_into-done.ensures.0
+    c.same_up_to.result c.same_up_to.ensures (ap not c.if-not-same_up_to.false) c.plan_into-done.result c.plan_into-done.ensures.0
 
 pub check_entries_spec : {M : Type 1} → statement M
 check_entries_spec =
