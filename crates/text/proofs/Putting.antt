@@ -44,9 +44,9 @@ abbrev pub together : List (List ℕ) → List ℕ
 together [] = []
 together (w ∷ texts) = together texts ++ w
 
-pub puts_in_turn : {out after : List ℕ} {texts : List (List ℕ)} {at end : ℕ} → at ≤ length out → InTurn out at texts end after → Puts out at (together texts) end after
-puts_in_turn {out} {at = at} h begun = (omega arith, refl, laid_none out at)
-puts_in_turn {out} {after} {at = at} h (◌▸◌ {texts = texts} {w = w} {middle = middle} {end = end} {last = last} earlier p) =
+pub puts_in_turn : {out : List ℕ} {at : ℕ} {after : List ℕ} {texts : List (List ℕ)} {end : ℕ} → at ≤ length out → InTurn out at texts end after → Puts out at (together texts) end after
+puts_in_turn {out} {at} h begun = (omega arith, refl, laid_none out at)
+puts_in_turn {out} {at} {after} h (◌▸◌ {texts = texts} {w = w} {middle = middle} {end = end} {last = last} earlier p) =
     puts_more out middle after (together texts) w at end last h (puts_in_turn h earlier) p
 
 -- the text of a message, symbol after symbol: no symbol, and one more

@@ -35,7 +35,7 @@ returns c =
 -- the page asks.
 returns-2 : tie.Need-returns
 returns-2 c =
-    let none : is_open (told_verdict c.judge.result) ≡ false = other_verdict c.judge.result c.in_default-own.keys2 in
+    let none : is_open (told_verdict c.judge.result) ≡ false = other_verdict c.judge.result c.in_default.in_default-own.keys2 in
     empty_front c.args.rows ∙ sym (ap (handed c.before.before.before.before.before) (sym (ap is_open c.judge.ensures) ∙ none))
 
 pub opened_spec : {M : Type 1} → statement M

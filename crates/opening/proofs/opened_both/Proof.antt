@@ -64,7 +64,7 @@ returns-2 c =
 -- as the page asks.
 returns-3 : tie.Need-returns
 returns-3 c =
-    let none : is_open (told_verdict c.judge_both.result) ≡ false = other_verdict c.judge_both.result c.in_default-own.keys2 in
+    let none : is_open (told_verdict c.judge_both.result) ≡ false = other_verdict c.judge_both.result c.in_default.in_default-own.keys2 in
     empty_front c.args.rows
     ∙ sym (ap (λ (b : Bool). handed c.before.before.before.before.before.before.before b (eqb (length c.args.scores.now) 0)) (sym (ap is_open c.judge_both.ensures) ∙ none))
 

@@ -28,15 +28,16 @@ returns c =
     absurd (not_refused (code_on a.alphabet) (pivotOf c.before.before.before.before) (c.requires.0.symbols a.r a.j) c.requires.1.1.1.1.1 c.in_default.field-0 refused)
 
 -- u is a symbol, and u times the pivot is 1.
-inverts : (u : tie.In-Of-2) → (let x = u.u-1.given.0.0 in let C = code_on u.args.alphabet in (x < C.symbols) × (C.times x (pivotOf u.before.before.before.before) ≡ 1))
+inverts : (c : tie.In-Of)
+    → (let C = code_on c.args.alphabet in (c.in-Of.u < C.symbols) × (C.times c.in-Of.u (pivotOf c.before.before.before.before) ≡ 1))
 inverts c =
     let a = c.args in
     let C = code_on a.alphabet in
-    let u = c.u-1.given in
+    let u = c.in-Of.u in
     let x = pivotOf c.before.before.before.before in
     let h = c.requires.0.symbols a.r a.j in
     let n = c.requires.1.1.1.1.1 in
-    inverse_law C (field_on a.alphabet) x u.0.0 h n (answered C x h n u.0.0 (sym (ap told_element u.1) ∙ c.inverse.ensures))
+    inverse_law C (field_on a.alphabet) x u h n (answered C x h n u (sym (ap told_element c.in-Of.is) ∙ c.inverse.ensures))
 
 exchange-requires : tie.Need-exchange-requires
 exchange-requires c κs =

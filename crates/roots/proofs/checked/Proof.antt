@@ -37,6 +37,7 @@ module _ (C : Code) (D k : ℕ) where
         let above = count_above (k - 1) (omega arith) D in
         let many = leb-true greatest_count D e in
         pass s (stop (lt-ltb greatest_count (count (k - 1) D) (omega arith)))
+    early-given (pass s (pass _ more)) = elim more [ ]
 
   early-passed : Accepts early → (2 ≤ k) × (D < greatest_count)
   early-passed (next s (next e end)) = ((size_means C k s).0, leb-false greatest_count D e)

@@ -22,7 +22,7 @@ returns c =
     let digits = c.decimal-count in
     let put = c.put in
     decimal_put a.out.now put.new.out digits.new.out a.at a.x number.result digits.result put.result number.ensures.0 number.ensures.1
-    digits.ensures.1.0 digits.ensures.1.1 digits.ensures.0.1 put.ensures
+    digits.ensures.1.0 digits.ensures.1.1.0 digits.ensures.0.1 put.ensures
 
 pub put_decimal_spec : {M : Type 1} → statement M
 put_decimal_spec =

@@ -21,10 +21,8 @@ pub put_listed_spec : {M : Type 1} → statement M
 put_listed_spec =
     tie.close
     (tie.spec
-    (λ c. search rules)
     (λ c κs. search rules)
     (λ c κs. search rules)
-    (λ c. search rules)
     (λ c κs. search rules)
     (λ c. search rules)
     returns)

@@ -7,14 +7,9 @@ use borrow.Author.Rules.{rules}
 use Rattle.text.proofs.put_row.Statement.{statement}
 use Rattle.text.proofs.put_row.Tie as tie
 
-abbrev entry : tie.After-put-named → tie.Start
-entry name = name.before.before.before.before.before
-
 -- the room that the entry asks for lies too far back for omega to find it
 put-requires-3 : tie.Need-put-requires
-put-requires-3 c κs =
-    let at-start = entry c.before.before.before.before.before.before.before.before.before.before.before.before.before.before.before.before.before.before.before in
-    omega arith
+put-requires-3 c κs = let room = c.requires in omega arith
 
 -- The five texts are the line of the row, and each of them ends within its room.
 returns : tie.Need-returns
@@ -27,13 +22,10 @@ pub put_row_spec : {M : Type 1} → statement M
 put_row_spec =
     tie.close
     (tie.spec
-    (λ c. search rules)
     (λ c κs. search rules)
     (λ c κs. search rules)
-    (λ c. search rules)
     (λ c κs. search rules)
     (λ c κs. search rules)
-    (λ c. search rules)
     put-requires-3
     (λ c. search rules)
     returns)
