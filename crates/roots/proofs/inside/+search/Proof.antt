@@ -77,7 +77,7 @@ abbrev Of : (search-lts.Claims → In 2 search-kinds.ps → Out 2 search-kinds.p
 Of X t = X (claims t) (search-at t) search'.Post search-Inv-loop search-μ-loop
 
 module _ (t : ℕ) where
-  -- ---- the entry; `t3` and `t6` are the generated names of the arrays p and row
+  -- ---- the entry
 
   module _ (s : Of search-lts.Start t) where
     abbrev C : Code
@@ -93,7 +93,7 @@ module _ (t : ℕ) where
 
     -- the rows of all ways to go on
     abbrev rows : List ℕ
-    rows = rows_after prefix (tree.search-end C s.args.left M)
+    rows = rows_after prefix (tree.search C s.args.left M)
 
     tabled : Tabled C s.args.table.now
     tabled = s.requires.1.0
@@ -138,7 +138,7 @@ module _ (t : ℕ) where
   root-length : (c : Of search-lts.Then-constants_zero t) → length (rows (root c)) ≡ (root c).args.k
   root-length c =
       let a = (root c).args in
-      leaf_root_length (C (root c)) a.t6 a.k a.left (M (root c)) c.before.before.before.if-left-eq0.true (is-root c) (long (root c))
+      leaf_root_length (C (root c)) a.row a.k a.left (M (root c)) c.before.before.before.if-left-eq0.true (is-root c) (long (root c))
 
   array-share-prefix-row : Of search-lts.Need-slice_bounds-row-end t
   array-share-prefix-row c = let l = long (root c.before) in search rules
@@ -170,7 +170,7 @@ module _ (t : ℕ) where
       let s = root w in
       let a = s.args in (
         ap (λ (n : ℕ). a.at + n) (sym (root-length w)),
-        leaf_written (C s) a.t6 a.k a.left (M s) w.before.before.before.if-left-eq0.true (is-root w) a.out.now _ a.at c.before.before.put.ensures,
+        leaf_written (C s) a.row a.k a.left (M s) w.before.before.before.if-left-eq0.true (is-root w) a.out.now _ a.at c.before.before.put.ensures,
       )
 
   -- No symbol is left and a constant is not zero: there is no row, and nothing is written.
@@ -179,7 +179,7 @@ module _ (t : ℕ) where
       let s = leaf c.before.before in
       let a = s.args in
       let no-root = sym c.if-constants_zero.false ∙ c.before.constants_zero.ensures a.alphabet in
-      leaf_nothing (C s) a.t6 a.k a.left (M s) c.before.before.before.if-left-eq0.true no-root a.out.now a.at
+      leaf_nothing (C s) a.row a.k a.left (M s) c.before.before.before.if-left-eq0.true no-root a.out.now a.at
 
   -- ---- one symbol after the other
 
@@ -228,15 +228,15 @@ module _ (t : ℕ) where
   -- a symbol that begins a root: what is handed on is within the array, its rows go behind those before
   gone : (c : Of search-lts.After-first_value t) (r : List ℕ)
       → (let l = (tried c).loop-g in let s = level (tried c) in let a = s.args in
-      c.first_value.result ≡ 0 → Symbols (C s) r → Handed (C s) a.h (a.degree + 1) l.g a.t3 r
-      → GoneOn (C s) a.k a.left a.degree a.h a.t6 a.t3 a.out.now a.at l.out l.end l.g r)
+      c.first_value.result ≡ 0 → Symbols (C s) r → Handed (C s) a.h (a.degree + 1) l.g a.p r
+      → GoneOn (C s) a.k a.left a.degree a.h a.row a.p a.out.now a.at l.out l.end l.g r)
   gone c r zero sr handed =
       let l = (tried c).loop-g in
       let s = level (tried c) in
       let a = s.args in
       let v = c.first_value in
-      let begun = begins_yes (C s) a.h a.degree l.g a.t3 v.result v.ensures zero in
-      gone_on (C s) (field_on a.alphabet) a.k a.left a.degree a.h a.t6 a.t3 a.out.now a.at l.out l.end l.g
+      let begun = begins_yes (C s) a.h a.degree l.g a.p v.result v.ensures zero in
+      gone_on (C s) (field_on a.alphabet) a.k a.left a.degree a.h a.row a.p a.out.now a.at l.out l.end l.g
       (is-symbol c.before.before) (some_left (tried c)) (sizes s).2 (long s) (room s) l.invariant.2 l.invariant.3 (sizes s).0 (symbols s) (within s) begun r sr handed
 
   search-requires : Of search-lts.Need-search-end-requires t
@@ -270,7 +270,7 @@ module _ (t : ℕ) where
       let more = (gone c.before w.1.result w.0.true w.1.ensures.1 w.1.ensures.0).written _ _ (w.7 ∙ w.3.ensures.0) (w.6 ∙ w.3.ensures.1) in
       (omega arith, ap length w.6 ∙ w.3.kept.1.1.1.1.1.1.1.1.0 ∙ l.invariant.1, more.0, more.1))
       (λ w.
-      let begins = begins_no (C s) a.h a.degree l.g a.t3 v.result v.ensures w.0.false in
+      let begins = begins_no (C s) a.h a.degree l.g a.p v.result v.ensures w.0.false in
       let same = tried_none (C s) (prefix s) (a.left - 1) (M s) a.out.now a.at l.out l.end l.g l.invariant.2 l.invariant.3 begins in
       (omega arith, ap length w.1 ∙ l.invariant.1, w.2 ∙ same.0, w.1 ∙ same.1))
       c.if-first_value-eq0.branch
