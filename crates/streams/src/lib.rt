@@ -2,7 +2,10 @@
 
 #![tactic(auto)]
 
-ghost use Rattle.streams.specs.Moved.{Within};
+ghost use Rattle.std.specs.Prelude.{IsTrue, ◌≡◌, ◌↔◌};
+ghost use Rattle.std.specs.Io.KnownBytes.{Appends};
+ghost use Rattle.std.specs.IoError.{error_kind};
+ghost use Rattle.streams.specs.Moved.{Within, ReadsSome, ReadsFull, WritesSome};
 
 use std::io::{Error, ErrorKind, Read, Write};
 
@@ -16,12 +19,15 @@ pub enum Moved {
     Failed,
 }
 
-fn interrupted(error: &Error) -> bool {
+fn interrupted(error: &Error) -> bool
+    ensures { IsTrue result ↔ (error_kind error.now ≡ ErrorKind.Interrupted) }
+{
     error.kind() == ErrorKind::Interrupted
 }
 
 fn read_some<R: Read>(reader: &mut R, buf: &mut [u8]) -> Moved
-    ensures { Within result buf.new }
+    ensures within { Within result buf.new }
+    ensures bytes { ReadsSome (R.remaining reader.old) (R.remaining reader.new) result buf.new }
 {
     for _ in 0..TRIES {
         match reader.read(buf) {
@@ -37,7 +43,8 @@ fn read_some<R: Read>(reader: &mut R, buf: &mut [u8]) -> Moved
 }
 
 fn write_some<W: Write>(writer: &mut W, buf: &[u8]) -> Moved
-    ensures { Within result buf.now }
+    ensures within { Within result buf.now }
+    ensures bytes { WritesSome (W.contents writer.old) (W.contents writer.new) result buf.now }
 {
     for _ in 0..TRIES {
         match writer.write(buf) {
@@ -54,7 +61,8 @@ fn write_some<W: Write>(writer: &mut W, buf: &[u8]) -> Moved
 
 // Reads until buf is full or the input ends. Nothing more is asked for once buf is full.
 pub fn read_full<R: Read>(reader: &mut R, buf: &mut [u8]) -> Moved
-    ensures { Within result buf.new }
+    ensures within { Within result buf.new }
+    ensures bytes { ReadsFull (R.remaining reader.old) (R.remaining reader.new) result buf.new }
 {
     let mut done = 0;
     while done < buf.len() {
@@ -70,7 +78,9 @@ pub fn read_full<R: Read>(reader: &mut R, buf: &mut [u8]) -> Moved
 }
 
 // Whether all of buf was written.
-pub fn write_all<W: Write>(writer: &mut W, buf: &[u8]) -> bool {
+pub fn write_all<W: Write>(writer: &mut W, buf: &[u8]) -> bool
+    ensures { IsTrue result → Appends (W.contents writer.old) (W.contents writer.new) buf.now }
+{
     let mut done = 0;
     while done < buf.len() {
         let Moved::Bytes(taken) = write_some(writer, &buf[done..]) else {
