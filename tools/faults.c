@@ -2,8 +2,8 @@
  * Stands before the system's read and write in an x86-64 program that it is preloaded into, so that
  * calls fail where a test wants them to. The environment's READS and WRITES have a letter for each
  * call, one after the other: i interrupts it, e fails it, a digit lets it move at most so many bytes.
- * After the last letter the calls are the system's. It includes no header, since the kit that
- * compiles it on any machine has none.
+ * After the last letter the calls are the system's. It includes no header, so that no declaration of
+ * read and write stands beside these.
  */
 enum { READ = 0, WRITE = 1, INTERRUPTED = 4, FAILED = 5 };
 

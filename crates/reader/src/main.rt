@@ -4,22 +4,23 @@
 #![tactic(auto)]
 
 use alphabet::Alphabet;
-use libc::{STDERR_FILENO, STDIN_FILENO, STDOUT_FILENO};
+use std::io::Write;
 use streams::Moved;
 
-fn answer(input: &[u8]) {
+// A sentence that cannot be written either is lost.
+fn answer<W: Write, E: Write>(input: &[u8], output: &mut W, errors: &mut E) {
     let mut out = [0u8; output::ROOM];
     let end = output::write(Alphabet::Sixteen, input, &mut out);
-    if !streams::write_all(STDOUT_FILENO, &out[..end]) {
-        streams::write_all(STDERR_FILENO, b"reader: the answer cannot be written\n");
+    if !streams::write_all(output, &out[..end]) {
+        streams::write_all(errors, b"reader: the answer cannot be written\n");
     }
 }
 
-fn main() {
+fn main(rt: HostRuntime) {
     let mut input = [0u8; output::LONGEST_OF_SIXTEEN];
-    let Moved::Bytes(count) = streams::read_full(STDIN_FILENO, &mut input) else {
-        streams::write_all(STDERR_FILENO, b"reader: the input cannot be read\n");
+    let Moved::Bytes(count) = streams::read_full(&mut rt.stdin(), &mut input) else {
+        streams::write_all(&mut rt.stderr(), b"reader: the input cannot be read\n");
         return;
     };
-    answer(&input[..count]);
+    answer(&input[..count], &mut rt.stdout(), &mut rt.stderr());
 }

@@ -1,10 +1,13 @@
-// Bytes read and written by calls of the system. A call that is interrupted is made again, and one that fails is told.
+// Bytes read from a reader and written to a writer of std. A call that is interrupted is made again, and one that fails is told.
 
 #![tactic(auto)]
 
-ghost use Rattle.streams.specs.Moved.{Within};
+ghost use Rattle.std.specs.Prelude.{IsTrue, ◌≡◌, ◌↔◌};
+ghost use Rattle.std.specs.Io.KnownBytes.{Appends};
+ghost use Rattle.std.specs.IoError.{error_kind};
+ghost use Rattle.streams.specs.Moved.{Within, ReadsSome, ReadsFull, WritesSome};
 
-use libc::EINTR;
+use std::io::{Error, ErrorKind, Read, Write};
 
 // So often a call is tried: more often than any machine can, but every function ends.
 const TRIES: u64 = 18446744073709551615;
@@ -16,58 +19,54 @@ pub enum Moved {
     Failed,
 }
 
-fn interrupted(answer: isize) -> bool {
-    if answer < 0 {
-        os::errno() == EINTR
-    } else {
-        false
-    }
+fn interrupted(error: &Error) -> bool
+    ensures { IsTrue result ↔ (error_kind error.now ≡ ErrorKind.Interrupted) }
+{
+    error.kind() == ErrorKind::Interrupted
 }
 
-fn told(answer: isize, buf: &[u8]) -> Moved
-    ensures { Within result buf.now }
+fn read_some<R: Read>(reader: &mut R, buf: &mut [u8]) -> Moved
+    ensures within { Within result buf.new }
+    ensures bytes { ReadsSome (R.remaining reader.old) (R.remaining reader.new) result buf.new }
 {
-    if answer < 0 {
-        return Moved::Failed;
-    }
-    Moved::Bytes(io::count(answer, buf))
-}
-
-fn read_some(fd: i32, buf: &mut [u8]) -> Moved
-    ensures { Within result buf.new }
-{
-    let mut left = TRIES;
-    while 0 < left {
-        let answer = libc::read(fd, buf);
-        if !interrupted(answer) {
-            return told(answer, buf);
+    for _ in 0..TRIES {
+        match reader.read(buf) {
+            Ok(count) => return Moved::Bytes(count),
+            Err(error) => {
+                if !interrupted(&error) {
+                    return Moved::Failed;
+                }
+            }
         }
-        left -= 1;
     }
     Moved::Failed
 }
 
-fn write_some(fd: i32, buf: &[u8]) -> Moved
-    ensures { Within result buf.now }
+fn write_some<W: Write>(writer: &mut W, buf: &[u8]) -> Moved
+    ensures within { Within result buf.now }
+    ensures bytes { WritesSome (W.contents writer.old) (W.contents writer.new) result buf.now }
 {
-    let mut left = TRIES;
-    while 0 < left {
-        let answer = libc::write(fd, buf);
-        if !interrupted(answer) {
-            return told(answer, buf);
+    for _ in 0..TRIES {
+        match writer.write(buf) {
+            Ok(count) => return Moved::Bytes(count),
+            Err(error) => {
+                if !interrupted(&error) {
+                    return Moved::Failed;
+                }
+            }
         }
-        left -= 1;
     }
     Moved::Failed
 }
 
 // Reads until buf is full or the input ends. Nothing more is asked for once buf is full.
-pub fn read_full(fd: i32, buf: &mut [u8]) -> Moved
-    ensures { Within result buf.new }
+pub fn read_full<R: Read>(reader: &mut R, buf: &mut [u8]) -> Moved
+    ensures within { Within result buf.new }
+    ensures bytes { ReadsFull (R.remaining reader.old) (R.remaining reader.new) result buf.new }
 {
     let mut done = 0;
     while done < buf.len() {
-        let Moved::Bytes(more) = read_some(fd, &mut buf[done..]) else {
+        let Moved::Bytes(more) = read_some(reader, &mut buf[done..]) else {
             return Moved::Failed;
         };
         if more == 0 {
@@ -79,10 +78,12 @@ pub fn read_full(fd: i32, buf: &mut [u8]) -> Moved
 }
 
 // Whether all of buf was written.
-pub fn write_all(fd: i32, buf: &[u8]) -> bool {
+pub fn write_all<W: Write>(writer: &mut W, buf: &[u8]) -> bool
+    ensures { IsTrue result → Appends (W.contents writer.old) (W.contents writer.new) buf.now }
+{
     let mut done = 0;
     while done < buf.len() {
-        let Moved::Bytes(taken) = write_some(fd, &buf[done..]) else {
+        let Moved::Bytes(taken) = write_some(writer, &buf[done..]) else {
             return false;
         };
         if taken == 0 {

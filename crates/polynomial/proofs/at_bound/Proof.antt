@@ -19,8 +19,8 @@ count-requires c κs =
 
 polynomial-requires : tie.Need-polynomial-leading-requires
 polynomial-requires c κs =
-    let b = c.bound in
-    let n = c.count in
+    let b = c.bound-bound in
+    let n = c.count-count in
     let a = c.args in
     let z = c.requires in
     let few = count_small a.v b.result n.result a.cost z.0 z.1 b.ensures n.ensures in
@@ -36,7 +36,7 @@ polynomial-requires c κs =
 
 -- The polynomial is found at the bound that was computed, with as many coefficients as that has.
 returns : tie.Need-returns
-returns c = ?
+returns c = record { bounded = c.bound-bound.ensures; counted = c.count-count.ensures; found = c.polynomial-leading.ensures }
 
 pub at_bound_spec : {M : Type 1} → statement M
 at_bound_spec =

@@ -1,7 +1,6 @@
 -- A leaf lays its row by memory's put; a level lays, symbol after symbol, the rows of what it hands on
 -- behind those before them. The levels left fall.
 use mathlib.Core.Bool.{true}
-use mathlib.Core.Logic.{⊎_elim}
 use mathlib.Core.List.{List}
 use mathlib.Core.Path.{◌≡◌, refl, sym, ◌∙◌, ap}
 use Prim.Native.Nat.{ℕ, ◌+◌, ◌-◌, ◌*◌, ◌≤◌, ◌<◌}
@@ -29,6 +28,7 @@ use borrow.Fn.PlainCycle.{Measures, is, falls, and}
 use Rattle.roots.proofs.inside.search.Reads as search'
 use Rattle.roots.proofs.inside.search.Kinds as search-kinds
 use Rattle.roots.proofs.inside.+search.Lts-search as search-lts
+use Rattle.roots.proofs.inside.+search.Lts-search.{then-first_value-eq0, else-first_value-eq0}
 use Rattle.substitution.proofs.constants_zero.Reads as constants-zero-reads
 use Rattle.substitution.proofs.first_value.Reads as first-value-reads
 use Rattle.substitution.proofs.handed.Reads as handed-reads
@@ -257,7 +257,7 @@ module _ (t : ℕ) where
   loop-less : Of search-lts.Need-loop-g-smaller t
   loop-less c = let g = is-symbol c.before.before.before in omega arith
 
-  -- In w stand the branch's test, the calls of `handed` and `search`, and `out` and `end` after them.
+  -- A symbol that begins a root is gone on with; another writes nothing.
   loop-again : Of search-lts.Need-loop-g-preserved t
   loop-again c =
       let l = (tried c.before).loop-g in
@@ -265,15 +265,16 @@ module _ (t : ℕ) where
       let a = s.args in
       let v = c.before.first_value in
       let g = is-symbol c.before.before.before in
-      ⊎_elim
-      (λ w.
-      let more = (gone c.before w.1.result w.0.true w.1.ensures.1 w.1.ensures.0).written _ _ (w.7 ∙ w.3.ensures.0) (w.6 ∙ w.3.ensures.1) in
-      (omega arith, ap length w.6 ∙ w.3.kept.1.1.1.1.1.1.1.1.0 ∙ l.invariant.1, more.0, more.1))
-      (λ w.
-      let begins = begins_no (C s) a.h a.degree l.g a.p v.result v.ensures w.0.false in
-      let same = tried_none (C s) (prefix s) (a.left - 1) (M s) a.out.now a.at l.out l.end l.g l.invariant.2 l.invariant.3 begins in
-      (omega arith, ap length w.1 ∙ l.invariant.1, w.2 ∙ same.0, w.1 ∙ same.1))
-      c.if-first_value-eq0.branch
+      elim c.if-first_value-eq0.branch [
+        then-first_value-eq0 w ↦
+            let handed = w.handed-rest in
+            let more = (gone c.before handed.result w.if-first_value-eq0.true handed.ensures.1 handed.ensures.0).written _ _ (w.end-is ∙ w.search-end.ensures.0) (w.out-is ∙ w.search-end.ensures.1) in
+            (omega arith, ap length w.out-is ∙ w.search-end.auto.out ∙ l.invariant.1, more.0, more.1)
+        | else-first_value-eq0 w ↦
+            let begins = begins_no (C s) a.h a.degree l.g a.p v.result v.ensures w.if-first_value-eq0.false in
+            let same = tried_none (C s) (prefix s) (a.left - 1) (M s) a.out.now a.at l.out l.end l.g l.invariant.2 l.invariant.3 begins in
+            (omega arith, ap length w.out-is ∙ l.invariant.1, w.end-is ∙ same.0, w.out-is ∙ same.1)
+      ]
 
   same-length-2 : Of search-lts.Need-shape_of-out t
   same-length-2 c = c.before.loop-g.invariant.1
