@@ -45,4 +45,4 @@ module _ (C : Code) (n k G : ℕ) (m rows scores : List ℕ) where
       → Answered C (cost_within G m ∷ []) n k m rows scores (counted count) rows_after scores_after
   listed h count rows_after scores_after w =
       let a = next {l = cost_within G m} {table = []} (le-ltb G (cost m) h) end in
-      (ap counted w.counted ∙ accepts refused _ a, (w.rows-are ∙ accepts (λ _ _. rows) _ a, (w.scores_are ∙ accepts (λ _ _. scores) _ a, w.few)))
+      (ap counted w.counted ∙ accepts refused _ a, (w.rows_are ∙ accepts (λ _ _. rows) _ a, (w.scores_are ∙ accepts (λ _ _. scores) _ a, w.few)))

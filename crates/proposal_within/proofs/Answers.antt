@@ -46,4 +46,4 @@ module _ (C : Code) (n k G D : ℕ) (q m rows scores : List ℕ) (cheap : cost m
         → Answered C (list_lines C n k G D q m) n k m rows scores (counted count) rows_after scores_after
     listed_by_proposal e w =
         let a = next {l = cost_within G m} paid (next {l = within_bound (k - 1) m D} low (next {l = proposed C n (k - 1) D m q} (ap not e) end)) in
-        (ap counted w.counted ∙ accepts refused _ a, (w.rows-are ∙ accepts (λ _ _. rows) _ a, (w.scores_are ∙ accepts (λ _ _. scores) _ a, w.few)))
+        (ap counted w.counted ∙ accepts refused _ a, (w.rows_are ∙ accepts (λ _ _. rows) _ a, (w.scores_are ∙ accepts (λ _ _. scores) _ a, w.few)))

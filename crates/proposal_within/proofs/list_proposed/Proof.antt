@@ -51,7 +51,7 @@ entry b = b.before.before.before.before.before.before
 cheap : (b : tie.After-bound-bound) → (cost (bytes b.before.before.before.before.before.before) ≤ b.args.limit)
 cheap b = let paid = b.requires.1.0.paid in omega arith
 
-is_bound : (b : tie.After-bound-bound) → (b.bound-bound.result ≡ bound (s.args.k - 1) (cost (bytes b.before.before.before.before.before.before)))
+is_bound : (b : tie.After-bound-bound) → (b.bound-bound.result ≡ bound (b.args.k - 1) (cost (bytes b.before.before.before.before.before.before)))
 is_bound b = b.bound-bound.ensures ∙ ap (bound (b.args.k - 1)) b.requires.1.0.paid
 
 -- The degree limit is above the bound: refusal 2, and no memory has changed.
@@ -65,7 +65,7 @@ abbrev at_bound : tie.After-is_yes → tie.After-bound-bound
 at_bound y = y.before.before
 
 -- The degree limit is within the bound.
-within : (y : tie.After-is_yes) → (s.args.degree ≤ bound (s.args.k - 1) (cost (bytes y.before.before.before.before.before.before.before.before)))
+within : (y : tie.After-is_yes) → (y.args.degree ≤ bound (y.args.k - 1) (cost (bytes y.before.before.before.before.before.before.before.before)))
 within y = let is = is_bound y.before.before in omega arith
 
 -- The proposal is a no: refusal 10, and no memory has changed.
