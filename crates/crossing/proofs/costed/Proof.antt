@@ -9,7 +9,7 @@ use Rattle.crossing.proofs.costed.Tie as tie
 use Rattle.crossing.specs.Crossing.{Narrow}
 
 -- the cost and the bound of the case fit
-fits : (c : tie.In-Of-2) → Narrow (costed c.in-Of.cost c.in-Of.bound)
+fits : (c : tie.In-Of) → Narrow (costed c.in-Of.cost c.in-Of.bound)
 fits c = rw c.in-Of.is at c.requires
 
 narrow-requires : tie.Need-narrow-requires

@@ -9,7 +9,7 @@ use Rattle.crossing.proofs.interpolated.Tie as tie
 use Rattle.crossing.specs.Crossing.{Narrow}
 
 -- the bound and the count of the case fit
-fits : (c : tie.In-Of-2) → Narrow (interpolated c.in-Of.bound c.in-Of.count)
+fits : (c : tie.In-Of) → Narrow (interpolated c.in-Of.bound c.in-Of.count)
 fits c = rw c.in-Of.is at c.requires
 
 narrow-requires : tie.Need-narrow-requires

@@ -9,7 +9,7 @@ use Rattle.crossing.proofs.planned.Tie as tie
 use Rattle.crossing.specs.Crossing.{Narrow}
 
 -- the count and the steps of the case fit
-fits : (c : tie.In-Of-2) → Narrow (planned c.in-Of.count c.in-Of.steps)
+fits : (c : tie.In-Of) → Narrow (planned c.in-Of.count c.in-Of.steps)
 fits c = rw c.in-Of.is at c.requires
 
 narrow-requires : tie.Need-narrow-requires
