@@ -15,7 +15,7 @@ use Rattle.definitions.proofs.Table.{next, end, accepts}
 use Rattle.definitions.specs.Answers.{Answer, refused, valued}
 use Rattle.definitions.specs.Field.{Code}
 use Rattle.definitions.specs.Listing.{above}
-use Rattle.definitions.specs.Refusals.{sizes, size, level, symbols}
+use Rattle.definitions.specs.Refusals.{sizes, size, level}
 use Rattle.rows.proofs.Written.{rows_written, scores_written, above_listed, above_symbols, many_written}
 
 lead_some : (g : ℕ) → 1 ≤ g → (lead g).given ≡ false

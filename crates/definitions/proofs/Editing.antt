@@ -19,7 +19,6 @@ use Rattle.definitions.specs.Field.{Code}
 use Rattle.definitions.specs.Held.{Held, places, without_column, with_added, rightly}
 use Rattle.definitions.specs.Limits.{greatest_level}
 use Rattle.definitions.specs.Refusals.{first_above}
-use Rattle.definitions.specs.Tools.{below}
 
 -- ---- the lowest place
 

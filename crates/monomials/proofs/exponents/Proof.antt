@@ -54,7 +54,7 @@ loop-again c =
     let i = c.loop-step.invariant.1 in (
       omega arith,
       elim c.if-v-x.branch [
-        then-v-x w ↦
+        | then-v-x w ↦
             let r = walk_stays v c.loop-step.step _ _ _ i.0 i.1 i.2 w.if-v-x.true in
             (w.x-is ∙ r.0, w.y-is ∙ r.1, w.degree-is ∙ r.2)
         | else-v-x w ↦

@@ -1,6 +1,5 @@
 -- The loop walks along the monomials in their order, and each step adds one coefficient's multiple to
 -- the row of its power of y.
-use mathlib.Core.Logic.{⊎_elim}
 use mathlib.Core.Path.{◌≡◌, ◌∙◌}
 use Prim.Native.Nat.{◌-◌, ◌≤◌, ◌<◌}
 use native.Mathlib.Omega.{arith}
@@ -67,7 +66,7 @@ loop-again c =
     let given = c.requires.1.1 in (
       omega arith,
       elim c.if-v-x.branch [
-        then-v-x w ↦
+        | then-v-x w ↦
             let r = walk_stays a.v c.loop-j.j _ _ _ at.0 at.1 at.2 w.if-v-x.true in
             (w.x-is ∙ r.0, w.y-is ∙ r.1, w.degree-is ∙ r.2)
         | else-v-x w ↦

@@ -4,7 +4,6 @@ use mathlib.Core.Bool.{Bool, true, false}
 use mathlib.Core.Path.{◌≡◌, sym, ◌∙◌, ap}
 use Prim.Native.Nat.{ℕ, ◌-◌, ◌≤◌}
 use native.Mathlib.Omega.{arith}
-use borrow.Author.Tests.{not-true, not-false}
 use Rattle.alphabet.specs.Codes.{code_on}
 use Rattle.definitions.proofs.Every.{every_none, every_more, every_but}
 use Rattle.definitions.specs.Tools.{every}

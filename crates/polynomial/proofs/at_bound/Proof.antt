@@ -1,7 +1,6 @@
 -- The bound of a cost within the limit is within it too, and the room holds its coefficients: so
 -- the polynomial is found at the bound.
 use mathlib.Core.Path.{◌∙◌, ap}
-use Prim.Native.Nat.{ℕ, ◌-◌, ◌≤◌, ◌<◌}
 use native.Mathlib.Omega.{arith}
 use Rattle.definitions.proofs.Powers.{bound_fits}
 use Rattle.definitions.specs.Bound.{bound}

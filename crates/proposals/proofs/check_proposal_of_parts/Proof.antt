@@ -2,7 +2,6 @@
 -- symbols; the matrix stands in front of the record's entries.
 use mathlib.Core.List.{List, [], ◌++◌}
 use mathlib.Core.Path.{refl, sym, ◌∙◌}
-use Prim.Native.Nat.{◌-◌}
 use native.Mathlib.Omega.{arith}
 use Rattle.alphabet.proofs.Sizes.{sized}
 use Rattle.alphabet.specs.Codes.{code_on}

@@ -5,7 +5,6 @@ use mathlib.Core.Path.{◌≡◌, sym, ◌∙◌}
 use Prim.Native.Nat.{ℕ, ◌-◌, ◌≤◌}
 use native.Mathlib.Omega.{arith}
 use lib.ListN.{length}
-use borrow.Author.Tests.{not-true, not-false}
 use Rattle.definitions.specs.Listing.{row_at}
 use Rattle.definitions.specs.Tools.{every}
 use Rattle.definitions.proofs.Every.{every_none, every_more, every_at, every_of, every_but}

@@ -6,7 +6,6 @@ use mathlib.Core.Path.{◌≡◌, sym, ◌∙◌, ap}
 use Prim.Native.Nat.{ℕ, ◌+◌, ◌-◌, ◌≤◌}
 use native.Mathlib.Omega.{arith}
 use lib.ListN.{length}
-use borrow.Author.Tests.{not-true, not-false}
 use Rattle.definitions.proofs.Every.{every_none, every_more, every_but}
 use Rattle.rows.proofs.Rows.{row_fits}
 use Rattle.definitions.specs.Tools.{every}

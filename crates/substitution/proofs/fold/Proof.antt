@@ -1,6 +1,5 @@
 -- One law of Shifting folds an entry whose place lacks the bit, another leaves one that has it.
 use mathlib.Core.Path.{◌≡◌, refl, ◌∙◌}
-use mathlib.Core.Logic.{⊎_elim}
 use Prim.Native.Nat.{◌+◌, ◌-◌, ◌≤◌}
 use native.Mathlib.Omega.{arith}
 use lib.ListN.{length}
@@ -39,7 +38,7 @@ stepped c =
     let C = code_on a.alphabet in
     let inside = c.loop-b-test.true in
     elim c.if-b-bit-eq0.branch [
-      then-b-bit-eq0 w ↦
+      | then-b-bit-eq0 w ↦
           let more = folded_more C a.h a.w a.bit a.g a.p.now l.b l.p l.invariant.3 inside w.add_multiple.new.p w.if-b-bit-eq0.true c.requires.1.1.0 w.add_multiple.ensures.0 in
           rw w.p-is (w.add_multiple.auto.p ∙ l.invariant.1, w.add_multiple.ensures.1, more)
       | else-b-bit-eq0 w ↦

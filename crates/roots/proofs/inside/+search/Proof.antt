@@ -266,7 +266,7 @@ module _ (t : ℕ) where
       let v = c.before.first_value in
       let g = is-symbol c.before.before.before in
       elim c.if-first_value-eq0.branch [
-        then-first_value-eq0 w ↦
+        | then-first_value-eq0 w ↦
             let handed = w.handed-rest in
             let more = (gone c.before handed.result w.if-first_value-eq0.true handed.ensures.1 handed.ensures.0).written _ _ (w.end-is ∙ w.search-end.ensures.0) (w.out-is ∙ w.search-end.ensures.1) in
             (omega arith, ap length w.out-is ∙ w.search-end.auto.out ∙ l.invariant.1, more.0, more.1)
