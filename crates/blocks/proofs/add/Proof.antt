@@ -27,12 +27,13 @@ loop-holds s = (omega arith, changed_none s.args.at (sums s) s.args.row.now)
 loop-again : tie.Need-loop-i-preserved invariant-loop decreases-loop
 unfolding sum_of
 loop-again c =
+    let start = c.before.before.before.before.before.before in
     let a = c.args in
     let h : a.at + c.loop-i.i < length a.row.now = omega arith in
     let e : c.loop-i.i ≡ a.at + c.loop-i.i - a.at = omega arith in
     let d = c.loop-i.invariant.1 in
     let is_sum = ap₂ sum_of (d.patched.after (a.at + c.loop-i.i) (omega arith)) (ap (λ (k : ℕ). get_or a.part.now k 0) e) in
-    (omega arith, changed_more a.at c.loop-i.i _ (sums c.before.before.before.before.before.before) a.row.now c.loop-i.row h d is_sum)
+    (omega arith, changed_more a.at c.loop-i.i _ (sums start) a.row.now c.loop-i.row h d is_sum)
 
 -- The loop has ended at i = block, so the whole block is added.
 returns : tie.Need-returns invariant-loop decreases-loop

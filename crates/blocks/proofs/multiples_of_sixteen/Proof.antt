@@ -26,17 +26,21 @@ is-four four =
 
 doubled-requires-3 : tie.Need-doubled-eight-requires
 doubled-requires-3 c κs =
-    still_symbols Sixteen 4 (omega arith) (one c.before.before.before) c.doubled-four.result c.requires (is-four c.before)
+    let at_doubled_two = c.before.before.before in
+    still_symbols Sixteen 4 (omega arith) (one at_doubled_two) c.doubled-four.result c.requires (is-four c.before)
 
 -- Twice the multiple 4 is the multiple 8.
 is-eight : (eight : tie.After-doubled-eight) → ScaledBlock (code_on Sixteen) 8 (one eight.before.before.before.before) eight.doubled-eight.result
 is-eight eight =
-    eighth Sixteen (one eight.before.before.before.before) eight.doubled-four.result eight.doubled-eight.result eight.requires (is-four eight.before.before) eight.doubled-eight.ensures
+    let at_doubled_two = eight.before.before.before.before in
+    eighth Sixteen (one at_doubled_two) eight.doubled-four.result eight.doubled-eight.result eight.requires (is-four eight.before.before) eight.doubled-eight.ensures
 
 -- 1, 2, 4 and 8 are filled in, so all sixteen multiples are there.
 returns : tie.Need-returns
 returns c =
-    first_sixteen Sixteen 16 (omega arith) _ _ _ _ _ _ _ _ c.requires c.doubled-two.ensures (is-four c.before.before.before.before.before.before.before.before.before.before.before.before.before.before.before.before.before) (is-eight c.before.before.before.before.before.before.before.before.before.before.before.before.before.before.before)
+    let at_doubled_four = c.before.before.before.before.before.before.before.before.before.before.before.before.before.before.before.before.before in
+    let at_doubled_eight = c.before.before.before.before.before.before.before.before.before.before.before.before.before.before.before in
+    first_sixteen Sixteen 16 (omega arith) _ _ _ _ _ _ _ _ c.requires c.doubled-two.ensures (is-four at_doubled_four) (is-eight at_doubled_eight)
     c.fill.ensures c.fill-2.ensures c.fill-3.ensures c.fill-4.ensures
 
 pub multiples_of_sixteen_spec : {M : Type 1} → statement M

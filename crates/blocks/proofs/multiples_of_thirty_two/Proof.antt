@@ -32,7 +32,8 @@ is-four four =
 
 doubled-requires-3 : tie.Need-doubled-eight-requires
 doubled-requires-3 c κs =
-    still_symbols ThirtyTwo 4 (omega arith) (one c.before.before.before) c.doubled-four.result c.requires (is-four c.before)
+    let at_doubled_two = c.before.before.before in
+    still_symbols ThirtyTwo 4 (omega arith) (one at_doubled_two) c.doubled-four.result c.requires (is-four c.before)
 
 abbrev at-four : tie.After-doubled-eight → tie.After-doubled-four
 at-four eight = eight.before.before
@@ -40,11 +41,13 @@ at-four eight = eight.before.before
 -- Twice the multiple 4 is the multiple 8.
 is-eight : (eight : tie.After-doubled-eight) → ScaledBlock (code_on ThirtyTwo) 8 (one eight.before.before.before.before) eight.doubled-eight.result
 is-eight eight =
-    eighth ThirtyTwo (one eight.before.before.before.before) eight.doubled-four.result eight.doubled-eight.result eight.requires (is-four eight.before.before) eight.doubled-eight.ensures
+    let at_doubled_two = eight.before.before.before.before in
+    eighth ThirtyTwo (one at_doubled_two) eight.doubled-four.result eight.doubled-eight.result eight.requires (is-four eight.before.before) eight.doubled-eight.ensures
 
 doubled-requires-4 : tie.Need-doubled-sixteen-requires
 doubled-requires-4 c κs =
-    still_symbols ThirtyTwo 8 (omega arith) (one c.before.before.before.before.before) c.doubled-eight.result c.requires (is-eight c.before)
+    let at_doubled_two = c.before.before.before.before.before in
+    still_symbols ThirtyTwo 8 (omega arith) (one at_doubled_two) c.doubled-eight.result c.requires (is-eight c.before)
 
 abbrev at-eight : tie.After-doubled-sixteen → tie.After-doubled-eight
 at-eight high = high.before.before
@@ -54,16 +57,20 @@ sixteen : (f8 : tie.After-fill-4)
     → (let high = f8.before.before.before.before.before.before.before.before.before.before.before.before.before.before in
     MultiplesBlock (code_on ThirtyTwo) 16 (one (at-two (at-four (at-eight high)))) f8.fill-4.new.times)
 sixteen f8 =
-    first_sixteen ThirtyTwo 32 (omega arith) _ _ _ _ _ _ _ _ f8.requires f8.doubled-two.ensures (is-four f8.before.before.before.before.before.before.before.before.before.before.before.before.before.before.before.before.before.before) (is-eight f8.before.before.before.before.before.before.before.before.before.before.before.before.before.before.before.before)
+    let at_doubled_four = f8.before.before.before.before.before.before.before.before.before.before.before.before.before.before.before.before.before.before in
+    let at_doubled_eight = f8.before.before.before.before.before.before.before.before.before.before.before.before.before.before.before.before in
+    first_sixteen ThirtyTwo 32 (omega arith) _ _ _ _ _ _ _ _ f8.requires f8.doubled-two.ensures (is-four at_doubled_four) (is-eight at_doubled_eight)
     f8.fill.ensures f8.fill-2.ensures f8.fill-3.ensures f8.fill-4.ensures
 
 -- The other sixteen are filled in from the first, with the multiple 16 added to each.
 returns : tie.Need-returns
 returns c =
-    let high = c.before.before.before.before.before.before.before.before.before.before.before.before.before.before.before.before.before.before.before in
+    let at_doubled_sixteen = c.before.before.before.before.before.before.before.before.before.before.before.before.before.before.before.before.before.before.before in
+    let at_fill = c.before.before.before.before.before in
+    let high = at_doubled_sixteen in
     let eight = at-eight high in
     let two = at-two (at-four eight) in
-    other_sixteen (one two) eight.doubled-eight.result _ _ _ (entry two).requires (is-eight eight) high.doubled-sixteen.ensures (sixteen c.before.before.before.before.before) c.fill-5.ensures
+    other_sixteen (one two) eight.doubled-eight.result _ _ _ (entry two).requires (is-eight eight) high.doubled-sixteen.ensures (sixteen at_fill) c.fill-5.ensures
 
 pub multiples_of_thirty_two_spec : {M : Type 1} → statement M
 multiples_of_thirty_two_spec =

@@ -25,11 +25,12 @@ loop-holds s = (omega arith, changed_none s.args.at (entries s) s.args.row.now)
 
 loop-again : tie.Need-loop-i-preserved invariant-loop decreases-loop
 loop-again c =
+    let start = c.before.before.before.before.before in
     let a = c.args in
     let h : a.at + c.loop-i.i < length a.row.now = omega arith in
     let e : c.loop-i.i ≡ a.at + c.loop-i.i - a.at = omega arith in
     let is-entry = ap (λ (k : ℕ). get_or a.part.now k 0) e in
-    (omega arith, changed_more a.at c.loop-i.i _ (entries c.before.before.before.before.before) a.row.now c.loop-i.row h c.loop-i.invariant.1 is-entry)
+    (omega arith, changed_more a.at c.loop-i.i _ (entries start) a.row.now c.loop-i.row h c.loop-i.invariant.1 is-entry)
 
 -- The loop has ended at i = block, so the whole block is put.
 returns : tie.Need-returns invariant-loop decreases-loop

@@ -48,10 +48,11 @@ encode-into-requires c κs = fit c.before
 -- The chain let the call pass: the answer is n, and the codeword stands at the front of `out`.
 returns-2 : tie.Need-returns
 returns-2 c =
+    let at_symbols_of_checked = c.before.before.before.before.before in
     let passed = c.in_default.is in
     let a = c.args in (
-      goes_on (came c.before.before.before.before.before) [] refused (counted a.n) passed,
-      c.encode_into.ensures ∙ goes_on (came c.before.before.before.before.before) [] (λ _ _. a.out.now) _ passed,
+      goes_on (came at_symbols_of_checked) [] refused (counted a.n) passed,
+      c.encode_into.ensures ∙ goes_on (came at_symbols_of_checked) [] (λ _ _. a.out.now) _ passed,
     )
 
 pub encode_spec : {M : Type 1} → statement M

@@ -50,13 +50,16 @@ element-copy-out-m w = let z = sized w.args.alphabet in omega arith
 
 point-rows-requires : tie.Need-point_rows-next-requires invariant-loop decreases-loop
 point-rows-requires c κs =
+    let start = c.before.before.before.before.before.before.before.before in
+    let at_loop_b = c.before.before.before.before.before in
+    let at_wide = c.before.before.before in
     let a = c.args in
     let z = (sized a.alphabet).least in
-    let fits = joined_room (rows_of c.before.before.before.before.before.before.before.before) (code_on a.alphabet).symbols c.loop-b.b (omega arith) in
-    let put = flat_map (rows_of c.before.before.before.before.before.before.before.before) (below c.loop-b.b) in
+    let fits = joined_room (rows_of start) (code_on a.alphabet).symbols c.loop-b.b (omega arith) in
+    let put = flat_map (rows_of start) (below c.loop-b.b) in
     let clear = clear_behind a.rows.now c.loop-b.rows put a.at (a.blocks * block) c.loop-b.next c.requires.1.1.1.1 c.loop-b.invariant.3 c.loop-b.invariant.2 in
-    let room : c.loop-b.next + length (rows_of c.before.before.before.before.before.before.before.before c.loop-b.b) ≤ length c.loop-b.rows = omega arith in
-    let room-read = subst (λ (m : ℕ). c.loop-b.next + length (rowsWith c.before.before.before.before.before m) ≤ length c.loop-b.rows) (sym (multiplicity c.before.before.before)) room in
+    let room : c.loop-b.next + length (rows_of start c.loop-b.b) ≤ length c.loop-b.rows = omega arith in
+    let room-read = subst (λ (m : ℕ). c.loop-b.next + length (rowsWith at_loop_b m) ≤ length c.loop-b.rows) (sym (multiplicity at_wide)) room in
     (c.requires.0, (c.requires.1.0, ((omega arith, omega arith, omega arith), (room-read, clear))))
 
 add-b : tie.Need-overflow_add-b invariant-loop decreases-loop
@@ -67,15 +70,18 @@ loop-less c = let z = sized c.args.alphabet in omega arith
 
 loop-again : tie.Need-loop-b-preserved invariant-loop decreases-loop
 loop-again c =
+    let start = c.before.before.before.before.before.before.before.before.before.before in
+    let at_loop_b = c.before.before.before.before.before.before.before in
+    let at_wide = c.before.before.before.before.before in
     let p = c.point_rows-next in
-    let m = multiplicity c.before.before.before.before.before in
+    let m = multiplicity at_wide in
     let o = c.args.rows.now in
     let z = (sized c.args.alphabet).least in (
       omega arith,
       search rules,
-      p.ensures.0 ∙ ap (λ (m : ℕ). c.loop-b.next + length (rowsWith c.before.before.before.before.before.before.before m)) m ∙ count_more (rows_of c.before.before.before.before.before.before.before.before.before.before) o c.args.at c.loop-b.b c.loop-b.next c.loop-b.invariant.2,
-      joined_more (rows_of c.before.before.before.before.before.before.before.before.before.before) o c.args.at c.loop-b.rows p.new.rows c.loop-b.b c.loop-b.next c.loop-b.invariant.3 c.loop-b.invariant.2
-          (p.ensures.1 ∙ ap (λ (m : ℕ). sets c.loop-b.rows c.loop-b.next (rowsWith c.before.before.before.before.before.before.before m)) m),
+      p.ensures.0 ∙ ap (λ (m : ℕ). c.loop-b.next + length (rowsWith at_loop_b m)) m ∙ count_more (rows_of start) o c.args.at c.loop-b.b c.loop-b.next c.loop-b.invariant.2,
+      joined_more (rows_of start) o c.args.at c.loop-b.rows p.new.rows c.loop-b.b c.loop-b.next c.loop-b.invariant.3 c.loop-b.invariant.2
+          (p.ensures.1 ∙ ap (λ (m : ℕ). sets c.loop-b.rows c.loop-b.next (rowsWith at_loop_b m)) m),
     )
 
 -- The loop has ended behind the greatest symbol, so the rows of all symbols are put.

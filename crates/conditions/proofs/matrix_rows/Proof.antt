@@ -43,10 +43,11 @@ rows_of s = let a = s.args in column_at (code_on a.alphabet) a.v a.d a.blocks a.
 
 loop-holds : tie.Need-loop-i-init invariant-loop decreases-loop
 loop-holds c =
+    let start = c.before.before.before in
     let a = c.args in
     let o = a.rows.now in
     let first = sym (power_zero (numbers (code_on a.alphabet)) 2) in
-    (omega arith, refl, first, none_counted (rows_of c.before.before.before) o 0, joined_none (rows_of c.before.before.before) o 0, zeros_from (a.d + 1))
+    (omega arith, refl, first, none_counted (rows_of start) o 0, joined_none (rows_of start) o 0, zeros_from (a.d + 1))
 
 abbrev code_at : tie.At-loop-i invariant-loop decreases-loop → Code
 code_at l = code_on l.args.alphabet
@@ -66,7 +67,9 @@ filledRow p = p.powers.new.row
 -- The row is filled with the powers of the position's point.
 of-x : (p : tie.After-powers invariant-loop decreases-loop)
     → (filledRow p ≡ powers_row (code_at p.before.before.before) (p.args.d + 1) (point (code_at p.before.before.before) p.loop-i.i))
-of-x p = p.powers.ensures ∙ ap (powers_row (code_at p.before.before.before) (p.args.d + 1)) p.loop-i.invariant.2
+of-x p =
+    let at_loop_i = p.before.before.before in
+    p.powers.ensures ∙ ap (powers_row (code_at at_loop_i) (p.args.d + 1)) p.loop-i.invariant.2
 
 -- the rows of the position, of a row of powers and of the exponents
 abbrev rows_by : tie.At-loop-i invariant-loop decreases-loop → List ℕ → List (List ℕ) → List (List ℕ)
@@ -75,14 +78,18 @@ rows_by l px es = let a = l.args in masked_column (code_at l) px (a.d / a.v + 1)
 -- What is put are the rows of the position.
 is-column : (p : tie.After-powers invariant-loop decreases-loop)
     → (rows_by p.before.before.before (filledRow p) p.exponents-es.result ≡ rows_of p.before.before.before.before.before.before.before p.loop-i.i)
-is-column p = ap₂ (rows_by p.before.before.before) (of-x p) p.exponents-es.ensures
+is-column p =
+    let at_loop_i = p.before.before.before in
+    ap₂ (rows_by at_loop_i) (of-x p) p.exponents-es.ensures
 
 -- The powers of y fit into a row.
 few : (s : tie.Start invariant-loop decreases-loop) → s.args.d / s.args.v + 1 ≤ width
 few s = let q = div-le_self s.args.d s.args.v in omega arith
 
 add-column-rows : tie.Need-overflow_add-d-in-loop-i invariant-loop decreases-loop
-add-column-rows c = let h = few c.before.before.before.before.before.before.before.before.before.before in omega arith
+add-column-rows c =
+    let start = c.before.before.before.before.before.before.before.before.before.before in
+    let h = few start in omega arith
 
 mul-column-rows : tie.Need-offset_bounds-matrix-i invariant-loop decreases-loop
 mul-column-rows c = let z = sized c.args.alphabet in omega arith
@@ -92,38 +99,45 @@ index-1-column-rows c = let z = sized c.args.alphabet in omega arith
 
 column-rows-requires : tie.Need-column_rows-next-requires invariant-loop decreases-loop
 column-rows-requires c κs =
+    let start = c.before.before.before.before.before.before.before.before.before.before in
+    let at_loop_i = c.before.before.before.before.before.before in
+    let at_powers = c.before.before.before in
     let a = c.args in
-    let C = code_at c.before.before.before.before.before.before in
+    let C = code_at at_loop_i in
     let F = field_on a.alphabet in
-    let fits = joined_room (rows_of c.before.before.before.before.before.before.before.before.before.before) C.positions c.loop-i.i (omega arith) in
-    let put = flat_map (rows_of c.before.before.before.before.before.before.before.before.before.before) (below c.loop-i.i) in
+    let fits = joined_room (rows_of start) C.positions c.loop-i.i (omega arith) in
+    let put = flat_map (rows_of start) (below c.loop-i.i) in
     let clear = clear_behind a.rows.now c.loop-i.rows put 0 (a.blocks * block) c.loop-i.next c.requires.1.1.1 c.loop-i.invariant.4 c.loop-i.invariant.3 in
-    let room : c.loop-i.next + length (rows_of c.before.before.before.before.before.before.before.before.before.before c.loop-i.i) ≤ length c.loop-i.rows = omega arith in
-    let symbols = subst (Symbols C) (sym (of-x c.before.before.before)) (powers_symbols C F (a.d + 1) (point C c.loop-i.i) (point_symbol C F c.loop-i.i)) in
+    let room : c.loop-i.next + length (rows_of start c.loop-i.i) ≤ length c.loop-i.rows = omega arith in
+    let symbols = subst (Symbols C) (sym (of-x at_powers)) (powers_symbols C F (a.d + 1) (point C c.loop-i.i) (point_symbol C F c.loop-i.i)) in
     let places = subst Places (sym c.exponents-es.ensures) (exponents_places a.v (omega arith) (a.blocks * block) (omega arith)) in
-    let room-put = subst (λ (rows : List (List ℕ)). c.loop-i.next + length rows ≤ length c.loop-i.rows) (sym (is-column c.before.before.before)) room in
-    (c.requires.0, ((symbols, places), ((few c.before.before.before.before.before.before.before.before.before.before, omega arith), (room-put, clear))))
+    let room-put = subst (λ (rows : List (List ℕ)). c.loop-i.next + length rows ≤ length c.loop-i.rows) (sym (is-column at_powers)) room in
+    (c.requires.0, ((symbols, places), ((few start, omega arith), (room-put, clear))))
 
 look-requires : tie.Need-look-a-requires invariant-loop decreases-loop
 look-requires c κs =
+    let at_loop_i = c.before.before.before.before.before.before.before.before in
     let z = (sized c.args.alphabet).least in
-    (c.requires.0, (omega arith, symbol c.before.before.before.before.before.before.before.before))
+    (c.requires.0, (omega arith, symbol at_loop_i))
 
 loop-again : tie.Need-loop-i-preserved invariant-loop decreases-loop
 loop-again c =
+    let start = c.before.before.before.before.before.before.before.before.before.before.before.before.before in
+    let at_loop_i = c.before.before.before.before.before.before.before.before.before in
+    let at_powers = c.before.before.before.before.before.before in
     let a = c.args in
     let o = a.rows.now in
-    let C = code_at c.before.before.before.before.before.before.before.before.before in
+    let C = code_at at_loop_i in
     let i = c.loop-i.i in
     let row : a.d + 1 ≤ width = (let h = c.requires.1.0 in omega arith) in (
       omega arith,
       search rules,
       c.look-a.ensures ∙ ap (C.times 2) c.loop-i.invariant.2 ∙ sym (power_suc (numbers C) 2 i) ∙ ap (point C) (sym (add-one i)),
-      c.column_rows-next.ensures.0 ∙ ap (λ (rows : List (List ℕ)). c.loop-i.next + length rows) (is-column c.before.before.before.before.before.before)
-          ∙ count_more (rows_of c.before.before.before.before.before.before.before.before.before.before.before.before.before) o 0 i c.loop-i.next c.loop-i.invariant.3,
-      joined_more (rows_of c.before.before.before.before.before.before.before.before.before.before.before.before.before) o 0 c.loop-i.rows c.column_rows-next.new.rows i c.loop-i.next c.loop-i.invariant.4 c.loop-i.invariant.3
-          (c.column_rows-next.ensures.1 ∙ ap (sets c.loop-i.rows c.loop-i.next) (is-column c.before.before.before.before.before.before)),
-      subst (ZeroFrom (a.d + 1)) (sym (of-x c.before.before.before.before.before.before)) (filled_zeros (power (numbers C) (point C i)) (a.d + 1) row),
+      c.column_rows-next.ensures.0 ∙ ap (λ (rows : List (List ℕ)). c.loop-i.next + length rows) (is-column at_powers)
+          ∙ count_more (rows_of start) o 0 i c.loop-i.next c.loop-i.invariant.3,
+      joined_more (rows_of start) o 0 c.loop-i.rows c.column_rows-next.new.rows i c.loop-i.next c.loop-i.invariant.4 c.loop-i.invariant.3
+          (c.column_rows-next.ensures.1 ∙ ap (sets c.loop-i.rows c.loop-i.next) (is-column at_powers)),
+      subst (ZeroFrom (a.d + 1)) (sym (of-x at_powers)) (filled_zeros (power (numbers C) (point C i)) (a.d + 1) row),
     )
 
 -- The loop has ended behind the last position, so the rows of the whole matrix are put.

@@ -35,22 +35,24 @@ loop-holds s = (omega arith, refl, omega arith, rows_none (row_of s) s.args.rows
 
 keep-requires : tie.Need-keep-requires invariant-loop decreases-loop
 keep-requires c κs =
+    let start = c.before.before.before.before in
     let a = c.args in
     let put = kept_order a.blocks a.row.now a.ys.now a.b c.loop-t.t in
-    let size = length_map_below (row_of c.before.before.before.before) c.loop-t.t in
+    let size = length_map_below (row_of start) c.loop-t.t in
     let clear = clear_behind a.rows.now c.loop-t.rows put a.at (a.blocks * block) c.loop-t.next c.requires.2 c.loop-t.invariant.3 (omega arith) in
     (c.requires.1, clear c.loop-t.next (omega arith) (omega arith))
 
 loop-again : tie.Need-loop-t-preserved invariant-loop decreases-loop
 loop-again c =
+    let start = c.before.before.before.before.before in
     let t = c.loop-t.t in
     let kept = c.keep.new.out in
-    let is_row = c.keep.ensures ∙ ap (λ (asked : ℕ). row_by c.before.before.before.before.before asked t) c.asked_at.ensures in (
+    let is_row = c.keep.ensures ∙ ap (λ (asked : ℕ). row_by start asked t) c.asked_at.ensures in (
       omega arith,
       length-set c.loop-t.rows c.loop-t.next kept ∙ c.loop-t.invariant.1,
       omega arith,
       ap (λ (n : ℕ). set c.loop-t.rows n kept) c.loop-t.invariant.2
-          ∙ rows_more (row_of c.before.before.before.before.before) c.args.rows.now c.args.at c.loop-t.rows t kept c.loop-t.invariant.3 is_row,
+          ∙ rows_more (row_of start) c.args.rows.now c.args.at c.loop-t.rows t kept c.loop-t.invariant.3 is_row,
     )
 
 -- The loop has ended at t = m, so the rows of all orders below m are put.

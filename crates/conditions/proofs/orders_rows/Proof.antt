@@ -44,10 +44,12 @@ size l = let a = l.args in length_order_at a.blocks a.row.now a.es.now a.b a.m l
 
 order-rows-requires : tie.Need-order_rows-next-requires invariant-loop decreases-loop
 order-rows-requires c κs =
+    let start = c.before.before.before.before.before.before in
+    let at_loop_s = c.before.before.before.before.before in
     let a = c.args in
-    let fits = joined_room (rows_of c.before.before.before.before.before.before) a.m c.loop-s.s (omega arith) in
-    let many = size c.before.before.before.before.before in
-    let put = flat_map (rows_of c.before.before.before.before.before.before) (below c.loop-s.s) in
+    let fits = joined_room (rows_of start) a.m c.loop-s.s (omega arith) in
+    let many = size at_loop_s in
+    let put = flat_map (rows_of start) (below c.loop-s.s) in
     (omega arith, c.requires.1, clear_behind a.rows.now c.loop-s.rows put a.at (a.blocks * block) c.loop-s.next c.requires.2 c.loop-s.invariant.3 c.loop-s.invariant.2)
 
 -- the rows of the orders by y that are left, of what is kept of the row
@@ -56,17 +58,19 @@ rowsWith l part = let a = l.args in kept_order a.blocks part (get_or a.es.now 1 
 
 loop-again : tie.Need-loop-s-preserved invariant-loop decreases-loop
 loop-again c =
+    let start = c.before.before.before.before.before.before.before.before in
+    let at_loop_s = c.before.before.before.before.before.before.before in
     let o = c.order_rows-next in
     let a = c.args in
-    let many = size c.before.before.before.before.before.before.before in
-    let more = count_more (rows_of c.before.before.before.before.before.before.before.before) a.rows.now a.at c.loop-s.s c.loop-s.next c.loop-s.invariant.2 in
+    let many = size at_loop_s in
+    let more = count_more (rows_of start) a.rows.now a.at c.loop-s.s c.loop-s.next c.loop-s.invariant.2 in
     let next = o.ensures.0 in
     let kept = kept_entry a.row.now (get_or a.es.now 0 []) c.loop-s.s c.loop-s.s in (
       omega arith,
       search rules,
       omega arith,
-      joined_more (rows_of c.before.before.before.before.before.before.before.before) a.rows.now a.at c.loop-s.rows o.new.rows c.loop-s.s c.loop-s.next c.loop-s.invariant.3 c.loop-s.invariant.2
-          (o.ensures.1 ∙ ap (λ (part : List ℕ). sets c.loop-s.rows c.loop-s.next (rowsWith c.before.before.before.before.before.before.before part)) c.keep.ensures),
+      joined_more (rows_of start) a.rows.now a.at c.loop-s.rows o.new.rows c.loop-s.s c.loop-s.next c.loop-s.invariant.3 c.loop-s.invariant.2
+          (o.ensures.1 ∙ ap (λ (part : List ℕ). sets c.loop-s.rows c.loop-s.next (rowsWith at_loop_s part)) c.keep.ensures),
       subst (ZeroFrom (a.blocks * block)) (sym c.keep.ensures) (filled_zeros kept (a.blocks * block) c.requires.1),
     )
 

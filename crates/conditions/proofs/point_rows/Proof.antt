@@ -58,20 +58,26 @@ values-requires c κs =
 
 -- The row is filled with the values at the point.
 at-point : (v : tie.After-values) → (v.values.new.row ≡ valuesBy v.before.before.before.before.before.before.before.before (powersOf v.before.before.before.before.before.before.before.before))
-at-point v = v.values.ensures ∙ ap (valuesBy v.before.before.before.before.before.before.before.before) (of-y v.before.before.before)
+at-point v =
+    let start = v.before.before.before.before.before.before.before.before in
+    let at_powers = v.before.before.before in
+    v.values.ensures ∙ ap (valuesBy start) (of-y at_powers)
 
 orders-rows-requires : tie.Need-orders_rows-requires
 orders-rows-requires c κs =
+    let start = c.before.before.before.before.before.before.before.before.before.before in
     let a = c.args in
     let room = c.requires.1.1.1 in
-    (subst (λ (row : List ℕ). a.at + length (rows_of c.before.before.before.before.before.before.before.before.before.before row) ≤ length a.rows.now) (sym (at-point c.before.before)) room.0, omega arith, room.1)
+    (subst (λ (row : List ℕ). a.at + length (rows_of start row) ≤ length a.rows.now) (sym (at-point c.before.before)) room.0, omega arith, room.1)
 
 -- The rows of the orders are put, of the row of values: they are the rows of the point.
 returns-2 : tie.Need-returns
 returns-2 c =
+    let start = c.before.before.before.before.before.before.before.before.before.before.before.before in
+    let at_values = c.before.before.before.before in
     let o = c.orders_rows in
     let a = c.args in
-    (o.ensures.0 ∙ ap (λ (row : List ℕ). a.at + length (rows_of c.before.before.before.before.before.before.before.before.before.before.before.before row)) (at-point c.before.before.before.before), o.ensures.1 ∙ ap (λ (row : List ℕ). sets a.rows.now a.at (rows_of c.before.before.before.before.before.before.before.before.before.before.before.before row)) (at-point c.before.before.before.before))
+    (o.ensures.0 ∙ ap (λ (row : List ℕ). a.at + length (rows_of start row)) (at-point at_values), o.ensures.1 ∙ ap (λ (row : List ℕ). sets a.rows.now a.at (rows_of start row)) (at-point at_values))
 
 pub point_rows_spec : {M : Type 1} → statement M
 point_rows_spec =

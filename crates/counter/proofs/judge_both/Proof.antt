@@ -54,7 +54,9 @@ came : (c : tie.After-symbols_of_after-checked)
     Came (both_table (code_on a.alphabet) a.first a.rows.now a.scores.now a.second a.others.now a.other_scores.now a.lead) []
     (told_checked c.symbols_of_after-checked.result))
 came c =
-    further (lists c.before.before.before.before.before.before.before.before.before.before.before.before.before.before.before) (settled c.before.before.before.before)
+    let entry = c.before.before.before.before.before.before.before.before.before.before.before.before.before.before.before in
+    let at_or_settled = c.before.before.before.before in
+    further (lists entry) (settled at_or_settled)
     ▸ c.list_checked-one.ensures ▸ c.list_checked.ensures ▸ c.symbols_of.ensures ▸ c.symbols_of_after-checked.ensures
 
 -- The chain ended in a refusal: it is the refusal of the table's first line that fails.

@@ -31,17 +31,20 @@ untouched l = place_untouched (summed l.before) l.args.entries.now l.loop-j.entr
 
 add-entries : tie.Need-overflow_add-entries invariant-loop decreases-loop
 add-entries c =
-    let same = untouched c.before.before.before in
+    let at_loop_j = c.before.before.before in
+    let same = untouched at_loop_j in
     let low = c.requires.1 c.loop-j.j (omega arith) in
     omega arith
 
 loop-again : tie.Need-loop-j-preserved invariant-loop decreases-loop
 loop-again c =
+    let start = c.before.before.before.before in
+    let at_loop_j = c.before.before.before in
     let a = c.args in
-    let same = untouched c.before.before.before in (
+    let same = untouched at_loop_j in (
       omega arith,
       length-set c.loop-j.entries c.loop-j.j _ ∙ c.loop-j.invariant.1,
-      map_more (summed c.before.before.before.before) a.entries.now c.loop-j.entries c.loop-j.j _ (omega arith) c.loop-j.invariant.2
+      map_more (summed start) a.entries.now c.loop-j.entries c.loop-j.j _ (omega arith) c.loop-j.invariant.2
           (ap (λ (x : ℕ). x + get_or a.others.now c.loop-j.j 0) same),
     )
 

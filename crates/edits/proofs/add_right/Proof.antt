@@ -35,41 +35,51 @@ right : (s : tie.Start) → Rightly (code s) (handed s)
 right s = rightly_means (code s) (handed s) s.requires.0
 
 lowest-sum-requires : tie.Need-lowest_sum-bad-requires
-lowest-sum-requires c κs = let e = (right c.before.before.before).full in let o = c.requires.1 in omega arith
+lowest-sum-requires c κs =
+    let start = c.before.before.before in
+    let e = (right start).full in let o = c.requires.1 in omega arith
 
 lowest : (b : tie.After-lowest_sum-bad) → (b.lowest_sum-bad.result ≡ lowest_above (code b.before.before.before.before) (three b.before.before.before.before))
-lowest b = b.lowest_sum-bad.ensures (code b.before.before.before.before) (right b.before.before.before.before).full
+lowest b =
+    let start = b.before.before.before.before in
+    b.lowest_sum-bad.ensures (code start) (right start).full
 
 -- An entry is above 5: the lowest of them is refused, and the record is as it was.
 returns : tie.Need-returns-then-bad-entries
 returns c =
-    above_refused (code c.before.before.before.before.before) (three c.before.before.before.before.before) (handed c.before.before.before.before.before) (held_of (code c.before.before.before.before.before) c.args.n (sum c.before.before.before.before.before)) c.lowest_sum-bad.result (lowest c.before)
-    (let f = (right c.before.before.before.before.before).full in omega arith)
+    let start = c.before.before.before.before.before in
+    above_refused (code start) (three start) (handed start) (held_of (code start) c.args.n (sum start)) c.lowest_sum-bad.result (lowest c.before)
+    (let f = (right start).full in omega arith)
 
 -- no entry is above 5
 passed : (c : tie.Else-bad-entries) → ((in_or_out (code c.before.before.before.before.before) (three c.before.before.before.before.before)).given ≡ false)
 passed c =
-    not_given (code c.before.before.before.before.before) (three c.before.before.before.before.before) (handed c.before.before.before.before.before) (held_of (code c.before.before.before.before.before) c.args.n (sum c.before.before.before.before.before)) c.lowest_sum-bad.result (lowest c.before)
-    (let f = (right c.before.before.before.before.before).full in omega arith)
+    let start = c.before.before.before.before.before in
+    not_given (code start) (three start) (handed start) (held_of (code start) c.args.n (sum start)) c.lowest_sum-bad.result (lowest c.before)
+    (let f = (right start).full in omega arith)
 
 add-entries-requires : tie.Need-add_entries-requires
 add-entries-requires c κs =
-    let full = (right c.before.before.before.before.before.before).full in
+    let start = c.before.before.before.before.before.before in
+    let full = (right start).full in
     let others = c.requires.1 in
-    (omega arith, low_sum (code c.before.before.before.before.before.before) c.args.entries.now c.args.others.now full (passed c.before))
+    (omega arith, low_sum (code start) c.args.entries.now c.args.others.now full (passed c.before))
 
 count-requires : tie.Need-count-requires
-count-requires c κs = (
-  length_stored (code c.before.before.before.before.before.before.before.before.before.before) (handed c.before.before.before.before.before.before.before.before.before.before) (right c.before.before.before.before.before.before.before.before.before.before),
-  ap length c.add_entries.ensures ∙ length_added c.args.entries.now c.args.others.now ∙ (right c.before.before.before.before.before.before.before.before.before.before).full,
-)
+count-requires c κs =
+    let start = c.before.before.before.before.before.before.before.before.before.before in (
+      length_stored (code start) (handed start) (right start),
+      ap length c.add_entries.ensures ∙ length_added c.args.entries.now c.args.others.now ∙ (right start).full,
+    )
 
 -- No entry is above 5: the entries are the sum, and its cost and totals have been counted.
 returns-2 : tie.Need-returns
 returns-2 c =
+    let start = c.before.before.before.before.before.before.before.before.before.before.before.before.before in
+    let at_lowest_sum_bad = c.before.before.before.before.before.before.before.before.before in
     let e = c.add_entries.ensures in
-    none_above_done (code c.before.before.before.before.before.before.before.before.before.before.before.before.before) (three c.before.before.before.before.before.before.before.before.before.before.before.before.before) (handed c.before.before.before.before.before.before.before.before.before.before.before.before.before) (held_of (code c.before.before.before.before.before.before.before.before.before.before.before.before.before) c.args.n (sum c.before.before.before.before.before.before.before.before.before.before.before.before.before)) c.lowest_sum-bad.result (lowest c.before.before.before.before.before.before.before.before.before)
-    (let f = (right c.before.before.before.before.before.before.before.before.before.before.before.before.before).full in omega arith) _ _ _ (c.count.ensures.0 ∙ ap cost e) (c.count.ensures.1 ∙ ap (totals_of (code c.before.before.before.before.before.before.before.before.before.before.before.before.before)) e) e
+    none_above_done (code start) (three start) (handed start) (held_of (code start) c.args.n (sum start)) c.lowest_sum-bad.result (lowest at_lowest_sum_bad)
+    (let f = (right start).full in omega arith) _ _ _ (c.count.ensures.0 ∙ ap cost e) (c.count.ensures.1 ∙ ap (totals_of (code start)) e) e
 
 pub add_right_spec : {M : Type 1} → statement M
 add_right_spec =

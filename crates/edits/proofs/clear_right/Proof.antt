@@ -45,21 +45,24 @@ totalled s = let t = length_stored (code s) (handed s) (right s) in let p = here
 -- the lowest of what goes in and comes out
 lowest : (b : tie.After-first_above-bad) → (b.first_above-bad.result ≡ lowest_above (code b.before.before.before) (both b.before.before.before))
 lowest b =
-    b.first_above-bad.ensures ∙ lowest_cleared (code b.before.before.before) b.args.entries.now (right b.before.before.before).full b.args.position (here b.before.before.before)
+    let start = b.before.before.before in
+    b.first_above-bad.ensures ∙ lowest_cleared (code start) b.args.entries.now (right start).full b.args.position (here start)
 
 -- An entry is above 5: the lowest of them is refused, and the record is as it was.
 returns : tie.Need-returns-then-bad-entries
 returns c =
-    above_refused (code c.before.before.before.before) (both c.before.before.before.before) (handed c.before.before.before.before) (held_of (code c.before.before.before.before) c.args.n (after c.before.before.before.before)) c.first_above-bad.result (lowest c.before)
-    (let f = (right c.before.before.before.before).full in omega arith)
+    let start = c.before.before.before.before in
+    above_refused (code start) (both start) (handed start) (held_of (code start) c.args.n (after start)) c.first_above-bad.result (lowest c.before)
+    (let f = (right start).full in omega arith)
 
 -- the column begins, and ends, within the entries
 column : (y : tie.After-symbols-symbols)
     → (y.symbols-symbols.result * y.args.position + y.symbols-symbols.result ≤ length y.args.entries.now) × (y.symbols-symbols.result ≤ 32)
 column y =
+    let start = y.before.before.before.before.before in
     let e = y.symbols-symbols.ensures in
     let f = ap (λ (q : ℕ). q * y.args.position) e in
-    let w = column_within (code y.before.before.before.before.before) (handed y.before.before.before.before.before) (right y.before.before.before.before.before) y.args.position (here y.before.before.before.before.before) in
+    let w = column_within (code start) (handed start) (right start) y.args.position (here start) in
     let most = (sized y.args.alphabet).most in
     (omega arith, omega arith)
 
@@ -76,31 +79,40 @@ paid p =
 -- zeros are laid over the column
 cleared : (k : tie.After-clear) → k.clear.new.out ≡ after k.before.before.before.before.before.before.before.before.before
 cleared k =
+    let start = k.before.before.before.before.before.before.before.before.before in
     k.clear.ensures
     ∙ ap (λ (q : ℕ). laid k.args.entries.now (q * k.args.position) (replicate q 0)) k.symbols-symbols.ensures
-    ∙ laid_cleared (code k.before.before.before.before.before.before.before.before.before) k.args.entries.now k.args.position
+    ∙ laid_cleared (code start) k.args.entries.now k.args.position
 
 -- what is left with the column's cost is the stored cost
 moved : (p : tie.After-cost-of_column) → (cost (after p.before.before.before.before.before.before.before) + p.cost-of_column.result ≡ p.args.cost)
 moved p =
-    without_column_lem (code p.before.before.before.before.before.before.before) (handed p.before.before.before.before.before.before.before) (right p.before.before.before.before.before.before.before) p.args.position (here p.before.before.before.before.before.before.before) p.cost-of_column.result (paid p)
+    let start = p.before.before.before.before.before.before.before in
+    without_column_lem (code start) (handed start) (right start) p.args.position (here start) p.cost-of_column.result (paid p)
 
 cost-requires : tie.Need-cost-of_column-requires
 cost-requires c κs = let w = column c.before in omega arith
 
 clear-requires : tie.Need-clear-requires
-clear-requires c κs = let w = column c.before.before.before in omega arith
+clear-requires c κs =
+    let at_symbols_symbols = c.before.before.before in
+    let w = column at_symbols_symbols in omega arith
 
 sub-t14 : tie.Need-overflow_sub-result
-sub-t14 c = let m = moved c.before.before.before.before in omega arith
+sub-t14 c =
+    let at_cost_of_column = c.before.before.before.before in
+    let m = moved at_cost_of_column in omega arith
 
 -- No entry is above 5: the column is zeros, and so is its total;
 -- its cost is taken off the stored one.
 returns-2 : tie.Need-returns
 returns-2 c =
-    let m = moved c.before.before.before.before in
-    clear_done (code c.before.before.before.before.before.before.before.before.before.before.before) (handed c.before.before.before.before.before.before.before.before.before.before.before) (right c.before.before.before.before.before.before.before.before.before.before.before) c.args.position (here c.before.before.before.before.before.before.before.before.before.before.before) c.first_above-bad.result (lowest c.before.before.before.before.before.before.before.before) (let f = (right c.before.before.before.before.before.before.before.before.before.before.before).full in omega arith)
-    c.cost-of_column.result _ (paid c.before.before.before.before) (omega arith) c.clear.new.out (cleared c.before.before)
+    let start = c.before.before.before.before.before.before.before.before.before.before.before in
+    let at_first_above_bad = c.before.before.before.before.before.before.before.before in
+    let at_cost_of_column = c.before.before.before.before in
+    let m = moved at_cost_of_column in
+    clear_done (code start) (handed start) (right start) c.args.position (here start) c.first_above-bad.result (lowest at_first_above_bad) (let f = (right start).full in omega arith)
+    c.cost-of_column.result _ (paid at_cost_of_column) (omega arith) c.clear.new.out (cleared c.before.before)
 
 pub clear_right_spec : {M : Type 1} → statement M
 clear_right_spec =

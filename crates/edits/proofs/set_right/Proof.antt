@@ -51,8 +51,9 @@ at-is y = ap (λ (q : ℕ). q * y.args.position + y.args.symbol) y.symbols.ensur
 
 within : (y : tie.After-symbols) → at y < length y.args.entries.now
 within y =
+    let start = y.before.before.before in
     let e = at-is y in
-    let w = at_within (code y.before.before.before) (handed y.before.before.before) (right y.before.before.before) y.args.position (here y.before.before.before) y.args.symbol y.args.entry y.requires.0.2 in
+    let w = at_within (code start) (handed start) (right start) y.args.position (here start) y.args.symbol y.args.entry y.requires.0.2 in
     omega arith
 
 set_there : (y : tie.After-symbols) → (set y.args.entries.now (at y) y.args.entry ≡ after y.before.before.before)
@@ -61,31 +62,37 @@ set_there y = ap (λ (j : ℕ). set y.args.entries.now j y.args.entry) (at-is y)
 -- the lowest of what goes in and comes out
 lowest : (b : tie.After-lowest_set-bad) → (b.lowest_set-bad.result ≡ lowest_above (code b.before.before.before.before) (both b.before.before.before.before))
 lowest b =
-    b.lowest_set-bad.ensures (code b.before.before.before.before) (right b.before.before.before.before).full ∙ ap (λ (l : List ℕ). lowest_above (code b.before.before.before.before) (b.args.entries.now ∷ l ∷ [])) (set_there b.before)
+    let start = b.before.before.before.before in
+    b.lowest_set-bad.ensures (code start) (right start).full ∙ ap (λ (l : List ℕ). lowest_above (code start) (b.args.entries.now ∷ l ∷ [])) (set_there b.before)
 
 -- An entry is above 5: the lowest of them is refused, and the record is as it was.
 returns : tie.Need-returns-then-bad-entries
 returns c =
-    above_refused (code c.before.before.before.before.before) (both c.before.before.before.before.before) (handed c.before.before.before.before.before) (held_of (code c.before.before.before.before.before) c.args.n (after c.before.before.before.before.before)) c.lowest_set-bad.result (lowest c.before)
-    (let f = (right c.before.before.before.before.before).full in omega arith)
+    let start = c.before.before.before.before.before in
+    above_refused (code start) (both start) (handed start) (held_of (code start) c.args.n (after start)) c.lowest_set-bad.result (lowest c.before)
+    (let f = (right start).full in omega arith)
 
 passed : (c : tie.Else-bad-entries) → ((in_or_out (code c.before.before.before.before.before) (both c.before.before.before.before.before)).given ≡ false)
 passed c =
-    not_given (code c.before.before.before.before.before) (both c.before.before.before.before.before) (handed c.before.before.before.before.before) (held_of (code c.before.before.before.before.before) c.args.n (after c.before.before.before.before.before)) c.lowest_set-bad.result (lowest c.before)
-    (let f = (right c.before.before.before.before.before).full in omega arith)
+    let start = c.before.before.before.before.before in
+    not_given (code start) (both start) (handed start) (held_of (code start) c.args.n (after start)) c.lowest_set-bad.result (lowest c.before)
+    (let f = (right start).full in omega arith)
 
 -- the total and the cost that are stored are small
 small : (c : tie.Else-bad-entries)
     → ((get_or c.args.totals.now c.args.position 0 ≤ 5 * 32) × (c.args.cost ≤ 15 * 992))
 small c =
-    let total = total_limited (code c.before.before.before.before.before) (handed c.before.before.before.before.before) (right c.before.before.before.before.before) (after c.before.before.before.before.before ∷ []) (passed c) c.args.position (here c.before.before.before.before.before) in
-    let price = cost_limited (code c.before.before.before.before.before) (handed c.before.before.before.before.before) (right c.before.before.before.before.before) (after c.before.before.before.before.before ∷ []) (passed c) in
+    let start = c.before.before.before.before.before in
+    let total = total_limited (code start) (handed start) (right start) (after start ∷ []) (passed c) c.args.position (here start) in
+    let price = cost_limited (code start) (handed start) (right start) (after start ∷ []) (passed c) in
     let most = (sized c.args.alphabet).most in
     let room = places_within c.args.alphabet in
     (omega arith, omega arith)
 
 add-totals : tie.Need-overflow_add-totals
-add-totals c = let t = (small c.before.before.before).0 in let x = c.short.ensures.1 in omega arith
+add-totals c =
+    let at_bad_entries = c.before.before.before in
+    let t = (small at_bad_entries).0 in let x = c.short.ensures.1 in omega arith
 
 -- the entry that lay there
 abbrev old : tie.After-symbols → ℕ
@@ -94,27 +101,33 @@ old y = get_or y.args.entries.now (at y) 0
 -- the new total with the old entry is the old total with the new one
 total_moved : (y : tie.After-symbols) → (sum_of_column (code y.before.before.before) (after y.before.before.before) y.args.position + old y ≡ get_or y.args.totals.now y.args.position 0 + y.args.entry)
 total_moved y =
-    ap (λ (j : ℕ). sum_of_column (code y.before.before.before) (after y.before.before.before) y.args.position + get_or y.args.entries.now j 0) (at-is y)
-    ∙ total_moves (code y.before.before.before) (handed y.before.before.before) (right y.before.before.before) y.args.position (here y.before.before.before) y.args.symbol y.args.entry y.requires.0.2
+    let start = y.before.before.before in
+    ap (λ (j : ℕ). sum_of_column (code start) (after start) y.args.position + get_or y.args.entries.now j 0) (at-is y)
+    ∙ total_moves (code start) (handed start) (right start) y.args.position (here start) y.args.symbol y.args.entry y.requires.0.2
 
 cost-moved : (y : tie.After-symbols) → (cost (after y.before.before.before) + entry_cost (old y) ≡ y.args.cost + entry_cost y.args.entry)
 cost-moved y =
-    ap (λ (j : ℕ). cost (after y.before.before.before) + entry_cost (get_or y.args.entries.now j 0)) (at-is y)
-    ∙ cost_moves (code y.before.before.before) (handed y.before.before.before) (right y.before.before.before) y.args.position (here y.before.before.before) y.args.symbol y.args.entry y.requires.0.2
+    let start = y.before.before.before in
+    ap (λ (j : ℕ). cost (after start) + entry_cost (get_or y.args.entries.now j 0)) (at-is y)
+    ∙ cost_moves (code start) (handed start) (right start) y.args.position (here start) y.args.symbol y.args.entry y.requires.0.2
 
 sub-totals : tie.Need-overflow_sub-totals
 sub-totals c =
-    let moved = total_moved c.before.before.before.before.before.before in
+    let at_symbols = c.before.before.before.before.before.before in
+    let moved = total_moved at_symbols in
     let x = c.short.ensures.0 in
     let was = c.short-2.ensures.0 in
     omega arith
 
 add-t13 : tie.Need-overflow_add-result
-add-t13 c = let t = (small c.before.before.before.before.before).1 in let x = c.entry_cost.ensures.1 in omega arith
+add-t13 c =
+    let at_bad_entries = c.before.before.before.before.before in
+    let t = (small at_bad_entries).1 in let x = c.entry_cost.ensures.1 in omega arith
 
 sub-t29 : tie.Need-overflow_sub-result
 sub-t29 c =
-    let moved = cost-moved c.before.before.before.before.before.before.before.before in
+    let at_symbols = c.before.before.before.before.before.before.before.before in
+    let moved = cost-moved at_symbols in
     let x = c.entry_cost.ensures.0 in
     let was = c.entry_cost-2.ensures.0 in
     omega arith
@@ -122,16 +135,19 @@ sub-t29 c =
 -- No entry is above 5: the entry is set, and the total and the cost lose the old one and gain it.
 returns-2 : tie.Need-returns
 returns-2 c =
-    let place = at-is c.before.before.before.before.before.before.before.before in
+    let start = c.before.before.before.before.before.before.before.before.before.before.before in
+    let at_symbols = c.before.before.before.before.before.before.before.before in
+    let at_lowest_set_bad = c.before.before.before.before.before.before.before in
+    let place = at-is at_symbols in
     let there = ap (λ (j : ℕ). get_or c.args.entries.now j 0) place in
-    let total = total_moved c.before.before.before.before.before.before.before.before in
-    let price = cost-moved c.before.before.before.before.before.before.before.before in
+    let total = total_moved at_symbols in
+    let price = cost-moved at_symbols in
     let x = c.short.ensures.0 in
     let was = c.short-2.ensures.0 in
     let cost-new = c.entry_cost.ensures.0 in
     let cost-was = c.entry_cost-2.ensures.0 ∙ ap entry_cost there in
-    set_done (code c.before.before.before.before.before.before.before.before.before.before.before) (handed c.before.before.before.before.before.before.before.before.before.before.before) (right c.before.before.before.before.before.before.before.before.before.before.before) c.args.position (here c.before.before.before.before.before.before.before.before.before.before.before) c.args.symbol c.args.entry c.requires.0.2
-    c.lowest_set-bad.result (lowest c.before.before.before.before.before.before.before) (let f = (right c.before.before.before.before.before.before.before.before.before.before.before).full in omega arith) _ _ (omega arith) (omega arith) _ (set_there c.before.before.before.before.before.before.before.before)
+    set_done (code start) (handed start) (right start) c.args.position (here start) c.args.symbol c.args.entry c.requires.0.2
+    c.lowest_set-bad.result (lowest at_lowest_set_bad) (let f = (right start).full in omega arith) _ _ (omega arith) (omega arith) _ (set_there at_symbols)
 
 pub set_right_spec : {M : Type 1} → statement M
 set_right_spec =

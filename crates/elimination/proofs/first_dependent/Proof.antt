@@ -49,9 +49,10 @@ down-again c =
 
 pivot-requires : tie.Need-pivot-requires invariant-down decreases-down invariant-search decreases-search
 pivot-requires c κs =
+    let at_search = c.before.before.before.before.before in
     let r : c.down.r < c.args.rows = omega arith in
     let e = c.search.invariant.1 in
-    (e.system, (c.requires.1.0, (within c.before.before.before.before.before, ((c.down.invariant.0, r), (e.triangle, c.if-system-r-ne0.true)))))
+    (e.system, (c.requires.1.0, (within at_search, ((c.down.invariant.0, r), (e.triangle, c.if-system-r-ne0.true)))))
 
 search-again : tie.Need-search-preserved invariant-down decreases-down invariant-search decreases-search
 search-again c =

@@ -21,23 +21,27 @@ SolvedOf s after w = let a = s.args in Solved (code_on w) a.j 0 a.system.now a.o
 
 solve-by-requires : tie.Need-solve_by-requires
 solve-by-requires c κs =
-    let g = subst (GivenOf c.before.before.before.before) c.in-ThirtyTwo.is (c.requires.0, c.requires.1.0) in
+    let start = c.before.before.before.before in
+    let g = subst (GivenOf start) c.in-ThirtyTwo.is (c.requires.0, c.requires.1.0) in
     (g.0, (g.1, c.requires.1.1))
 
 solve-by-requires-2 : tie.Need-solve_by-requires-in_default
 solve-by-requires-2 c κs =
-    let g = subst (GivenOf c.before.before.before.before) c.in_default.is (c.requires.0, c.requires.1.0) in
+    let start = c.before.before.before.before in
+    let g = subst (GivenOf start) c.in_default.is (c.requires.0, c.requires.1.0) in
     (g.0, (g.1, c.requires.1.1))
 
 -- The alphabet is of 32 symbols: what is solved over these is solved over it.
 returns : tie.Need-returns-in-ThirtyTwo
 returns c =
-    subst (SolvedOf c.before.before.before.before.before.before.before c.solve_by.new.out) (sym c.in-ThirtyTwo.is) c.solve_by.ensures
+    let start = c.before.before.before.before.before.before.before in
+    subst (SolvedOf start c.solve_by.new.out) (sym c.in-ThirtyTwo.is) c.solve_by.ensures
 
 -- The alphabet is of 16 symbols: what is solved over these is solved over it.
 returns-2 : tie.Need-returns-in_default
 returns-2 c =
-    subst (SolvedOf c.before.before.before.before.before.before.before c.solve_by-in_default.new.out) (sym c.in_default.is) c.solve_by-in_default.ensures
+    let start = c.before.before.before.before.before.before.before in
+    subst (SolvedOf start c.solve_by-in_default.new.out) (sym c.in_default.is) c.solve_by-in_default.ensures
 
 pub solve_spec : {M : Type 1} → statement M
 solve_spec =

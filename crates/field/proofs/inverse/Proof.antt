@@ -49,10 +49,11 @@ array-read-t17 c =
 returns-2 : tie.Need-returns
 unfolding Inverses
 returns-2 c =
+    let at_or_checked = c.before.before.before in
     let a = c.args.a in
     let f = fit c.before.before in
     ap (λ (x : ℕ). valued (get_or c.inverses-table.result x 0)) c.wide-at.ensures.0
-    ∙ ap valued (c.inverses-table.ensures a f.0 f.1) ∙ goes_on (came c.before.before.before) [] refused _ c.in_default.is
+    ∙ ap valued (c.inverses-table.ensures a f.0 f.1) ∙ goes_on (came at_or_checked) [] refused _ c.in_default.is
 
 pub inverse_spec : {M : Type 1} → statement M
 inverse_spec =

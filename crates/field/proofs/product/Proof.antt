@@ -42,21 +42,27 @@ looked c r w e l =
 
 look-requires : tie.Need-look-requires
 look-requires c κs =
-    (c.products_of_thirty_two-table.ensures, subst (BothIn c.before.before.before.before.before) c.in-ThirtyTwo.is (both c.before.before.before))
+    let start = c.before.before.before.before.before in
+    let at_bad_lt = c.before.before.before in
+    (c.products_of_thirty_two-table.ensures, subst (BothIn start) c.in-ThirtyTwo.is (both at_bad_lt))
 
 -- The alphabet has thirty-two symbols, and the product stands in its table.
 returns-2 : tie.Need-returns-in-ThirtyTwo
 returns-2 c =
-    looked c.before.before.before.before c.look.result ThirtyTwo c.in-ThirtyTwo.is c.look.ensures
+    let at_bad_lt = c.before.before.before.before in
+    looked at_bad_lt c.look.result ThirtyTwo c.in-ThirtyTwo.is c.look.ensures
 
 look-requires-2 : tie.Need-look-requires-2
 look-requires-2 c κs =
-    (c.products_of_sixteen-table.ensures, subst (BothIn c.before.before.before.before.before) c.in_default.is (both c.before.before.before))
+    let start = c.before.before.before.before.before in
+    let at_bad_lt = c.before.before.before in
+    (c.products_of_sixteen-table.ensures, subst (BothIn start) c.in_default.is (both at_bad_lt))
 
 -- The alphabet has sixteen symbols, and the product stands in its table.
 returns-3 : tie.Need-returns
 returns-3 c =
-    looked c.before.before.before.before c.look-2.result Sixteen c.in_default.is c.look-2.ensures
+    let at_bad_lt = c.before.before.before.before in
+    looked at_bad_lt c.look-2.result Sixteen c.in_default.is c.look-2.ensures
 
 pub product_spec : {M : Type 1} → statement M
 product_spec =

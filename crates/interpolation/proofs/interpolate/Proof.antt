@@ -43,17 +43,20 @@ turn-requires c κs =
 
 interpolate-priced-requires : tie.Need-interpolate_priced-requires
 interpolate-priced-requires c κs =
-    let f = fit c.before.before.before.before.before in
+    let at_default = c.before.before.before.before.before in
+    let f = fit at_default in
     let a = c.args in
     (f.0, turned_costs (code_on a.alphabet) a.n f.1 c.turn-cost.ensures)
 
 -- The checks have passed: what is left of the table is the cost, tried of the bytes as turned.
 returns-2 : tie.Need-returns
 returns-2 c =
+    let at_symbols_checked = c.before.before.before.before.before.before.before.before.before in
+    let at_default = c.before.before.before.before.before.before.before.before in
     let a = c.args in
     let C = code_on a.alphabet in
-    passed_on C a.n a.k a.limit a.matrix.now a.out.now (came c.before.before.before.before.before.before.before.before.before) c.in_default.is
-    (turned_bytes C a.n (fit c.before.before.before.before.before.before.before.before).1 c.turn-cost.ensures) _ _ c.interpolate_priced.ensures
+    passed_on C a.n a.k a.limit a.matrix.now a.out.now (came at_symbols_checked) c.in_default.is
+    (turned_bytes C a.n (fit at_default).1 c.turn-cost.ensures) _ _ c.interpolate_priced.ensures
 
 pub interpolate_spec : {M : Type 1} → statement M
 interpolate_spec =

@@ -49,9 +49,10 @@ interpolate-priced-requires c κs =
 -- The checks have passed: what is left of the table is the cost, tried of the record's own bytes.
 returns-2 : tie.Need-returns
 returns-2 c =
+    let at_symbols_checked = c.before.before.before.before.before in
     let a = c.args in
     let C = code_on a.alphabet in
-    passed_on C a.n a.k a.limit (bytes_of C (given c.before.before.before.before.before)) a.out.now (came c.before.before.before.before.before) c.in_default.is refl _ _ c.interpolate_priced.ensures
+    passed_on C a.n a.k a.limit (bytes_of C (given at_symbols_checked)) a.out.now (came at_symbols_checked) c.in_default.is refl _ _ c.interpolate_priced.ensures
 
 pub interpolate_parts_spec : {M : Type 1} → statement M
 interpolate_parts_spec =

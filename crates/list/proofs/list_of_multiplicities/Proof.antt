@@ -49,7 +49,8 @@ turn-requires c κs =
 
 list-priced-requires : tie.Need-list_priced-requires
 list-priced-requires c κs =
-    let f = fit c.before.before.before.before.before.before in
+    let at_default = c.before.before.before.before.before.before in
+    let f = fit at_default in
     let a = c.args in
     (f.0, turned_costs (code_on a.alphabet) a.n f.1 c.turn-cost.ensures)
 
@@ -57,10 +58,12 @@ list-priced-requires c κs =
 -- those of the matrix.
 returns-2 : tie.Need-returns
 returns-2 c =
+    let at_symbols_checked = c.before.before.before.before.before.before.before.before.before.before.before.before in
+    let at_default = c.before.before.before.before.before.before.before.before.before.before.before in
     let a = c.args in
     let C = code_on a.alphabet in
-    passed_on C a.n a.k (cost_left a.limit) a.matrix.now a.rows.now a.scores.now (came c.before.before.before.before.before.before.before.before.before.before.before.before) c.in_default.is
-    (turned_bytes C a.n (fit c.before.before.before.before.before.before.before.before.before.before.before).1 c.turn-cost.ensures) _ _ _ c.list_priced.ensures
+    passed_on C a.n a.k (cost_left a.limit) a.matrix.now a.rows.now a.scores.now (came at_symbols_checked) c.in_default.is
+    (turned_bytes C a.n (fit at_default).1 c.turn-cost.ensures) _ _ _ c.list_priced.ensures
 
 pub list_of_multiplicities_spec : {M : Type 1} → statement M
 list_of_multiplicities_spec =

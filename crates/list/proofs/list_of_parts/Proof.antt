@@ -52,15 +52,17 @@ fit t =
 
 list-priced-requires : tie.Need-list_priced-requires
 list-priced-requires c κs =
+    let at_symbols_checked = c.before.before.before in
     let f = fit c.before.before in
-    (f.0, rightly_priced (code_on c.args.alphabet) (given c.before.before.before) f.1 f.0.sized.2)
+    (f.0, rightly_priced (code_on c.args.alphabet) (given at_symbols_checked) f.1 f.0.sized.2)
 
 -- All checks have passed: list_priced tries the stored cost, and lists, of the record's bytes.
 returns-2 : tie.Need-returns
 returns-2 c =
+    let at_symbols_checked = c.before.before.before.before.before.before.before.before in
     let a = c.args in
     let C = code_on a.alphabet in
-    passed_on C a.n a.k (cost_left a.limit) (bytes_of C (given c.before.before.before.before.before.before.before.before)) a.rows.now a.scores.now (came c.before.before.before.before.before.before.before.before) c.in_default.is
+    passed_on C a.n a.k (cost_left a.limit) (bytes_of C (given at_symbols_checked)) a.rows.now a.scores.now (came at_symbols_checked) c.in_default.is
     refl _ _ _ c.list_priced.ensures
 
 pub list_of_parts_spec : {M : Type 1} → statement M

@@ -47,13 +47,16 @@ settled c =
 
 columns-checked-requires : tie.Need-columns_checked-checked-requires
 columns-checked-requires c κs e =
-    let f = settle c.before.before.before.before.before.before.before.before.before (accepted (settled c) e) in
+    let entry = c.before.before.before.before.before.before.before.before.before in
+    let f = settle entry (accepted (settled c) e) in
     let size = f.2 in
     (f.1.sized.2, omega arith)
 
 came : (c : tie.After-columns_checked-checked)
     → (Came (settings c.before.before.before.before.before.before.before.before.before.before ++ sums c.before.before.before.before.before.before.before.before.before.before) [] (told_checked c.columns_checked-checked.result))
-came c = further (sums c.before.before.before.before.before.before.before.before.before.before) (settled c.before) ▸ c.columns_checked-checked.ensures
+came c =
+    let entry = c.before.before.before.before.before.before.before.before.before.before in
+    further (sums entry) (settled c.before) ▸ c.columns_checked-checked.ensures
 
 -- the multiplicities
 abbrev made : tie.Start → List ℕ
@@ -62,11 +65,14 @@ made s = matrix s.args.level s.args.reliabilities.now
 -- A check has refused: its refusal is answered, and no memory has changed.
 returns : tie.Need-returns-in-Refused
 returns c =
+    let entry = c.before.before.before.before.before.before.before.before.before.before.before in
     let a = c.args in
-    refused_by_check (code_on a.alphabet) a.n a.k (cost_left a.limit) (made c.before.before.before.before.before.before.before.before.before.before.before) a.rows.now a.scores.now (came c.before) c.in-Refused.is
+    refused_by_check (code_on a.alphabet) a.n a.k (cost_left a.limit) (made entry) a.rows.now a.scores.now (came c.before) c.in-Refused.is
 
 fit : (t : tie.In_default) → Settled t.before.before.before.before.before.before.before.before.before.before.before
-fit t = settle t.before.before.before.before.before.before.before.before.before.before.before (accepts_front _ (sums t.before.before.before.before.before.before.before.before.before.before.before) (accepted (came t.before) t.in_default.is))
+fit t =
+    let entry = t.before.before.before.before.before.before.before.before.before.before.before in
+    settle entry (accepts_front _ (sums entry) (accepted (came t.before) t.in_default.is))
 
 weigh-requires : tie.Need-weigh-cost-requires
 weigh-requires c κs =
@@ -79,17 +85,21 @@ size t = let a = t.args in length_matrix a.level a.reliabilities.now ∙ (fit t)
 
 list-priced-requires : tie.Need-list_priced-requires
 list-priced-requires c κs =
+    let at_default = c.before.before.before.before.before.before in
     let a = c.args in
-    ((fit c.before.before.before.before.before.before).1, turned_costs (code_on a.alphabet) a.n (size c.before.before.before.before.before.before) c.weigh-cost.ensures)
+    ((fit at_default).1, turned_costs (code_on a.alphabet) a.n (size at_default) c.weigh-cost.ensures)
 
 -- All checks have passed: list_priced tries the cost, and lists, of the record's bytes, which are
 -- the multiplicities.
 returns-2 : tie.Need-returns
 returns-2 c =
+    let entry = c.before.before.before.before.before.before.before.before.before.before.before.before.before.before.before.before.before.before.before.before.before.before in
+    let at_columns_checked_checked = c.before.before.before.before.before.before.before.before.before.before.before.before in
+    let at_default = c.before.before.before.before.before.before.before.before.before.before.before in
     let a = c.args in
     let C = code_on a.alphabet in
-    passed_on C a.n a.k (cost_left a.limit) (made c.before.before.before.before.before.before.before.before.before.before.before.before.before.before.before.before.before.before.before.before.before.before) a.rows.now a.scores.now (came c.before.before.before.before.before.before.before.before.before.before.before.before) c.in_default.is
-    (turned_bytes C a.n (size c.before.before.before.before.before.before.before.before.before.before.before) c.weigh-cost.ensures) _ _ _ c.list_priced.ensures
+    passed_on C a.n a.k (cost_left a.limit) (made entry) a.rows.now a.scores.now (came at_columns_checked_checked) c.in_default.is
+    (turned_bytes C a.n (size at_default) c.weigh-cost.ensures) _ _ _ c.list_priced.ensures
 
 pub list_of_reliabilities_spec : {M : Type 1} → statement M
 list_of_reliabilities_spec =

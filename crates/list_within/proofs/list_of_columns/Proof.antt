@@ -133,20 +133,22 @@ slice-aggregate-roots-above c =
 
 roots-above-requires : tie.Need-roots_above-requires
 roots-above-requires c κs =
-    let s = entry (at_bound c.before.before.before.before) in
-    (rooted c.before.before.before.before, (s.requires.1.0, s.requires.1.1))
+    let at_polynomial = c.before.before.before.before in
+    let s = entry (at_bound at_polynomial) in
+    (rooted at_polynomial, (s.requires.1.0, s.requires.1.1))
 
 -- The roots above the bound are listed, and these are all messages above the bound of the bytes.
 returns : tie.Need-returns
 returns c m size loaded =
-    let b = at_bound c.before.before.before.before.before.before.before.before.before in
+    let at_polynomial = c.before.before.before.before.before.before.before.before.before in
+    let b = at_bound at_polynomial in
     let s = entry b in
     let a = s.args in
     let z = s.requires.0 in
     let C = code_of b in
-    let d = degree c.before.before.before.before.before.before.before.before.before in
+    let d = degree at_polynomial in
     let of_bytes = bound_of_cost C a.n (weight b) a.cost d a.matrix.now m z.2 b.bound-bound.ensures z.3 size loaded in
-    lists C (field_on a.alphabet) a.n a.k d d (coefficients c.before.before.before.before.before.before.before.before.before) (rooted c.before.before.before.before.before.before.before.before.before) m size (front c.before.before.before.before.before.before.before.before.before m size loaded).through (omega arith) _
+    lists C (field_on a.alphabet) a.n a.k d d (coefficients at_polynomial) (rooted at_polynomial) m size (front at_polynomial m size loaded).through (omega arith) _
     of_bytes (c.roots_above.ensures m size loaded)
 
 pub list_of_columns_spec : {M : Type 1} → statement M

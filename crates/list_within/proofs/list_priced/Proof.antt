@@ -28,33 +28,39 @@ full s = length-take-le ((code_of s).symbols * s.args.n) s.args.entries.now s.re
 -- The cost is above the limit: refusal 7, and no memory has changed.
 returns : tie.Need-returns-then-limit-cost
 returns c =
+    let start = c.before.before.before.before in
     let a = c.args in
     let paid = c.requires.1.paid in
-    refused_by_cost (code_of c.before.before.before.before) a.n a.k a.limit (bytes c.before.before.before.before) a.rows.now a.scores.now [] (omega arith)
+    refused_by_cost (code_of start) a.n a.k a.limit (bytes start) a.rows.now a.scores.now [] (omega arith)
 
 -- the columns are those of the bytes
 loaded : (c : tie.After-in_columns-columns) → (c.in_columns-columns.result ≡ matrix_of (code_of c.before.before.before.before.before) (bytes c.before.before.before.before.before) c.args.n)
 loaded c =
+    let start = c.before.before.before.before.before in
     let a = c.args in
-    columns_front (code_of c.before.before.before.before.before) a.n a.cost a.entries.now c.requires.0.sized.2 c.requires.1 c.in_columns-columns.result c.in_columns-columns.ensures
+    columns_front (code_of start) a.n a.cost a.entries.now c.requires.0.sized.2 c.requires.1 c.in_columns-columns.result c.in_columns-columns.ensures
 
 list-of-columns-requires : tie.Need-list_of_columns-requires
 list-of-columns-requires c κs =
+    let start = c.before.before.before.before.before.before.before.before in
+    let at_in_columns_columns = c.before.before.before in
     let columns = c.in_columns-columns in
     let a = c.args in
     let f = c.requires.0 in
     let z = f.sized in
     let low = f.low in
-    let costs = columns_cost (code_of c.before.before.before.before.before.before.before.before) a.n a.cost a.entries.now z.2 c.requires.1 columns.result columns.ensures in
-    ((z.0, z.1, z.2, costs, omega arith), ((f.room_for_rows, f.room_for_scores), (bytes c.before.before.before.before.before.before.before.before, full c.before.before.before.before.before.before.before.before, loaded c.before.before.before)))
+    let costs = columns_cost (code_of start) a.n a.cost a.entries.now z.2 c.requires.1 columns.result columns.ensures in
+    ((z.0, z.1, z.2, costs, omega arith), ((f.room_for_rows, f.room_for_scores), (bytes start, full start, loaded at_in_columns_columns)))
 
 -- The cost is within the limit, and the list of the columns is that of the bytes.
 returns-2 : tie.Need-returns
 returns-2 c =
+    let start = c.before.before.before.before.before.before.before.before.before.before.before.before.before in
+    let at_in_columns_columns = c.before.before.before.before.before.before.before.before in
     let a = c.args in
     let paid = c.requires.1.paid in
-    listed (code_of c.before.before.before.before.before.before.before.before.before.before.before.before.before) a.n a.k a.limit (bytes c.before.before.before.before.before.before.before.before.before.before.before.before.before) a.rows.now a.scores.now (omega arith) c.list_of_columns.result _ _
-    (c.list_of_columns.ensures (bytes c.before.before.before.before.before.before.before.before.before.before.before.before.before) (full c.before.before.before.before.before.before.before.before.before.before.before.before.before) (loaded c.before.before.before.before.before.before.before.before))
+    listed (code_of start) a.n a.k a.limit (bytes start) a.rows.now a.scores.now (omega arith) c.list_of_columns.result _ _
+    (c.list_of_columns.ensures (bytes start) (full start) (loaded at_in_columns_columns))
 
 pub list_priced_spec : {M : Type 1} → statement M
 list_priced_spec =

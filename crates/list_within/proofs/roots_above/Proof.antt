@@ -44,34 +44,39 @@ found at-roots = at-roots.roots_into-many.new.out
 found-are-symbols : (r : tie.After-roots_into-many) → Symbols (code_of r.before.before.before.before.before) (found r)
 unfolding memory
 found-are-symbols r =
+    let start = r.before.before.before.before.before in
     let a = r.args in
     let w = sized a.alphabet in
-    let zeros = replicate_symbols (code_of r.before.before.before.before.before) (greatest_rows * most_positions) 0 (omega arith) in
-    found_symbols (code_of r.before.before.before.before.before) (field_of r.before.before.before.before.before) a.degree a.k a.coefficients.now memory (found r) zeros r.roots_into-many.ensures.1
+    let zeros = replicate_symbols (code_of start) (greatest_rows * most_positions) 0 (omega arith) in
+    found_symbols (code_of start) (field_of start) a.degree a.k a.coefficients.now memory (found r) zeros r.roots_into-many.ensures.1
 
 ranked-requires : tie.Need-ranked-requires
 unfolding memory
 ranked-requires c κs =
+    let start = c.before.before.before.before.before.before.before.before.before.before in
+    let at_roots_into_many = c.before.before.before.before.before in
     let a = c.args in
     let q = a.coefficients.now in
     let rooted = c.requires.0 in
     let z = rooted.sized in
     let w = sized a.alphabet in
-    let few = few_roots (code_of c.before.before.before.before.before.before.before.before.before.before) (field_of c.before.before.before.before.before.before.before.before.before.before) a.n a.k a.degree a.threshold q rooted in
+    let few = few_roots (code_of start) (field_of start) a.n a.k a.degree a.threshold q rooted in
     let many = c.roots_into-many.ensures.0 in
-    let fits = rows_fit most_positions a.k (length (roots_of (code_of c.before.before.before.before.before.before.before.before.before.before) a.degree a.k q)) (omega arith) few in
-    let long = length_found (code_of c.before.before.before.before.before.before.before.before.before.before) (field_of c.before.before.before.before.before.before.before.before.before.before) a.degree a.k q memory (found c.before.before.before.before.before) fits c.roots_into-many.ensures.1 in
+    let fits = rows_fit most_positions a.k (length (roots_of (code_of start) a.degree a.k q)) (omega arith) few in
+    let long = length_found (code_of start) (field_of start) a.degree a.k q memory (found at_roots_into_many) fits c.roots_into-many.ensures.1 in
     let taken : a.k * c.roots_into-many.result ≤ greatest_rows * most_positions = rw many fits in
-    (found-are-symbols c.before.before.before.before.before, ((z.2, omega arith, rw many few, omega arith), c.requires.1.0))
+    (found-are-symbols at_roots_into_many, ((z.2, omega arith, rw many few, omega arith), c.requires.1.0))
 
 -- The roots are ranked above the threshold itself, since it is narrowed without loss.
 returns : tie.Need-returns
 unfolding memory
 returns c m size loaded =
+    let start = c.before.before.before.before.before.before.before.before.before.before.before.before.before.before.before in
+    let at_roots_into_many = c.before.before.before.before.before.before.before.before.before.before in
     let a = c.args in
     let listed = c.ranked.ensures in
     let same : c.narrow.result ≡ a.threshold = c.narrow.ensures in
-    roots_listed (code_of c.before.before.before.before.before.before.before.before.before.before.before.before.before.before.before) (field_of c.before.before.before.before.before.before.before.before.before.before.before.before.before.before.before) a.n a.k a.degree a.threshold a.coefficients.now c.requires.0 m size a.matrix.now memory (found c.before.before.before.before.before.before.before.before.before.before) _
+    roots_listed (code_of start) (field_of start) a.n a.k a.degree a.threshold a.coefficients.now c.requires.0 m size a.matrix.now memory (found at_roots_into_many) _
     loaded c.roots_into-many.ensures.0 c.roots_into-many.ensures.1 a.rows.now a.scores.now _ _ _
     (rw same at listed.0) (rw same at listed.1.0) (rw same at listed.1.1)
 

@@ -29,6 +29,7 @@ put-requires c κs = (omega arith, c.loop-p.invariant.1.rest.wide)
 
 loop-again : tie.Need-loop-p-preserved invariant-loop decreases-loop
 loop-again c =
+    let start = c.before.before.before.before.before.before.before.before.before.before in
     let a = c.args in
     let n = a.blocks * block in
     let from = c.loop-p.p * block in
@@ -38,8 +39,8 @@ loop-again c =
     let powers = c.block-powers in
     let kept = c.kept_block-left in
     let part = kept_left from a.row.now a.es.now entries.result powers.result kept.result a.asked a.order entries.ensures powers.ensures kept.ensures in
-    let filled = filling_block n (left c.before.before.before.before.before.before.before.before.before.before) from kept.result c.loop-p.out c.put.new.row room c.put.ensures c.loop-p.invariant.1 part in
-    (omega arith, subst (λ (i : ℕ). Filling n i (left c.before.before.before.before.before.before.before.before.before.before) c.put.new.row) next filled)
+    let filled = filling_block n (left start) from kept.result c.loop-p.out c.put.new.row room c.put.ensures c.loop-p.invariant.1 part in
+    (omega arith, subst (λ (i : ℕ). Filling n i (left start) c.put.new.row) next filled)
 
 -- The loop has ended at p = blocks, so every block of the row is filled.
 returns : tie.Need-returns invariant-loop decreases-loop

@@ -38,10 +38,14 @@ add-short : tie.Need-overflow_add-first invariant-loop decreases-loop
 add-short c = let h = column c.before.before in omega arith
 
 shared-slice-read-short : tie.Need-bounds-entries-first invariant-loop decreases-loop
-shared-slice-read-short c = let h = column c.before.before.before in omega arith
+shared-slice-read-short c =
+    let at_symbols_symbols = c.before.before.before in
+    let h = column at_symbols_symbols in omega arith
 
 add_total : tie.Need-overflow_add-total invariant-loop decreases-loop
-add_total c = let h = (column c.before.before.before.before).1 in omega arith
+add_total c =
+    let at_symbols_symbols = c.before.before.before.before in
+    let h = (column at_symbols_symbols).1 in omega arith
 
 loop-again : tie.Need-loop-b-preserved invariant-loop decreases-loop
 loop-again c =

@@ -20,21 +20,25 @@ module _ (s : tie.Start) where
 
 lay-columns-requires : tie.Need-lay_columns-requires
 lay-columns-requires c κs =
-    (subst (Asked c.before.before.before) c.in-ThirtyTwo.is c.requires, refl)
+    let start = c.before.before.before in
+    (subst (Asked start) c.in-ThirtyTwo.is c.requires, refl)
 
 lay-columns-requires-2 : tie.Need-lay_columns-requires-in_default
 lay-columns-requires-2 c κs =
-    (subst (Asked c.before.before.before) c.in_default.is c.requires, refl)
+    let start = c.before.before.before in
+    (subst (Asked start) c.in_default.is c.requires, refl)
 
 -- The alphabet is that of thirty-two symbols, whose columns have been laid.
 returns : tie.Need-returns-in-ThirtyTwo
 returns c =
-    subst (Laid c.before.before.before.before c.lay_columns.new.columns) (sym c.in-ThirtyTwo.is) c.lay_columns.ensures
+    let start = c.before.before.before.before in
+    subst (Laid start c.lay_columns.new.columns) (sym c.in-ThirtyTwo.is) c.lay_columns.ensures
 
 -- The alphabet is that of sixteen symbols, whose columns have been laid.
 returns-2 : tie.Need-returns-in_default
 returns-2 c =
-    subst (Laid c.before.before.before.before c.lay_columns-in_default.new.columns) (sym c.in_default.is) c.lay_columns-in_default.ensures
+    let start = c.before.before.before.before in
+    subst (Laid start c.lay_columns-in_default.new.columns) (sym c.in_default.is) c.lay_columns-in_default.ensures
 
 pub in_columns_spec : {M : Type 1} → statement M
 in_columns_spec =

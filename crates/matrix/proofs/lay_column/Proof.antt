@@ -40,7 +40,9 @@ add-col : tie.Need-overflow_add-col invariant-loop decreases-loop
 add-col c = let h = column c.before.before in omega arith
 
 shared-slice-read-col : tie.Need-bounds-entries-first invariant-loop decreases-loop
-shared-slice-read-col c = let h = column c.before.before.before in omega arith
+shared-slice-read-col c =
+    let at_symbols_symbols = c.before.before.before in
+    let h = column at_symbols_symbols in omega arith
 
 -- the column has the room
 room : (c : tie.In-loop-b invariant-loop decreases-loop) → c.loop-b.b < length c.args.col.now
@@ -50,7 +52,9 @@ room c =
     omega arith
 
 element-write-col : tie.Need-bounds-col-b invariant-loop decreases-loop
-element-write-col c = let h = column c.before.before.before.before in omega arith
+element-write-col c =
+    let at_symbols_symbols = c.before.before.before.before in
+    let h = column at_symbols_symbols in omega arith
 
 loop-again : tie.Need-loop-b-preserved invariant-loop decreases-loop
 loop-again c = (

@@ -36,12 +36,14 @@ totalled c = sym c.totals_right.ensures ∙ c.if-not-totals_right.false
 -- There are not as many totals as positions.
 returns : tie.Need-returns-then-totals-positions
 returns c =
-    wrong_count (code c.before.before.before.before) (handed c.before.before.before.before) (ne_eqb _ _ (λ e. c.if-totals-positions.true (e ∙ sym c.positions-positions.ensures)))
+    let start = c.before.before.before.before in
+    wrong_count (code start) (handed start) (ne_eqb _ _ (λ e. c.if-totals-positions.true (e ∙ sym c.positions-positions.ensures)))
 
 -- There are not as many entries as places.
 returns-2 : tie.Need-returns-then-entries-places
 returns-2 c =
-    wrong_size (code c.before.before.before.before.before.before) (handed c.before.before.before.before.before.before) (counted c.before.before) (ne_eqb _ _ (λ e. c.if-entries-places.true (e ∙ sym c.places-places.ensures)))
+    let start = c.before.before.before.before.before.before in
+    wrong_size (code start) (handed start) (counted c.before.before) (ne_eqb _ _ (λ e. c.if-entries-places.true (e ∙ sym c.places-places.ensures)))
 
 totals-right-requires : tie.Need-totals_right-requires
 totals-right-requires c κs = (c.if-totals-positions.false ∙ c.positions-positions.ensures, full c)
@@ -49,7 +51,9 @@ totals-right-requires c κs = (c.if-totals-positions.false ∙ c.positions-posit
 -- A total is not its column's.
 returns-3 : tie.Need-returns-then-not-totals_right
 returns-3 c =
-    wrong_total (code c.before.before.before.before.before.before.before.before) (handed c.before.before.before.before.before.before.before.before) (counted c.before.before.before.before) (filled c.before.before) (sym c.totals_right.ensures ∙ c.if-not-totals_right.true)
+    let start = c.before.before.before.before.before.before.before.before in
+    let at_totals_positions = c.before.before.before.before in
+    wrong_total (code start) (handed start) (counted at_totals_positions) (filled c.before.before) (sym c.totals_right.ensures ∙ c.if-not-totals_right.true)
 
 cost-requires : tie.Need-cost-requires
 cost-requires c κs =
@@ -60,20 +64,29 @@ cost-requires c κs =
 -- The stored cost is not that of the entries.
 returns-4 : tie.Need-returns-then-cost
 returns-4 c =
-    let h = handed c.before.before.before.before.before.before.before.before.before.before in
+    let start = c.before.before.before.before.before.before.before.before.before.before in
+    let at_totals_positions = c.before.before.before.before.before.before in
+    let at_entries_places = c.before.before.before.before in
+    let h = handed start in
     let counts : c.cost.result ≡ cost h.entries = c.cost.ensures in
-    wrong_cost (code c.before.before.before.before.before.before.before.before.before.before) h (counted c.before.before.before.before.before.before) (filled c.before.before.before.before) (totalled c.before.before)
+    wrong_cost (code start) h (counted at_totals_positions) (filled at_entries_places) (totalled c.before.before)
     (ne_eqb h.cost (cost h.entries) (λ (same : h.cost ≡ cost h.entries). let z : ⊥ = omega arith in z))
 
 unused-zero-requires : tie.Need-unused_zero-requires
-unused-zero-requires c κs = full c.before.before.before.before
+unused-zero-requires c κs =
+    let at_entries_places = c.before.before.before.before in
+    full at_entries_places
 
 -- All else is right, so the unused columns decide.
 returns-5 : tie.Need-returns
 returns-5 c =
-    let h = handed c.before.before.before.before.before.before.before.before.before.before.before in
+    let start = c.before.before.before.before.before.before.before.before.before.before.before in
+    let at_totals_positions = c.before.before.before.before.before.before.before in
+    let at_entries_places = c.before.before.before.before.before in
+    let at_not_totals_right = c.before.before.before in
+    let h = handed start in
     let counts : c.cost.result ≡ cost h.entries = c.cost.ensures in
-    rest_decides (code c.before.before.before.before.before.before.before.before.before.before.before) h (counted c.before.before.before.before.before.before.before) (filled c.before.before.before.before.before) (totalled c.before.before.before) c.unused_zero.result
+    rest_decides (code start) h (counted at_totals_positions) (filled at_entries_places) (totalled at_not_totals_right) c.unused_zero.result
     (eq-eqb h.cost (cost h.entries) (omega arith)) c.unused_zero.ensures
 
 pub rightly_spec : {M : Type 1} → statement M

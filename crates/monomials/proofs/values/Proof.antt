@@ -22,23 +22,27 @@ ValuesOf s row w = let a = s.args in row ≡ values_row (code_on w) a.count a.px
 
 values-by-requires : tie.Need-values_by-requires
 values-by-requires c κs =
-    let g = subst (GivenOf c.before.before.before) c.in-ThirtyTwo.is (c.requires.0, c.requires.1.0) in
+    let start = c.before.before.before in
+    let g = subst (GivenOf start) c.in-ThirtyTwo.is (c.requires.0, c.requires.1.0) in
     (g.0, (g.1, c.requires.1.1))
 
 values-by-requires-2 : tie.Need-values_by-requires-in_default
 values-by-requires-2 c κs =
-    let g = subst (GivenOf c.before.before.before) c.in_default.is (c.requires.0, c.requires.1.0) in
+    let start = c.before.before.before in
+    let g = subst (GivenOf start) c.in_default.is (c.requires.0, c.requires.1.0) in
     (g.0, (g.1, c.requires.1.1))
 
 -- The alphabet is of 32 symbols: the values over these are those over it.
 returns : tie.Need-returns-in-ThirtyTwo
 returns c =
-    subst (ValuesOf c.before.before.before.before c.values_by.new.row) (sym c.in-ThirtyTwo.is) c.values_by.ensures
+    let start = c.before.before.before.before in
+    subst (ValuesOf start c.values_by.new.row) (sym c.in-ThirtyTwo.is) c.values_by.ensures
 
 -- The alphabet is of 16 symbols: the values over these are those over it.
 returns-2 : tie.Need-returns-in_default
 returns-2 c =
-    subst (ValuesOf c.before.before.before.before c.values_by-in_default.new.row) (sym c.in_default.is) c.values_by-in_default.ensures
+    let start = c.before.before.before.before in
+    subst (ValuesOf start c.values_by-in_default.new.row) (sym c.in_default.is) c.values_by-in_default.ensures
 
 pub values_spec : {M : Type 1} → statement M
 values_spec =

@@ -46,20 +46,26 @@ y-place y =
     subst (λ (e : ℕ). e < width) (sym y.wide-y.ensures.0) (y.requires.1.1.0 1 y.loop-place.place)
 
 element-copy-out-look : tie.Need-bounds-px-x invariant-loop decreases-loop
-element-copy-out-look y = let h = x-place y.before.before.before in omega arith
+element-copy-out-look y =
+    let at_wide_x = y.before.before.before in
+    let h = x-place at_wide_x in omega arith
 
 element-copy-out-look-2 : tie.Need-bounds-py-y invariant-loop decreases-loop
-element-copy-out-look-2 c = let h = y-place c.before.before.before in omega arith
+element-copy-out-look-2 c =
+    let at_wide_y = c.before.before.before in
+    let h = y-place at_wide_y in omega arith
 
 look-requires : tie.Need-look-requires invariant-loop decreases-loop
 look-requires c κs =
-    let s = entry c.before.before.before.before.before.before.before.before.before in
+    let at_loop_place = c.before.before.before.before.before.before.before.before.before in
+    let s = entry at_loop_place in
     (s.requires.0, (s.requires.1.0.0 _, s.requires.1.0.1 _))
 
 loop-again : tie.Need-loop-place-preserved invariant-loop decreases-loop
 loop-again c =
-    let is-value = c.look.ensures ∙ ap₂ (product c.before.before.before.before.before.before.before.before.before.before.before.before.before) c.wide-x.ensures.0 c.wide-y.ensures.0 in
-    (omega arith, filling_more c.args.count (value c.before.before.before.before.before.before.before.before.before.before.before.before.before) c.loop-place.place c.look.result c.loop-place.row (omega arith) (omega arith) c.loop-place.invariant.1 is-value)
+    let start = c.before.before.before.before.before.before.before.before.before.before.before.before.before in
+    let is-value = c.look.ensures ∙ ap₂ (product start) c.wide-x.ensures.0 c.wide-y.ensures.0 in
+    (omega arith, filling_more c.args.count (value start) c.loop-place.place c.look.result c.loop-place.row (omega arith) (omega arith) c.loop-place.invariant.1 is-value)
 
 -- The loop has ended at place = count, so all values are filled in.
 returns : tie.Need-returns invariant-loop decreases-loop

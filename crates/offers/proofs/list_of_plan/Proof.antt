@@ -47,13 +47,16 @@ settled c =
 
 columns-checked-requires : tie.Need-columns_checked-checked-requires
 columns-checked-requires c κs e =
-    let f = settle c.before.before.before.before.before.before.before.before.before.before.before.before (accepted (settled c) e) in
+    let entry = c.before.before.before.before.before.before.before.before.before.before.before.before in
+    let f = settle entry (accepted (settled c) e) in
     let full = f.1 in
     (f.0.sized.2, omega arith)
 
 came : (c : tie.After-columns_checked-checked)
     → (Came (settings c.before.before.before.before.before.before.before.before.before.before.before.before.before ++ sums c.before.before.before.before.before.before.before.before.before.before.before.before.before) [] (told_checked c.columns_checked-checked.result))
-came c = further (sums c.before.before.before.before.before.before.before.before.before.before.before.before.before) (settled c.before) ▸ c.columns_checked-checked.ensures
+came c =
+    let entry = c.before.before.before.before.before.before.before.before.before.before.before.before.before in
+    further (sums entry) (settled c.before) ▸ c.columns_checked-checked.ensures
 
 -- the lines that are left: the cost and the rule
 abbrev left : tie.Start → List ℕ → List Line
@@ -62,11 +65,14 @@ left s = let a = s.args in cost_and_plan_left a.limit a.reliabilities.now a.step
 -- A check has refused: its refusal is answered, and no memory has changed.
 returns : tie.Need-returns-in-Refused
 returns c =
+    let entry = c.before.before.before.before.before.before.before.before.before.before.before.before.before.before in
     let a = c.args in
-    refused_by_check (code_on a.alphabet) a.n a.k (left c.before.before.before.before.before.before.before.before.before.before.before.before.before.before) a.plan.now a.rows.now a.scores.now (came c.before) c.in-Refused.is
+    refused_by_check (code_on a.alphabet) a.n a.k (left entry) a.plan.now a.rows.now a.scores.now (came c.before) c.in-Refused.is
 
 fit : (t : tie.In_default) → Settled t.before.before.before.before.before.before.before.before.before.before.before.before.before.before
-fit t = settle t.before.before.before.before.before.before.before.before.before.before.before.before.before.before (accepts_front _ (sums t.before.before.before.before.before.before.before.before.before.before.before.before.before.before) (accepted (came t.before) t.in_default.is))
+fit t =
+    let entry = t.before.before.before.before.before.before.before.before.before.before.before.before.before.before in
+    settle entry (accepts_front _ (sums entry) (accepted (came t.before) t.in_default.is))
 
 turn-requires : tie.Need-turn-cost-requires
 turn-requires c κs =
@@ -76,7 +82,8 @@ turn-requires c κs =
 
 list-planned-requires : tie.Need-list_planned-requires
 list-planned-requires c κs =
-    let f = fit c.before.before.before.before.before.before in
+    let at_default = c.before.before.before.before.before.before in
+    let f = fit at_default in
     let a = c.args in
     (f.0, (turned_costs (code_on a.alphabet) a.n f.2 c.turn-cost.ensures, f.1))
 
@@ -84,10 +91,13 @@ list-planned-requires c κs =
 -- bytes, which are those of the plan.
 returns-2 : tie.Need-returns
 returns-2 c =
+    let entry = c.before.before.before.before.before.before.before.before.before.before.before.before.before.before.before.before.before.before.before.before.before.before.before.before.before in
+    let at_columns_checked_checked = c.before.before.before.before.before.before.before.before.before.before.before.before in
+    let at_default = c.before.before.before.before.before.before.before.before.before.before.before in
     let a = c.args in
     let C = code_on a.alphabet in
-    passed_on C a.n a.k (left c.before.before.before.before.before.before.before.before.before.before.before.before.before.before.before.before.before.before.before.before.before.before.before.before.before) a.plan.now a.rows.now a.scores.now (came c.before.before.before.before.before.before.before.before.before.before.before.before) c.in_default.is
-    (turned_bytes C a.n (fit c.before.before.before.before.before.before.before.before.before.before.before).2 c.turn-cost.ensures) _ _ _ c.list_planned.ensures
+    passed_on C a.n a.k (left entry) a.plan.now a.rows.now a.scores.now (came at_columns_checked_checked) c.in_default.is
+    (turned_bytes C a.n (fit at_default).2 c.turn-cost.ensures) _ _ _ c.list_planned.ensures
 
 pub list_of_plan_spec : {M : Type 1} → statement M
 list_of_plan_spec =

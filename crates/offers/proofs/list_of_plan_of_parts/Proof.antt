@@ -48,19 +48,23 @@ settle s =
 
 settled : (c : tie.After-symbols-settled) → Came (settings c.before.before.before.before.before.before.before.before.before.before.before.before.before.before) [] (told_checked c.symbols-settled.result)
 settled c =
+    let entry = c.before.before.before.before.before.before.before.before.before.before.before.before.before.before in
     start ▸ c.sizes.ensures ▸ c.or.ensures ▸ c.steps.ensures ▸ c.entries.ensures
-    ▸ stored_tried (code_on c.args.alphabet) (given c.before.before.before.before.before.before.before.before.before.before.before.before.before.before) (told_checked c.entries.result) c.or-2.ensures c.rightly.ensures
+    ▸ stored_tried (code_on c.args.alphabet) (given entry) (told_checked c.entries.result) c.or-2.ensures c.rightly.ensures
     ▸ c.room.ensures ▸ c.or-3.ensures ▸ c.symbols-settled.ensures
 
 columns-checked-requires : tie.Need-columns_checked-checked-requires
 columns-checked-requires c κs e =
-    let f = settle c.before.before.before.before.before.before.before.before.before.before.before.before.before.before (accepted (settled c) e) in
+    let entry = c.before.before.before.before.before.before.before.before.before.before.before.before.before.before in
+    let f = settle entry (accepted (settled c) e) in
     let full = f.1 in
     (f.0.sized.2, omega arith)
 
 came : (c : tie.After-columns_checked-checked)
     → (Came (settings c.before.before.before.before.before.before.before.before.before.before.before.before.before.before.before ++ sums c.before.before.before.before.before.before.before.before.before.before.before.before.before.before.before) [] (told_checked c.columns_checked-checked.result))
-came c = further (sums c.before.before.before.before.before.before.before.before.before.before.before.before.before.before.before) (settled c.before) ▸ c.columns_checked-checked.ensures
+came c =
+    let entry = c.before.before.before.before.before.before.before.before.before.before.before.before.before.before.before in
+    further (sums entry) (settled c.before) ▸ c.columns_checked-checked.ensures
 
 -- the lines that are left: the cost and the rule
 abbrev left : tie.Start → List ℕ → List Line
@@ -69,25 +73,31 @@ left s = let a = s.args in cost_and_plan_left a.limit a.reliabilities.now a.step
 -- A check has refused: its refusal is answered, and no memory has changed.
 returns : tie.Need-returns-in-Refused
 returns c =
+    let entry = c.before.before.before.before.before.before.before.before.before.before.before.before.before.before.before.before in
     let a = c.args in
     let C = code_on a.alphabet in
-    refused_by_check C a.n a.k (left c.before.before.before.before.before.before.before.before.before.before.before.before.before.before.before.before) (bytes_of C (given c.before.before.before.before.before.before.before.before.before.before.before.before.before.before.before.before)) a.rows.now a.scores.now (came c.before) c.in-Refused.is
+    refused_by_check C a.n a.k (left entry) (bytes_of C (given entry)) a.rows.now a.scores.now (came c.before) c.in-Refused.is
 
 fit : (t : tie.In_default) → Settled t.before.before.before.before.before.before.before.before.before.before.before.before.before.before.before.before
-fit t = settle t.before.before.before.before.before.before.before.before.before.before.before.before.before.before.before.before (accepts_front _ (sums t.before.before.before.before.before.before.before.before.before.before.before.before.before.before.before.before) (accepted (came t.before) t.in_default.is))
+fit t =
+    let entry = t.before.before.before.before.before.before.before.before.before.before.before.before.before.before.before.before in
+    settle entry (accepts_front _ (sums entry) (accepted (came t.before) t.in_default.is))
 
 list-planned-requires : tie.Need-list_planned-requires
 list-planned-requires c κs =
+    let entry = c.before.before.before.before.before.before.before.before.before.before.before.before.before.before.before.before.before.before in
     let f = fit c.before.before in
-    (f.0, (rightly_priced (code_on c.args.alphabet) (given c.before.before.before.before.before.before.before.before.before.before.before.before.before.before.before.before.before.before) f.2 f.0.sized.2, f.1))
+    (f.0, (rightly_priced (code_on c.args.alphabet) (given entry) f.2 f.0.sized.2, f.1))
 
 -- All checks have passed: list_planned tries the stored cost and the rule, and lists, of the
 -- record's bytes.
 returns-2 : tie.Need-returns
 returns-2 c =
+    let entry = c.before.before.before.before.before.before.before.before.before.before.before.before.before.before.before.before.before.before.before.before.before.before.before in
+    let at_columns_checked_checked = c.before.before.before.before.before.before.before.before in
     let a = c.args in
     let C = code_on a.alphabet in
-    passed_on C a.n a.k (left c.before.before.before.before.before.before.before.before.before.before.before.before.before.before.before.before.before.before.before.before.before.before.before) (bytes_of C (given c.before.before.before.before.before.before.before.before.before.before.before.before.before.before.before.before.before.before.before.before.before.before.before)) a.rows.now a.scores.now (came c.before.before.before.before.before.before.before.before) c.in_default.is
+    passed_on C a.n a.k (left entry) (bytes_of C (given entry)) a.rows.now a.scores.now (came at_columns_checked_checked) c.in_default.is
     refl _ _ _ c.list_planned.ensures
 
 pub list_of_plan_of_parts_spec : {M : Type 1} → statement M

@@ -24,10 +24,11 @@ bytes s = take ((code_of s).symbols * s.args.n) s.args.entries.now
 -- The cost is above the limit: refusal 7, before the plan is looked at, and no memory has changed.
 returns : tie.Need-returns-then-limit-cost
 returns c =
+    let start = c.before.before.before.before.before in
     let a = c.args in
     let paid = c.requires.1.0.paid in
-    let rule = ruled a.reliabilities.now a.steps (bytes c.before.before.before.before.before) in
-    refused_by_cost (code_of c.before.before.before.before.before) a.n a.k a.limit (bytes c.before.before.before.before.before) a.rows.now a.scores.now (rule ∷ []) (omega arith)
+    let rule = ruled a.reliabilities.now a.steps (bytes start) in
+    refused_by_cost (code_of start) a.n a.k a.limit (bytes start) a.rows.now a.scores.now (rule ∷ []) (omega arith)
 
 check-entries-requires : tie.Need-check_entries-verdict-requires
 check-entries-requires c κs =
@@ -40,16 +41,19 @@ cheap c = let paid = c.requires.1.0.paid in omega arith
 -- The entries are not the rule's plan: refusal 9, and no memory has changed.
 returns-2 : tie.Need-returns-in-Refused
 returns-2 c =
+    let start = c.before.before.before.before.before.before.before in
     let a = c.args in
-    refused_by_plan (code_of c.before.before.before.before.before.before.before) a.n a.k a.limit a.steps a.reliabilities.now (bytes c.before.before.before.before.before.before.before) a.rows.now a.scores.now
+    refused_by_plan (code_of start) a.n a.k a.limit a.steps a.reliabilities.now (bytes start) a.rows.now a.scores.now
     (cheap c.before.before) c.check_entries-verdict.ensures c.in-Refused.is
 
 -- The cost is within the limit and the entries are the rule's plan: list_priced lists the bytes.
 returns-3 : tie.Need-returns
 returns-3 c =
+    let start = c.before.before.before.before.before.before.before.before.before.before.before.before.before.before in
+    let at_limit_cost = c.before.before.before.before.before.before.before.before.before in
     let a = c.args in
-    listed_by_plan (code_of c.before.before.before.before.before.before.before.before.before.before.before.before.before.before) a.n a.k a.limit a.steps a.reliabilities.now (bytes c.before.before.before.before.before.before.before.before.before.before.before.before.before.before) a.rows.now a.scores.now
-    (cheap c.before.before.before.before.before.before.before.before.before) c.check_entries-verdict.ensures c.in_default.is c.list_priced.ensures
+    listed_by_plan (code_of start) a.n a.k a.limit a.steps a.reliabilities.now (bytes start) a.rows.now a.scores.now
+    (cheap at_limit_cost) c.check_entries-verdict.ensures c.in_default.is c.list_priced.ensures
 
 pub list_planned_spec : {M : Type 1} → statement M
 list_planned_spec =

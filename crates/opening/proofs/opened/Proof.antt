@@ -29,14 +29,16 @@ row-requires c κs =
 -- The verdict is Open: the first row is handed back, and it lies where the list begins.
 returns : tie.Need-returns-in-Open
 returns c =
-    front_row c.args.k c.args.rows c.row.result c.row.ensures.0 c.row.ensures.1 ∙ sym (ap (handed c.before.before.before.before.before) (opens c.before))
+    let start = c.before.before.before.before.before in
+    front_row c.args.k c.args.rows c.row.result c.row.ensures.0 c.row.ensures.1 ∙ sym (ap (handed start) (opens c.before))
 
 -- The verdict is another, or a refusal: an empty part at the list's beginning is handed back, as
 -- the page asks.
 returns-2 : tie.Need-returns
 returns-2 c =
+    let start = c.before.before.before.before.before in
     let none : is_open (told_verdict c.judge.result) ≡ false = other_verdict c.judge.result c.in_default.in_default-own.keys2 in
-    empty_front c.args.rows ∙ sym (ap (handed c.before.before.before.before.before) (sym (ap is_open c.judge.ensures) ∙ none))
+    empty_front c.args.rows ∙ sym (ap (handed start) (sym (ap is_open c.judge.ensures) ∙ none))
 
 pub opened_spec : {M : Type 1} → statement M
 opened_spec =

@@ -45,8 +45,9 @@ row-requires c κs =
 -- where that list begins.
 returns : tie.Need-returns-then-scores-eq0
 returns c =
+    let start = c.before.before.before.before.before.before.before.before in
     front_row c.args.first.k c.args.others c.row.result c.row.ensures.0 c.row.ensures.1
-    ∙ sym (ap₂ (handed c.before.before.before.before.before.before.before.before) (opens c.before.before) (eq-eqb _ _ c.if-scores-eq0.true))
+    ∙ sym (ap₂ (handed start) (opens c.before.before) (eq-eqb _ _ c.if-scores-eq0.true))
 
 row-requires-2 : tie.Need-row-requires-in-Open
 row-requires-2 c κs =
@@ -57,16 +58,18 @@ row-requires-2 c κs =
 -- begins.
 returns-2 : tie.Need-returns-in-Open
 returns-2 c =
+    let start = c.before.before.before.before.before.before.before.before in
     front_row c.args.first.k c.args.rows c.row-in-Open.result c.row-in-Open.ensures.0 c.row-in-Open.ensures.1
-    ∙ sym (ap₂ (handed c.before.before.before.before.before.before.before.before) (opens c.before.before) (ne_eqb _ _ c.if-scores-eq0.false))
+    ∙ sym (ap₂ (handed start) (opens c.before.before) (ne_eqb _ _ c.if-scores-eq0.false))
 
 -- The verdict is another, or a refusal: an empty part at the first list's beginning is handed back,
 -- as the page asks.
 returns-3 : tie.Need-returns
 returns-3 c =
+    let start = c.before.before.before.before.before.before.before in
     let none : is_open (told_verdict c.judge_both.result) ≡ false = other_verdict c.judge_both.result c.in_default.in_default-own.keys2 in
     empty_front c.args.rows
-    ∙ sym (ap (λ (b : Bool). handed c.before.before.before.before.before.before.before b (eqb (length c.args.scores.now) 0)) (sym (ap is_open c.judge_both.ensures) ∙ none))
+    ∙ sym (ap (λ (b : Bool). handed start b (eqb (length c.args.scores.now) 0)) (sym (ap is_open c.judge_both.ensures) ∙ none))
 
 pub opened_both_spec : {M : Type 1} → statement M
 opened_both_spec =

@@ -55,13 +55,16 @@ text at-list =
     (told at-list) (rows at-list) (scores at-list) e.0 e.1.0 e.1.1.0 enough (length-replicate {A = ℕ} greatest_rows 0)
 
 put-answer-requires : tie.Need-put_answer-requires
-put-answer-requires c κs = (held c.before.before.before.before.before, omega arith)
+put-answer-requires c κs =
+    let at_list_of_reliabilities_told = c.before.before.before.before.before in
+    (held at_list_of_reliabilities_told, omega arith)
 
 -- The text of the answer is put, and it is the page's answer to these numbers.
 returns : tie.Need-returns
 returns c =
+    let at_list_of_reliabilities_told = c.before.before.before.before.before.before.before.before in
     let put = c.put_answer in
-    subst (λ (words : List ℕ). Puts c.args.out.now 0 words put.result put.new.out) (text c.before.before.before.before.before.before.before.before) put.ensures
+    subst (λ (words : List ℕ). Puts c.args.out.now 0 words put.result put.new.out) (text at_list_of_reliabilities_told) put.ensures
 
 pub answer_spec : {M : Type 1} → statement M
 answer_spec =

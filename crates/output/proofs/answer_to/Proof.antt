@@ -50,11 +50,12 @@ slice-aggregate-answer c =
 -- them is the input's output.
 returns-2 : tie.Need-returns
 returns-2 c =
+    let at_read_count = c.before.before.before.before.before.before in
     let a = c.args in
     let put = c.answer in
-    let e = header (code_on a.alphabet) (bytes c.before.before.before.before.before.before) _ c.wide-n.result c.wide-k.result c.wide-level.result c.wide-limit.result
+    let e = header (code_on a.alphabet) (bytes at_read_count) _ c.wide-n.result c.wide-k.result c.wide-level.result c.wide-limit.result
     c.if-input-lt-HEADER.false c.wide-n.ensures.0 c.wide-k.ensures.0 c.wide-level.ensures.0 c.wide-limit.ensures.0
-    (words-in-front c.before.before.before.before.before.before ∙ ap numbers_of (bytes_are (bytes c.before.before.before.before.before.before))) in
+    (words-in-front at_read_count ∙ ap numbers_of (bytes_are (bytes at_read_count))) in
     subst (λ (text : List ℕ). Puts a.out.now 0 text put.result put.new.out) e put.ensures
 
 pub answer_to_spec : {M : Type 1} → statement M

@@ -50,13 +50,14 @@ answered at-start words after end e puts =
 -- same output.
 returns : tie.Need-returns-then-most-input
 returns c =
+    let start = c.before.before.before.before.before.before.before.before in
     let a = c.args in
     let C = code_on a.alphabet in
     let some = (sized a.alphabet).least in
     let most = c.longest-most in
     let put = c.answer_to in
     let e = beginning C (omega arith) most.result most.ensures a.input.now (omega arith) in
-    answered c.before.before.before.before.before.before.before.before (output C (take most.result a.input.now)) put.new.out put.result e put.ensures
+    answered start (output C (take most.result a.input.now)) put.new.out put.result e put.ensures
 
 answer-to-requires-2 : tie.Need-answer_to-requires-2
 answer-to-requires-2 c κs =
@@ -67,8 +68,9 @@ answer-to-requires-2 c κs =
 -- The input is not longer: it is answered whole.
 returns-2 : tie.Need-returns
 returns-2 c =
+    let start = c.before.before.before.before.before.before.before.before in
     let put = c.answer_to-2 in
-    answered c.before.before.before.before.before.before.before.before _ put.new.out put.result refl put.ensures
+    answered start _ put.new.out put.result refl put.ensures
 
 pub write_spec : {M : Type 1} → statement M
 write_spec =

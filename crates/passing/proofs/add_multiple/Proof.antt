@@ -34,13 +34,14 @@ sums s k = let a = s.args in (code_on a.alphabet).plus (get_or a.row.now k 0) ((
 loop-again : tie.Need-loop-s-preserved invariant-loop decreases-loop
 unfolding sum_of
 loop-again c =
+    let start = c.before.before.before.before.before.before.before.before in
     let k = c.loop-s.s in
     let a = c.args in
     let here : 0 + k ≡ k = omega arith in
-    let is_sum = ap₂ (code_on a.alphabet).plus (c.loop-s.invariant.1.patched.after k (omega arith)) c.look.ensures ∙ ap (sums c.before.before.before.before.before.before.before.before) (sym here) in
+    let is_sum = ap₂ (code_on a.alphabet).plus (c.loop-s.invariant.1.patched.after k (omega arith)) c.look.ensures ∙ ap (sums start) (sym here) in
     let whole = c.requires.1.2 in
-    let more = changed_more 0 k _ (sums c.before.before.before.before.before.before.before.before) a.row.now c.loop-s.row (omega arith) c.loop-s.invariant.1 is_sum in
-    (omega arith, subst (λ (i : ℕ). Changed 0 (k + 1) (sums c.before.before.before.before.before.before.before.before) a.row.now (set c.loop-s.row i (sum_of (get_or c.loop-s.row k 0) c.look.result))) here more)
+    let more = changed_more 0 k _ (sums start) a.row.now c.loop-s.row (omega arith) c.loop-s.invariant.1 is_sum in
+    (omega arith, subst (λ (i : ℕ). Changed 0 (k + 1) (sums start) a.row.now (set c.loop-s.row i (sum_of (get_or c.loop-s.row k 0) c.look.result))) here more)
 
 -- The loop has ended at the last order, so every product is added.
 returns : tie.Need-returns invariant-loop decreases-loop

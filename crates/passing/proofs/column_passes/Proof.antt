@@ -26,7 +26,9 @@ abbrev test : tie.Start invariant-loop decreases-loop → ℕ → Bool
 test s y = let a = s.args in point_passes (code_on a.alphabet) a.rows.now a.h y (get_or a.entries.now (a.at + y) 0)
 
 loop-holds : tie.Need-loop-b-init invariant-loop decreases-loop
-loop-holds c = (omega arith, every_none (test c.before.before.before))
+loop-holds c =
+    let start = c.before.before.before in
+    (omega arith, every_none (test start))
 
 -- The place of the entry lies within the entries.
 inside : (w : tie.After-wide invariant-loop decreases-loop) → (let a = w.args in a.at + w.wide.result < length a.entries.now)
@@ -60,9 +62,10 @@ is-test p =
 -- A point does not pass.
 returns : tie.Need-returns-then-not-point_passes invariant-loop decreases-loop
 returns c =
+    let start = c.before.before.before.before.before.before.before.before.before.before in
     let z = (sized c.args.alphabet).least in
     let other : c.point_passes.result ≡ false = c.if-not-point_passes.true in
-    sym (every_but (test c.before.before.before.before.before.before.before.before.before.before) (code_on c.args.alphabet).symbols c.loop-b.b (omega arith) (sym (is-test c.before) ∙ other))
+    sym (every_but (test start) (code_on c.args.alphabet).symbols c.loop-b.b (omega arith) (sym (is-test c.before) ∙ other))
 
 add-b : tie.Need-overflow_add-b invariant-loop decreases-loop
 add-b c = let z = sized c.args.alphabet in omega arith
@@ -72,9 +75,10 @@ loop-less c = let z = sized c.args.alphabet in omega arith
 
 loop-again : tie.Need-loop-b-preserved invariant-loop decreases-loop
 loop-again c =
+    let start = c.before.before.before.before.before.before.before.before.before.before in
     let z = (sized c.args.alphabet).least in
     let passes : c.point_passes.result ≡ true = c.if-not-point_passes.false in
-    (omega arith, every_more (test c.before.before.before.before.before.before.before.before.before.before) c.loop-b.b c.loop-b.invariant.1 (sym (is-test c.before) ∙ passes))
+    (omega arith, every_more (test start) c.loop-b.b c.loop-b.invariant.1 (sym (is-test c.before) ∙ passes))
 
 -- The loop has ended behind the greatest symbol: all points pass.
 returns-2 : tie.Need-returns invariant-loop decreases-loop

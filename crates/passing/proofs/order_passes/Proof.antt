@@ -33,13 +33,15 @@ derivative-requires c κs =
 -- A derivative is not zero: not all orders pass.
 returns : tie.Need-returns-then-derivative-ne0 invariant-loop decreases-loop
 returns c =
-    let other : derivative c.before.before.before.before.before c.loop-t.t ≡ 0 → ⊥ = (λ e. let z = c.derivative.ensures in omega arith) in
-    sym (every_but (λ t. eqb (derivative c.before.before.before.before.before t) 0) c.args.orders c.loop-t.t (omega arith) (ne_eqb (derivative c.before.before.before.before.before c.loop-t.t) 0 other))
+    let start = c.before.before.before.before.before in
+    let other : derivative start c.loop-t.t ≡ 0 → ⊥ = (λ e. let z = c.derivative.ensures in omega arith) in
+    sym (every_but (λ t. eqb (derivative start t) 0) c.args.orders c.loop-t.t (omega arith) (ne_eqb (derivative start c.loop-t.t) 0 other))
 
 loop-again : tie.Need-loop-t-preserved invariant-loop decreases-loop
 loop-again c =
-    let zero : derivative c.before.before.before.before.before c.loop-t.t ≡ 0 = (let z = c.derivative.ensures in omega arith) in
-    (omega arith, every_more (λ t. eqb (derivative c.before.before.before.before.before t) 0) c.loop-t.t c.loop-t.invariant.1 (eq-eqb (derivative c.before.before.before.before.before c.loop-t.t) 0 zero))
+    let start = c.before.before.before.before.before in
+    let zero : derivative start c.loop-t.t ≡ 0 = (let z = c.derivative.ensures in omega arith) in
+    (omega arith, every_more (λ t. eqb (derivative start t) 0) c.loop-t.t c.loop-t.invariant.1 (eq-eqb (derivative start c.loop-t.t) 0 zero))
 
 -- The loop has ended at the last order: all pass.
 returns-2 : tie.Need-returns invariant-loop decreases-loop

@@ -54,13 +54,18 @@ add-multiple-requires c κs =
     (c.requires.0, (given.0 c.loop-j.j, given.1 c.loop-j.x, c.loop-j.invariant.2.wide c.loop-j.y (low c.before.before).1))
 
 add-y : tie.Need-overflow_add-y invariant-loop decreases-loop
-add-y c = let w = low c.before.before.before.before in omega arith
+add-y c =
+    let at_loop_j = c.before.before.before.before in
+    let w = low at_loop_j in omega arith
 
 add-degree : tie.Need-overflow_add-degree invariant-loop decreases-loop
-add-degree c = let w = low c.before.before.before.before in omega arith
+add-degree c =
+    let at_loop_j = c.before.before.before.before in
+    let w = low at_loop_j in omega arith
 
 loop-again : tie.Need-loop-j-preserved invariant-loop decreases-loop
 loop-again c =
+    let at_loop_j = c.before.before.before.before in
     let a = c.args in
     let at = c.loop-j.invariant.1 in
     let given = c.requires.1.1 in (
@@ -74,7 +79,7 @@ loop-again c =
             (w.x-is ∙ r.0, w.y-is ∙ r.1, w.degree-is ∙ r.2)
       ],
       parts_more (code_on a.alphabet) (field_on a.alphabet) a.v a.px.now a.coefficients.now given.1 given.0 c.loop-j.j _ _ at.0 at.1
-          c.loop-j.rows _ (low c.before.before.before.before).1 c.loop-j.invariant.2 c.add_multiple.ensures,
+          c.loop-j.rows _ (low at_loop_j).1 c.loop-j.invariant.2 c.add_multiple.ensures,
     )
 
 -- The loop has ended behind the last coefficient, so the rows hold what all of them give.

@@ -20,21 +20,25 @@ AnswerOf s answer w = let a = s.args in answer ≡ passes (code_on w) a.n a.v a.
 
 passes-by-requires : tie.Need-passes_by-requires
 passes-by-requires c κs =
-    (c.products_of_thirty_two-table.ensures, subst (GivenOf c.before.before.before.before.before) c.in-ThirtyTwo.is c.requires)
+    let start = c.before.before.before.before.before in
+    (c.products_of_thirty_two-table.ensures, subst (GivenOf start) c.in-ThirtyTwo.is c.requires)
 
 passes-by-requires-2 : tie.Need-passes_by-requires-2
 passes-by-requires-2 c κs =
-    (c.products_of_sixteen-table.ensures, subst (GivenOf c.before.before.before.before.before) c.in_default.is c.requires)
+    let start = c.before.before.before.before.before in
+    (c.products_of_sixteen-table.ensures, subst (GivenOf start) c.in_default.is c.requires)
 
 -- The alphabet is of 32 symbols: the answer by their table is that of the alphabet.
 returns : tie.Need-returns-in-ThirtyTwo
 returns c =
-    subst (AnswerOf c.before.before.before.before.before.before c.passes_by.result) (sym c.in-ThirtyTwo.is) c.passes_by.ensures
+    let start = c.before.before.before.before.before.before in
+    subst (AnswerOf start c.passes_by.result) (sym c.in-ThirtyTwo.is) c.passes_by.ensures
 
 -- The alphabet is of 16 symbols: the answer by their table is that of the alphabet.
 returns-2 : tie.Need-returns
 returns-2 c =
-    subst (AnswerOf c.before.before.before.before.before.before c.passes_by-2.result) (sym c.in_default.is) c.passes_by-2.ensures
+    let start = c.before.before.before.before.before.before in
+    subst (AnswerOf start c.passes_by-2.result) (sym c.in_default.is) c.passes_by-2.ensures
 
 pub passes_spec : {M : Type 1} → statement M
 passes_spec =

@@ -46,7 +46,8 @@ test s i =
 
 loop-holds : tie.Need-loop-i-init invariant-loop decreases-loop
 loop-holds c =
-    (omega arith, sym (power_zero (numbers (code_of c.before.before.before)) 2), every_none (test c.before.before.before))
+    let start = c.before.before.before in
+    (omega arith, sym (power_zero (numbers (code_of start)) 2), every_none (test start))
 
 abbrev entry_of : tie.At-loop-i invariant-loop decreases-loop → tie.Start invariant-loop decreases-loop
 entry_of l = l.before.before.before.before
@@ -65,13 +66,18 @@ powers-low s = let h = degree-low s in let q = div-le_self s.args.degree s.args.
 -- The point is a symbol.
 symbol : (l : tie.At-loop-i invariant-loop decreases-loop) → l.loop-i.x < (code_of l.before.before.before.before).symbols
 symbol l =
-    subst (λ (x : ℕ). x < (code_of l.before.before.before.before).symbols) (sym l.loop-i.invariant.1) (point_symbol (code_of l.before.before.before.before) (field_on l.args.alphabet) l.loop-i.i)
+    let start = l.before.before.before.before in
+    subst (λ (x : ℕ). x < (code_of start).symbols) (sym l.loop-i.invariant.1) (point_symbol (code_of start) (field_on l.args.alphabet) l.loop-i.i)
 
 add-powers : tie.Need-overflow_add-degree invariant-loop decreases-loop
-add-powers c = let h = degree-low c.before.before.before.before.before in omega arith
+add-powers c =
+    let start = c.before.before.before.before.before in
+    let h = degree-low start in omega arith
 
 powers-requires : tie.Need-powers-px-requires invariant-loop decreases-loop
-powers-requires c κs = (c.requires.0, (symbol c.before, degree-low c.before.before.before.before.before))
+powers-requires c κs =
+    let start = c.before.before.before.before.before in
+    (c.requires.0, (symbol c.before, degree-low start))
 
 abbrev at-loop : tie.After-px-1 invariant-loop decreases-loop → tie.At-loop-i invariant-loop decreases-loop
 at-loop p = p.before.before.before
@@ -94,13 +100,16 @@ div-column-passes : tie.Need-nonzero_div-degree invariant-loop decreases-loop
 div-column-passes c = c.requires.1.positive
 
 add-column-passes : tie.Need-overflow_add-degree-in-loop-i invariant-loop decreases-loop
-add-column-passes c = let h = powers-low c.before.before.before.before.before.before.before.before.before in omega arith
+add-column-passes c =
+    let start = c.before.before.before.before.before.before.before.before.before in
+    let h = powers-low start in omega arith
 
 -- The entries of position i are among those of n positions.
 among : (p : tie.After-px-1 invariant-loop decreases-loop)
     → (let C = code_of p.before.before.before.before.before.before.before in C.symbols * p.loop-i.i + C.symbols ≤ C.symbols * p.args.n)
 among p =
-    let C = code_of p.before.before.before.before.before.before.before in
+    let start = p.before.before.before.before.before.before.before in
+    let C = code_of start in
     let more = mul-suc C.symbols p.loop-i.i in
     let grows = mul-le-mul_left C.symbols (left p) in
     omega arith
@@ -109,8 +118,9 @@ among p =
 inside : (y : tie.After-symbols invariant-loop decreases-loop)
     → (y.symbols.result * y.loop-i.i + (code_of y.before.before.before.before.before.before.before.before.before.before).symbols ≤ length y.args.entries.now)
 inside y =
+    let at_px = y.before.before.before in
     let whole = y.requires.1.whole in
-    let here = among y.before.before.before in
+    let here = among at_px in
     rw y.symbols.ensures (omega arith)
 
 mul-column-passes : tie.Need-overflow_mul-symbols invariant-loop decreases-loop
@@ -123,49 +133,57 @@ low-here p j h = let here = among p in p.requires.1.low j (omega arith)
 
 low-at : (y : tie.After-symbols invariant-loop decreases-loop)
     → (Low (y.symbols.result * y.loop-i.i + (code_of y.before.before.before.before.before.before.before.before.before.before).symbols) y.args.entries.now)
-low-at y = rw y.symbols.ensures (low-here y.before.before.before)
+low-at y =
+    let at_px = y.before.before.before in
+    rw y.symbols.ensures (low-here at_px)
 
 column-passes-requires : tie.Need-column_passes-requires invariant-loop decreases-loop
 column-passes-requires c κs =
-    let s = entry_of c.before.before.before.before.before.before in
+    let at_loop_i = c.before.before.before.before.before.before in
+    let s = entry_of at_loop_i in
     (s.requires.0, ((powers-low s, inside c, low-at c), c.parts-rows.ensures.symbols))
 
 -- What was tested is position i.
 is-test : (p : tie.After-column_passes invariant-loop decreases-loop)
     → (p.column_passes.result ≡ test p.before.before.before.before.before.before.before.before.before.before.before p.loop-i.i)
 is-test p =
+    let start = p.before.before.before.before.before.before.before.before.before.before.before in
+    let at_px = p.before.before.before.before in
     let a = p.args in
-    let C = code_of p.before.before.before.before.before.before.before.before.before.before.before in
+    let C = code_of start in
     let g = p.requires.1 in
     let rows = p.parts-rows.result in
     let powers = subst (λ (c : ℕ). Powers C c (a.degree + 1) p.powers-px.result) p.loop-i.invariant.1 p.powers-px.ensures in
     let parts = subst (λ (n : ℕ). Parts C a.v n p.powers-px.result a.coefficients.now rows) g.full p.parts-rows.ensures in
     p.column_passes.ensures
     ∙ ap (λ (z : ℕ). column_passes C rows (a.degree / a.v + 1) a.entries.now (z * p.loop-i.i)) p.symbols.ensures
-    ∙ column_agrees C (field_on a.alphabet) a.v a.degree g.positive a.coefficients.now g.coefficients (powers-low p.before.before.before.before.before.before.before.before.before.before.before) p.loop-i.i
-    p.powers-px.result rows powers parts a.entries.now (low-here p.before.before.before.before)
+    ∙ column_agrees C (field_on a.alphabet) a.v a.degree g.positive a.coefficients.now g.coefficients (powers-low start) p.loop-i.i
+    p.powers-px.result rows powers parts a.entries.now (low-here at_px)
 
 -- A position does not pass.
 returns : tie.Need-returns-then-not-column_passes invariant-loop decreases-loop
 returns c =
-    let l = at-loop c.before.before.before.before.before in
+    let at_px = c.before.before.before.before.before in
+    let l = at-loop at_px in
     let s = entry_of l in
     let other : c.column_passes.result ≡ false = c.if-not-column_passes.true in
-    sym (every_but (test s) s.args.n l.loop-i.i (left c.before.before.before.before.before) (sym (is-test c.before) ∙ other))
+    sym (every_but (test s) s.args.n l.loop-i.i (left at_px) (sym (is-test c.before) ∙ other))
 
 look-requires : tie.Need-look-x-requires invariant-loop decreases-loop
 look-requires c κs =
-    let l = at-loop c.before.before.before.before.before in
+    let at_px = c.before.before.before.before.before in
+    let l = at-loop at_px in
     let z = (sized (entry_of l).args.alphabet).least in
     ((entry_of l).requires.0, (omega arith, symbol l))
 
 loop-again : tie.Need-loop-i-preserved invariant-loop decreases-loop
 loop-again c =
-    let l = at-loop c.before.before.before.before.before.before in
+    let at_px = c.before.before.before.before.before.before in
+    let l = at-loop at_px in
     let s = entry_of l in
     let C = code_of s in
     let i = l.loop-i.i in
-    let goes_on = left c.before.before.before.before.before.before in
+    let goes_on = left at_px in
     let passes : c.column_passes.result ≡ true = c.if-not-column_passes.false in (
       omega arith,
       c.look-x.ensures ∙ ap (C.times 2) l.loop-i.invariant.1 ∙ sym (power_suc (numbers C) 2 i) ∙ ap (point C) (sym (add-one i)),

@@ -33,7 +33,9 @@ powers-requires : tie.Need-powers-py-requires invariant-loop decreases-loop
 powers-requires c κs = (c.requires.0, (c.requires.1.0.1, c.requires.1.0.0))
 
 loop-holds : tie.Need-loop-s-init invariant-loop decreases-loop
-loop-holds c = (omega arith, every_none (test c.before.before.before))
+loop-holds c =
+    let start = c.before.before.before in
+    (omega arith, every_none (test start))
 
 order-passes-requires : tie.Need-order_passes-requires invariant-loop decreases-loop
 order-passes-requires c κs =
@@ -48,13 +50,15 @@ is-test o =
 -- An order by x does not pass.
 returns-2 : tie.Need-returns-then-not-order_passes invariant-loop decreases-loop
 returns-2 c =
+    let start = c.before.before.before.before.before.before.before.before in
     let other : c.order_passes.result ≡ false = c.if-not-order_passes.true in
-    sym (every_but (test c.before.before.before.before.before.before.before.before) c.args.m c.loop-s.s (omega arith) (sym (is-test c.before) ∙ other))
+    sym (every_but (test start) c.args.m c.loop-s.s (omega arith) (sym (is-test c.before) ∙ other))
 
 loop-again : tie.Need-loop-s-preserved invariant-loop decreases-loop
 loop-again c =
+    let start = c.before.before.before.before.before.before.before.before in
     let passes : c.order_passes.result ≡ true = c.if-not-order_passes.false in
-    (omega arith, every_more (test c.before.before.before.before.before.before.before.before) c.loop-s.s c.loop-s.invariant.1 (sym (is-test c.before) ∙ passes))
+    (omega arith, every_more (test start) c.loop-s.s c.loop-s.invariant.1 (sym (is-test c.before) ∙ passes))
 
 -- The loop has ended at s = m: all orders pass.
 returns-3 : tie.Need-returns invariant-loop decreases-loop

@@ -32,12 +32,14 @@ clear-block-of-sixteen-requires c κs =
 -- The alphabet is of 32 symbols: what is done by their multiples is done over it.
 returns : tie.Need-returns-in-ThirtyTwo
 returns c =
-    subst (DoneOf c.before.before.before.before c.clear_block_of_thirty_two.new.system) (sym c.in-ThirtyTwo.is) c.clear_block_of_thirty_two.ensures
+    let start = c.before.before.before.before in
+    subst (DoneOf start c.clear_block_of_thirty_two.new.system) (sym c.in-ThirtyTwo.is) c.clear_block_of_thirty_two.ensures
 
 -- The alphabet is of 16 symbols: what is done by their multiples is done over it.
 returns-2 : tie.Need-returns-in_default
 returns-2 c =
-    subst (DoneOf c.before.before.before.before c.clear_block_of_sixteen.new.system) (sym c.in_default.is) c.clear_block_of_sixteen.ensures
+    let start = c.before.before.before.before in
+    subst (DoneOf start c.clear_block_of_sixteen.new.system) (sym c.in_default.is) c.clear_block_of_sixteen.ensures
 
 pub clear_block_spec : {M : Type 1} → statement M
 clear_block_spec =

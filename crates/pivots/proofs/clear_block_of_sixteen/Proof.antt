@@ -56,31 +56,37 @@ factor x =
     omega arith
 
 index-1-add : tie.Need-bounds-system-t invariant-loop decreases-loop
-index-1-add x = target x.before.before.before
+index-1-add x =
+    let at_wide_t = x.before.before.before in
+    target at_wide_t
 
 index-1-add-2 : tie.Need-bounds-times-x invariant-loop decreases-loop
 index-1-add-2 c = factor c.before
 
 add-requires : tie.Need-add-requires invariant-loop decreases-loop
 add-requires c κs =
-    (c.requires.1.0.0, target-wide c.before.before.before.before.before)
+    let at_wide_t = c.before.before.before.before.before in
+    (c.requires.1.0.0, target-wide at_wide_t)
 
 -- The row has lost the factor times row j in this block.
 less : (c : tie.After-add invariant-loop decreases-loop)
     → (let a = c.args in
     Less C a.at (a.at + block) c.wide-x.result (get_or a.system.now a.j []) (get_or c.loop-i.system c.wide-t.result []) c.add.new.row)
 less c =
+    let at_wide_x = c.before.before.before in
     let f = c.block-first in
     let m = c.multiples_of_sixteen-times in
     let a = c.args in
-    less_block C _ _ (get_or a.system.now a.j []) f.result _ _ m.result (factor c.before.before.before) f.ensures m.ensures c.add.ensures
+    less_block C _ _ (get_or a.system.now a.j []) f.result _ _ m.result (factor at_wide_x) f.ensures m.ensures c.add.ensures
 
 loop-again : tie.Need-loop-i-preserved invariant-loop decreases-loop
-loop-again c = (
-  omega arith,
-  rows_done C (field_on Sixteen) _ _ _ _ _ _ _ _ _ _ _ _ c.loop-i-test.true c.requires.0 c.requires.1.1.0 c.loop-i.invariant.1 c.wide-t.ensures.0
-      c.wide-x.ensures.0 (factor c.before.before.before) (c.add.ensures.size ∙ target-wide c.before.before.before.before.before.before) (less c),
-)
+loop-again c =
+    let at_wide_t = c.before.before.before.before.before.before in
+    let at_wide_x = c.before.before.before in (
+      omega arith,
+      rows_done C (field_on Sixteen) _ _ _ _ _ _ _ _ _ _ _ _ c.loop-i-test.true c.requires.0 c.requires.1.1.0 c.loop-i.invariant.1 c.wide-t.ensures.0
+          c.wide-x.ensures.0 (factor at_wide_x) (c.add.ensures.size ∙ target-wide at_wide_t) (less c),
+    )
 
 same_length : tie.Need-shape_of-system invariant-loop decreases-loop
 same_length c = c.loop-i.invariant.1.size

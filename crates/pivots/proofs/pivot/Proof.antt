@@ -23,18 +23,20 @@ pivotOf s = entry_of s.args.system.now s.args.r s.args.j
 -- The inverse is refused: that cannot be, since the pivot is a symbol and not zero.
 returns : tie.Need-returns-in_default
 returns c =
+    let start = c.before.before.before.before in
     let a = c.args in
     let refused = sym (ap told_element c.in_default.is) ∙ c.inverse.ensures in
-    absurd (not_refused (code_on a.alphabet) (pivotOf c.before.before.before.before) (c.requires.0.symbols a.r a.j) c.requires.1.1.1.1.1 c.in_default.field-0 refused)
+    absurd (not_refused (code_on a.alphabet) (pivotOf start) (c.requires.0.symbols a.r a.j) c.requires.1.1.1.1.1 c.in_default.field-0 refused)
 
 -- u is a symbol, and u times the pivot is 1.
 inverts : (c : tie.In-Of)
     → (let C = code_on c.args.alphabet in (c.in-Of.u < C.symbols) × (C.times c.in-Of.u (pivotOf c.before.before.before.before) ≡ 1))
 inverts c =
+    let start = c.before.before.before.before in
     let a = c.args in
     let C = code_on a.alphabet in
     let u = c.in-Of.u in
-    let x = pivotOf c.before.before.before.before in
+    let x = pivotOf start in
     let h = c.requires.0.symbols a.r a.j in
     let n = c.requires.1.1.1.1.1 in
     inverse_law C (field_on a.alphabet) x u h n (answered C x h n u (sym (ap told_element c.in-Of.is) ∙ c.inverse.ensures))
@@ -58,8 +60,9 @@ clear-requires c κs =
 -- The row is exchanged and the rows below are cleared, so the triangle has one column more.
 returns-2 : tie.Need-returns
 returns-2 c =
+    let at_Of = c.before.before.before.before.before.before in
     let p = c.requires.1.1 in
-    let i = inverts c.before.before.before.before.before.before in
+    let i = inverts at_Of in
     let room : c.args.j < c.args.blocks * block = let w = p.0.fewer in let l = p.1.0 in omega arith in
     block_step _ (field_on c.args.alphabet) _ c.args.blocks _ _ c.args.j _ _ _ c.requires.0 i.0 i.1 p.1.0.0 p.1.0.1 room p.1.1.0
     c.exchange.ensures c.clear.ensures

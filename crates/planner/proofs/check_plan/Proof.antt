@@ -52,11 +52,14 @@ settled c =
     start ▸ c.size.ensures ▸ c.steps.ensures ▸ c.entries.ensures ▸ c.entries-2.ensures ▸ c.symbols-settled.ensures
 
 came : (c : tie.After-columns_checked-checked) → Came (lines c.before.before.before.before.before.before.before.before ++ column-line c.before.before.before.before.before.before.before.before) [] (told_checked c.columns_checked-checked.result)
-came c = further (column-line c.before.before.before.before.before.before.before.before) (settled c.before) ▸ c.columns_checked-checked.ensures
+came c =
+    let entry = c.before.before.before.before.before.before.before.before in
+    further (column-line entry) (settled c.before) ▸ c.columns_checked-checked.ensures
 
 columns-checked-requires : tie.Need-columns_checked-checked-requires
 columns-checked-requires c κs e =
-    let f = fits-call c.before.before.before.before.before.before.before (accepted (settled c) e) in
+    let entry = c.before.before.before.before.before.before.before in
+    let f = fits-call entry (accepted (settled c) e) in
     let full = f.full in
     (f.sized.1, omega arith)
 
@@ -67,7 +70,9 @@ returns c =
     answers (came c.before) (ruled a.reliabilities.now a.steps a.plan.now ∷ []) _ c.in-Refused.is
 
 fit : (t : tie.In_default) → Fits t.before.before.before.before.before.before.before.before.before
-fit t = fits-call t.before.before.before.before.before.before.before.before.before (accepts_front _ (column-line t.before.before.before.before.before.before.before.before.before) (accepted (came t.before) t.in_default.is))
+fit t =
+    let entry = t.before.before.before.before.before.before.before.before.before in
+    fits-call entry (accepts_front _ (column-line entry) (accepted (came t.before) t.in_default.is))
 
 turn-requires : tie.Need-turn-requires
 turn-requires c κs =
@@ -77,8 +82,9 @@ turn-requires c κs =
 
 check-entries-requires : tie.Need-check_entries-requires
 check-entries-requires c κs =
+    let at_default = c.before.before.before.before in
     let a = c.args in
-    let f = fit c.before.before.before.before in
+    let f = fit at_default in
     let s = f.sized in
     (record { some = omega arith; small = s.1; full = f.full }, (turned_costs (code_on a.alphabet) a.n f.whole c.turn.ensures).within)
 
@@ -86,9 +92,11 @@ check-entries-requires c κs =
 -- answers is what the plan's line makes of the call.
 returns-2 : tie.Need-returns
 returns-2 c =
+    let at_columns_checked_checked = c.before.before.before.before.before.before in
+    let at_default = c.before.before.before.before.before in
     let a = c.args in
-    plan_left (came c.before.before.before.before.before.before) c.in_default.is a.reliabilities.now a.steps a.plan.now _
-    (turned_bytes (code_on a.alphabet) a.n (fit c.before.before.before.before.before).whole c.turn.ensures) c.check_entries.ensures
+    plan_left (came at_columns_checked_checked) c.in_default.is a.reliabilities.now a.steps a.plan.now _
+    (turned_bytes (code_on a.alphabet) a.n (fit at_default).whole c.turn.ensures) c.check_entries.ensures
 
 pub check_plan_spec : {M : Type 1} → statement M
 check_plan_spec =

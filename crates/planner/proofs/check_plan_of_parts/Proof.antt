@@ -58,43 +58,54 @@ module _ (s : tie.Start) where
 
 -- the size is checked first, the stored numbers after the reliabilities' length
 abbrev full : tie.After-symbols-settled → tie.After-entries
-full c = c.before.before.before
+full c =
+    let at_entries = c.before.before.before in
+    at_entries
 
 settled : (c : tie.After-symbols-settled) → Came (lines c.before.before.before.before.before.before.before.before.before) [] (told_checked c.symbols-settled.result)
 settled c =
+    let entry = c.before.before.before.before.before.before.before.before.before in
     start ▸ c.size.ensures ▸ c.steps.ensures ▸ c.entries.ensures
-    ▸ stored_tried (code c.before.before.before.before.before.before.before.before.before) (given c.before.before.before.before.before.before.before.before.before) (told_checked c.entries.result) c.or.ensures c.rightly.ensures ▸ c.symbols-settled.ensures
+    ▸ stored_tried (code entry) (given entry) (told_checked c.entries.result) c.or.ensures c.rightly.ensures ▸ c.symbols-settled.ensures
 
 came : (c : tie.After-columns_checked-checked) → Came (lines c.before.before.before.before.before.before.before.before.before.before ++ column-line c.before.before.before.before.before.before.before.before.before.before) [] (told_checked c.columns_checked-checked.result)
-came c = further (column-line c.before.before.before.before.before.before.before.before.before.before) (settled c.before) ▸ c.columns_checked-checked.ensures
+came c =
+    let entry = c.before.before.before.before.before.before.before.before.before.before in
+    further (column-line entry) (settled c.before) ▸ c.columns_checked-checked.ensures
 
 columns-checked-requires : tie.Need-columns_checked-checked-requires
 columns-checked-requires c κs e =
-    let f = fits-call c.before.before.before.before.before.before.before.before.before (accepted (settled c) e) in
+    let entry = c.before.before.before.before.before.before.before.before.before in
+    let f = fits-call entry (accepted (settled c) e) in
     let full = f.full in
     (f.sized.1, omega arith)
 
 -- A line of the chain refuses: the whole table gives its refusal, whatever the plan is.
 returns : tie.Need-returns-in-Refused
 returns c =
+    let entry = c.before.before.before.before.before.before.before.before.before.before.before in
     let a = c.args in
-    answers (came c.before) (ruled a.reliabilities.now a.steps (bytes_of (code c.before.before.before.before.before.before.before.before.before.before.before) (given c.before.before.before.before.before.before.before.before.before.before.before)) ∷ []) _ c.in-Refused.is
+    answers (came c.before) (ruled a.reliabilities.now a.steps (bytes_of (code entry) (given entry)) ∷ []) _ c.in-Refused.is
 
 fit : (t : tie.In_default) → Fits t.before.before.before.before.before.before.before.before.before.before.before
-fit t = fits-call t.before.before.before.before.before.before.before.before.before.before.before (accepts_front _ (column-line t.before.before.before.before.before.before.before.before.before.before.before) (accepted (came t.before) t.in_default.is))
+fit t =
+    let entry = t.before.before.before.before.before.before.before.before.before.before.before in
+    fits-call entry (accepts_front _ (column-line entry) (accepted (came t.before) t.in_default.is))
 
 check-entries-requires : tie.Need-check_entries-requires
 check-entries-requires t κs =
+    let entry = t.before.before.before.before.before.before.before.before.before.before.before in
     let f = fit t in
     let s = f.sized in
-    (record { some = omega arith; small = s.1; full = f.full }, used_within (code t.before.before.before.before.before.before.before.before.before.before.before) (given t.before.before.before.before.before.before.before.before.before.before.before) f.right s.1)
+    (record { some = omega arith; small = s.1; full = f.full }, used_within (code entry) (given entry) f.right s.1)
 
 -- The chain has passed. The plan is the front of the record's entries, so what their check
 -- answers is what the plan's line makes of the call.
 returns-2 : tie.Need-returns
 returns-2 c =
+    let entry = c.before.before.before.before.before.before.before.before.before.before.before.before in
     let a = c.args in
-    plan_left (came c.before.before) c.in_default.is a.reliabilities.now a.steps (bytes_of (code c.before.before.before.before.before.before.before.before.before.before.before.before) (given c.before.before.before.before.before.before.before.before.before.before.before.before)) _ refl c.check_entries.ensures
+    plan_left (came c.before.before) c.in_default.is a.reliabilities.now a.steps (bytes_of (code entry) (given entry)) _ refl c.check_entries.ensures
 
 pub check_plan_of_parts_spec : {M : Type 1} → statement M
 check_plan_of_parts_spec =

@@ -57,11 +57,14 @@ settled c =
 came : (c : tie.After-columns_checked-checked)
     → (let a = c.args in
     Came (plan_table (code c.before.before.before.before.before.before.before) a.n a.steps a.reliabilities.now (length a.out.now)) [] (told_checked c.columns_checked-checked.result))
-came c = further (column-line c.before.before.before.before.before.before.before) (settled c.before) ▸ c.columns_checked-checked.ensures
+came c =
+    let entry = c.before.before.before.before.before.before.before in
+    further (column-line entry) (settled c.before) ▸ c.columns_checked-checked.ensures
 
 columns-checked-requires : tie.Need-columns_checked-checked-requires
 columns-checked-requires c κs e =
-    let f = fits-call c.before.before.before.before.before.before (accepted (settled c) e) in
+    let entry = c.before.before.before.before.before.before in
+    let f = fits-call entry (accepted (settled c) e) in
     let full = f.full in
     (f.sized.1, omega arith)
 
@@ -72,7 +75,9 @@ returns c =
     (answers (came c.before) [] _ refusal, stops (came c.before) [] (λ _ _. c.args.out.now) _ refusal)
 
 fit : (t : tie.In_default) → Fits t.before.before.before.before.before.before.before.before
-fit t = fits-call t.before.before.before.before.before.before.before.before (accepts_front _ (column-line t.before.before.before.before.before.before.before.before) (accepted (came t.before) t.in_default.is))
+fit t =
+    let entry = t.before.before.before.before.before.before.before.before in
+    fits-call entry (accepts_front _ (column-line entry) (accepted (came t.before) t.in_default.is))
 
 clear-requires : tie.Need-clear-requires
 clear-requires c κs =
@@ -112,31 +117,39 @@ slice-relend-prefix-plan-into c =
     omega arith
 
 slice-aggregate-plan-into : tie.Need-slice_bounds-plan_into-end-2
-slice-aggregate-plan-into c = sym (many-zeros c.before.before.before)
+slice-aggregate-plan-into c =
+    let at_clear = c.before.before.before in
+    sym (many-zeros at_clear)
 
 plan-into-requires : tie.Need-plan_into-done-requires
 plan-into-requires c κs =
-    let f = fit c.before.before.before.before.before in
+    let at_default = c.before.before.before.before.before in
+    let at_clear = c.before.before.before in
+    let f = fit at_default in
     let s = f.sized in
-    (record { some = omega arith; small = s.1; full = f.full }, zeros c.before.before.before)
+    (record { some = omega arith; small = s.1; full = f.full }, zeros at_clear)
 
 same_length : tie.Need-shape_of-out
 same_length c =
+    let at_clear = c.before.before.before.before.before.before in
     let a = c.args in
-    length_front c.clear.new.out c.plan_into-done.new.multiplicities (many c.before.before.before.before.before.before)
-    (ap length c.plan_into-done.ensures.1 ∙ length_plan a.reliabilities.now a.steps ∙ sym (many-zeros c.before.before.before.before.before.before)) ∙ kept c.before.before.before.before.before.before
+    length_front c.clear.new.out c.plan_into-done.new.multiplicities (many at_clear)
+    (ap length c.plan_into-done.ensures.1 ∙ length_plan a.reliabilities.now a.steps ∙ sym (many-zeros at_clear)) ∙ kept at_clear
 
 -- The table accepts: the answer has the rule's steps, the plan stands in front, and behind it
 -- the memory is as it was.
 returns-2 : tie.Need-returns
 returns-2 c =
+    let at_columns_checked_checked = c.before.before.before.before.before.before.before.before.before in
+    let at_default = c.before.before.before.before.before.before.before.before in
+    let at_clear = c.before.before.before.before.before.before in
     let acceptance = c.in_default.is in
-    let m = came c.before.before.before.before.before.before.before.before.before in
-    let full = (fit c.before.before.before.before.before.before.before.before).full in
-    let behind = kept_behind (out₀ c.before.before.before.before.before.before) c.clear.new.out (many c.before.before.before.before.before.before) (within c.before.before.before.before.before.before) c.clear.ensures in (
+    let m = came at_columns_checked_checked in
+    let full = (fit at_default).full in
+    let behind = kept_behind (out₀ at_clear) c.clear.new.out (many at_clear) (within at_clear) c.clear.ensures in (
       ap₂ planned full c.plan_into-done.ensures.0 ∙ goes_on m [] refused _ acceptance,
-      ap₂ (λ (front behind : List ℕ). front ++ behind) c.plan_into-done.ensures.1 (behind ∙ ap (λ (j : ℕ). drop j (out₀ c.before.before.before.before.before.before)) full)
-          ∙ goes_on m [] (λ _ _. out₀ c.before.before.before.before.before.before) _ acceptance,
+      ap₂ (λ (front behind : List ℕ). front ++ behind) c.plan_into-done.ensures.1 (behind ∙ ap (λ (j : ℕ). drop j (out₀ at_clear)) full)
+          ∙ goes_on m [] (λ _ _. out₀ at_clear) _ acceptance,
     )
 
 pub plan_spec : {M : Type 1} → statement M

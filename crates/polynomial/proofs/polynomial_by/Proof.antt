@@ -63,21 +63,24 @@ lead-requires c κs =
 
 solve-requires : tie.Need-solve-requires
 solve-requires c κs =
+    let at_matrix_rows_rows = c.before.before.before.before.before.before.before.before.before in
+    let at_first_dependent_leading = c.before.before.before.before.before.before in
     let e = c.first_dependent-leading.ensures in
     let low = e.0 in
-    let w = within c.before.before.before.before.before.before.before.before.before in
+    let w = within at_matrix_rows_rows in
     let inside : c.first_dependent-leading.result < width = let f = w.fewer in let i = w.inside in omega arith in
     let there : c.first_dependent-leading.result ≤ length c.first_dependent-leading.new.system = let t = w.there in let k = e.1.0.size in omega arith in
-    let room : c.first_dependent-leading.result ≤ length c.lead.new.out = let p = place c.before.before.before.before.before.before in let k = c.lead.ensures.size in let r = c.requires.1.0.room in omega arith in
+    let room : c.first_dependent-leading.result ≤ length c.lead.new.out = let p = place at_first_dependent_leading in let k = c.lead.ensures.size in let r = c.requires.1.0.room in omega arith in
     (c.requires.0, (e.1.0.system.symbols, (inside, there, room)))
 
 -- The column found is led by 1 and solved for: so its coefficients interpolate, and it is their place.
 returns : tie.Need-returns
 returns c =
+    let at_matrix_rows_rows = c.before.before.before.before.before.before.before.before.before.before.before.before in
     let w = c.args.alphabet in
     let z = sized w in
     let e = c.first_dependent-leading.ensures in
-    polynomial_found (code_on w) (field_on w) (omega arith) (λ z. omega arith) _ _ _ _ _ _ c.requires.1.0 _ _ _ (empty c.before.before.before.before.before.before.before.before.before.before.before.before) c.requires.1.1.1 c.matrix_rows-rows.ensures.1 _ _
+    polynomial_found (code_on w) (field_on w) (omega arith) (λ z. omega arith) _ _ _ _ _ _ c.requires.1.0 _ _ _ (empty at_matrix_rows_rows) c.requires.1.1.1 c.matrix_rows-rows.ensures.1 _ _
     c.matrix_rows-rows.ensures.0 e.0 e.1.0 e.1.1 _ _ c.lead.ensures c.solve.ensures
 
 pub polynomial_by_spec : {M : Type 1} → statement M

@@ -20,22 +20,26 @@ FoundOf s place after w = let a = s.args in Found (code_on w) a.matrix.now a.v a
 
 polynomial-by-requires : tie.Need-polynomial_by-requires
 polynomial-by-requires c κs =
-    (c.products_of_thirty_two-table.ensures, (subst (GivenOf c.before.before.before.before.before.before) c.in-ThirtyTwo.is c.requires.0, c.requires.1))
+    let start = c.before.before.before.before.before.before in
+    (c.products_of_thirty_two-table.ensures, (subst (GivenOf start) c.in-ThirtyTwo.is c.requires.0, c.requires.1))
 
 polynomial-by-requires-2 : tie.Need-polynomial_by-requires-2
 polynomial-by-requires-2 c κs =
-    (c.products_of_sixteen-table.ensures, (subst (GivenOf c.before.before.before.before.before.before) c.in_default.is c.requires.0, c.requires.1))
+    let start = c.before.before.before.before.before.before in
+    (c.products_of_sixteen-table.ensures, (subst (GivenOf start) c.in_default.is c.requires.0, c.requires.1))
 
 -- The alphabet is of 32 symbols: the polynomial found by their table is that of the alphabet.
 returns : tie.Need-returns-in-ThirtyTwo
 returns c =
-    subst (FoundOf c.before.before.before.before.before.before.before.before.before.before c.polynomial_by.result c.polynomial_by.new.out) (sym c.in-ThirtyTwo.is)
+    let start = c.before.before.before.before.before.before.before.before.before.before in
+    subst (FoundOf start c.polynomial_by.result c.polynomial_by.new.out) (sym c.in-ThirtyTwo.is)
     c.polynomial_by.ensures
 
 -- The alphabet is of 16 symbols: the polynomial found by their table is that of the alphabet.
 returns-2 : tie.Need-returns
 returns-2 c =
-    subst (FoundOf c.before.before.before.before.before.before.before.before.before.before c.polynomial_by-2.result c.polynomial_by-2.new.out) (sym c.in_default.is)
+    let start = c.before.before.before.before.before.before.before.before.before.before in
+    subst (FoundOf start c.polynomial_by-2.result c.polynomial_by-2.new.out) (sym c.in_default.is)
     c.polynomial_by-2.ensures
 
 pub polynomial_in_spec : {M : Type 1} → statement M

@@ -38,10 +38,11 @@ bytes s = take ((code_of s).symbols * s.args.n) s.args.entries.now
 -- The cost is above the limit: refusal 7, before the degree is looked at, and no memory has changed.
 returns : tie.Need-returns-then-limit-cost
 returns c =
+    let begun = c.before.before.before.before.before in
     let a = c.args in
     let paid = c.requires.1.0.paid in
-    refused_by_cost (code_of c.before.before.before.before.before) a.n a.k a.limit (bytes c.before.before.before.before.before) a.rows.now a.scores.now
-    (within_bound (a.k - 1) (bytes c.before.before.before.before.before) a.degree ∷ proposed (code_of c.before.before.before.before.before) a.n (a.k - 1) a.degree (bytes c.before.before.before.before.before) a.coefficients.now ∷ []) (omega arith)
+    refused_by_cost (code_of begun) a.n a.k a.limit (bytes begun) a.rows.now a.scores.now
+    (within_bound (a.k - 1) (bytes begun) a.degree ∷ proposed (code_of begun) a.n (a.k - 1) a.degree (bytes begun) a.coefficients.now ∷ []) (omega arith)
 
 abbrev entry : tie.After-bound-bound → tie.Start
 entry b = b.before.before.before.before.before.before
@@ -56,9 +57,10 @@ is_bound b = b.bound-bound.ensures ∙ ap (bound (b.args.k - 1)) b.requires.1.0.
 -- The degree limit is above the bound: refusal 2, and no memory has changed.
 returns-2 : tie.Need-returns-then-bound-degree
 returns-2 c =
+    let begun = c.before.before.before.before.before.before.before in
     let a = c.args in
-    let above : bound (a.k - 1) (cost (bytes c.before.before.before.before.before.before.before)) < a.degree = (let is = is_bound c.before in omega arith) in
-    refused_by_degree (code_of c.before.before.before.before.before.before.before) a.n a.k a.limit a.degree a.coefficients.now (bytes c.before.before.before.before.before.before.before) a.rows.now a.scores.now (cheap c.before) above
+    let above : bound (a.k - 1) (cost (bytes begun)) < a.degree = (let is = is_bound c.before in omega arith) in
+    refused_by_degree (code_of begun) a.n a.k a.limit a.degree a.coefficients.now (bytes begun) a.rows.now a.scores.now (cheap c.before) above
 
 abbrev at_bound : tie.After-is_yes → tie.After-bound-bound
 at_bound y = y.before.before
@@ -70,9 +72,11 @@ within y = let is = is_bound y.before.before in omega arith
 -- The proposal is a no: refusal 10, and no memory has changed.
 returns-3 : tie.Need-returns-then-not-is_yes
 returns-3 c =
+    let begun = c.before.before.before.before.before.before.before.before.before in
+    let at_bound_bound = c.before.before.before in
     let a = c.args in
     let no_of : c.is_yes.result ≡ false = c.if-not-is_yes.true in
-    refused_by_proposal (code_of c.before.before.before.before.before.before.before.before.before) a.n a.k a.limit a.degree a.coefficients.now (bytes c.before.before.before.before.before.before.before.before.before) a.rows.now a.scores.now (cheap c.before.before.before) (within c.before)
+    refused_by_proposal (code_of begun) a.n a.k a.limit a.degree a.coefficients.now (bytes begun) a.rows.now a.scores.now (cheap at_bound_bound) (within c.before)
     (sym c.is_yes.ensures ∙ no_of)
 
 -- what is known where the columns are made
@@ -122,22 +126,24 @@ module _ (c : tie.After-in_columns-columns) where
 
 roots-above-requires : tie.Need-roots_above-requires
 roots-above-requires c κs =
-    let f = (start c.before.before.before).requires.0 in
-    (rooted c.before.before.before, ((f.room_for_rows, f.room_for_scores), (bytes (start c.before.before.before), full c.before.before.before, loaded c.before.before.before)))
+    let at_in_columns_columns = c.before.before.before in
+    let f = (start at_in_columns_columns).requires.0 in
+    (rooted at_in_columns_columns, ((f.room_for_rows, f.room_for_scores), (bytes (start at_in_columns_columns), full at_in_columns_columns, loaded at_in_columns_columns)))
 
 -- The roots of the proposal above the bound are listed, and these are all messages above it.
 returns-4 : tie.Need-returns
 returns-4 c =
-    let y = asked c.before.before.before.before.before.before.before.before in
+    let at_in_columns_columns = c.before.before.before.before.before.before.before.before in
+    let y = asked at_in_columns_columns in
     let b = at_bound y in
-    let s = start c.before.before.before.before.before.before.before.before in
+    let s = start at_in_columns_columns in
     let a = s.args in
     let C = code_of s in
-    let yes_of = says_yes c.before.before.before.before.before.before.before.before in
+    let yes_of = says_yes at_in_columns_columns in
     let through = (yes_means C (a.k - 1) a.degree a.coefficients.now a.n (bytes s) yes_of).1 in
     listed_by_proposal C a.n a.k a.limit a.degree a.coefficients.now (bytes s) a.rows.now a.scores.now (cheap b) (within y) yes_of
-    (lists C (field_on a.alphabet) a.n a.k a.degree b.bound-bound.result a.coefficients.now (rooted c.before.before.before.before.before.before.before.before) (bytes s) (full c.before.before.before.before.before.before.before.before) through (omega arith) _ (is_bound b)
-    (c.roots_above.ensures (bytes s) (full c.before.before.before.before.before.before.before.before) (loaded c.before.before.before.before.before.before.before.before)))
+    (lists C (field_on a.alphabet) a.n a.k a.degree b.bound-bound.result a.coefficients.now (rooted at_in_columns_columns) (bytes s) (full at_in_columns_columns) through (omega arith) _ (is_bound b)
+    (c.roots_above.ensures (bytes s) (full at_in_columns_columns) (loaded at_in_columns_columns)))
 
 pub list_proposed_spec : {M : Type 1} → statement M
 list_proposed_spec =

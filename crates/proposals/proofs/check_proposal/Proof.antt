@@ -47,13 +47,16 @@ fits s = let a = s.args in check_fits (code_of s) a.n a.k a.degree a.matrix.now 
 
 symbols-checked-requires : tie.Need-symbols_checked-checked-requires
 symbols-checked-requires c κs e =
-    let f = (fits c.before.before.before.before.before (accepted (settled c) e)).0 in
+    let begun = c.before.before.before.before.before in
+    let f = (fits begun (accepted (settled c) e)).0 in
     let few = f.few in
     let full = f.full in
     (f.sized.2, omega arith)
 
 came : (c : tie.After-symbols_checked-checked) → (Came (front c.before.before.before.before.before.before ++ rest c.before.before.before.before.before.before) [] (told_checked c.symbols_checked-checked.result))
-came c = further (rest c.before.before.before.before.before.before) (settled c.before) ▸ refl ▸ c.symbols_checked-checked.ensures
+came c =
+    let begun = c.before.before.before.before.before.before in
+    further (rest begun) (settled c.before) ▸ refl ▸ c.symbols_checked-checked.ensures
 
 -- A line has refused.
 returns : tie.Need-returns-in-Refused
@@ -63,30 +66,38 @@ accepts : (t : tie.In_default) → Accepts (front t.before.before.before.before.
 accepts t = accepted (came t.before) t.in_default.is
 
 fit : (t : tie.In_default) → (let a = t.args in Fits (code_of t.before.before.before.before.before.before.before) a.n a.k a.degree a.coefficients.now × (length a.matrix.now ≡ (code_of t.before.before.before.before.before.before.before).symbols * a.n))
-fit t = fits t.before.before.before.before.before.before.before (accepts_front (front t.before.before.before.before.before.before.before) (rest t.before.before.before.before.before.before.before) (accepts t))
+fit t =
+    let begun = t.before.before.before.before.before.before.before in
+    fits begun (accepts_front (front begun) (rest begun) (accepts t))
 
 -- no entry is above the greatest level, and each coefficient is a symbol
 symbols-are : (t : tie.In_default) → (let a = t.args in ((j : ℕ) → get_or a.matrix.now j 0 ≤ greatest_level) × Symbols (code_of t.before.before.before.before.before.before.before) a.coefficients.now)
 symbols-are t =
+    let begun = t.before.before.before.before.before.before.before in
     let a = t.args in
     let z = (sized a.alphabet).least in
-    symbols_fit (code_of t.before.before.before.before.before.before.before) (omega arith) a.n a.matrix.now a.coefficients.now (accepts_behind (front t.before.before.before.before.before.before.before) (rest t.before.before.before.before.before.before.before) (accepts t))
+    symbols_fit (code_of begun) (omega arith) a.n a.matrix.now a.coefficients.now (accepts_behind (front begun) (rest begun) (accepts t))
 
 turn-requires : tie.Need-turn-requires
 turn-requires c κs =
+    let begun = c.before.before.before.before.before.before.before.before in
     let a = c.args in
     let f = fit c.before in
-    (bytes_within (code_of c.before.before.before.before.before.before.before.before) a.n a.matrix.now f.0.sized.2 f.1, omega arith)
+    (bytes_within (code_of begun) a.n a.matrix.now f.0.sized.2 f.1, omega arith)
 
 sub-is-yes : tie.Need-overflow_sub-k
-sub-is-yes c = let z = (fit c.before.before.before.before).0.sized.0 in omega arith
+sub-is-yes c =
+    let at_default = c.before.before.before.before in
+    let z = (fit at_default).0.sized.0 in omega arith
 
 is-yes-requires : tie.Need-is_yes-requires
 is-yes-requires c κs =
+    let begun = c.before.before.before.before.before.before.before.before.before.before.before in
+    let at_default = c.before.before.before.before in
     let a = c.args in
-    let C = code_of c.before.before.before.before.before.before.before.before.before.before.before in
-    let f = fit c.before.before.before.before in
-    let symbol = symbols-are c.before.before.before.before in
+    let C = code_of begun in
+    let f = fit at_default in
+    let symbol = symbols-are at_default in
     given_front C a.n a.k a.degree a.coefficients.now _ f.0 symbol.1 (turned_costs C a.n f.1 c.turn.ensures).within
     a.matrix.now (turned_bytes C a.n f.1 c.turn.ensures) symbol.0
 
@@ -95,20 +106,24 @@ is-yes-of : (y : tie.After-is_yes)
     → (let a = y.args in
     y.is_yes.result ≡ is_yes (code_of y.before.before.before.before.before.before.before.before.before.before.before.before) a.n (a.k - 1) a.degree a.matrix.now a.coefficients.now)
 is-yes-of y =
+    let begun = y.before.before.before.before.before.before.before.before.before.before.before.before in
+    let at_default = y.before.before.before.before.before in
     let a = y.args in
-    let C = code_of y.before.before.before.before.before.before.before.before.before.before.before.before in
+    let C = code_of begun in
     y.is_yes.ensures
-    ∙ ap (λ (m : List ℕ). is_yes C a.n (a.k - 1) a.degree m a.coefficients.now) (turned_bytes C a.n (fit y.before.before.before.before.before).1 y.turn.ensures)
+    ∙ ap (λ (m : List ℕ). is_yes C a.n (a.k - 1) a.degree m a.coefficients.now) (turned_bytes C a.n (fit at_default).1 y.turn.ensures)
 
 -- It is a yes.
 returns-2 : tie.Need-returns-then-is_yes
 returns-2 c =
-    says_yes (came c.before.before.before.before.before.before.before) c.in_default.is _ (sym (is-yes-of c.before) ∙ c.if-is_yes.true)
+    let at_symbols_checked_checked = c.before.before.before.before.before.before.before in
+    says_yes (came at_symbols_checked_checked) c.in_default.is _ (sym (is-yes-of c.before) ∙ c.if-is_yes.true)
 
 -- It is a no.
 returns-3 : tie.Need-returns
 returns-3 c =
-    says_no (came c.before.before.before.before.before.before.before) c.in_default.is _ (sym (is-yes-of c.before) ∙ c.if-is_yes.false)
+    let at_symbols_checked_checked = c.before.before.before.before.before.before.before in
+    says_no (came at_symbols_checked_checked) c.in_default.is _ (sym (is-yes-of c.before) ∙ c.if-is_yes.false)
 
 pub check_proposal_spec : {M : Type 1} → statement M
 check_proposal_spec =

@@ -40,8 +40,9 @@ rest s = let a = s.args in symbol_lines (code_of s) a.n a.entries.now a.coeffici
 
 settled : (c : tie.After-or-settled) → Came (front c.before.before.before.before.before.before.before) [] (told_checked c.or-settled.result)
 settled c =
+    let entry = c.before.before.before.before.before.before.before in
     start ▸ c.sizes-sized.ensures ▸ refl ▸ c.degree_checked.ensures
-    ▸ stored_tried (code_of c.before.before.before.before.before.before.before) (given c.before.before.before.before.before.before.before) (told_checked c.degree_checked.result) c.or-settled.ensures c.rightly.ensures
+    ▸ stored_tried (code_of entry) (given entry) (told_checked c.degree_checked.result) c.or-settled.ensures c.rightly.ensures
 
 -- what they say
 fits : (s : tie.Start) → Accepts (front s) → (let a = s.args in Fits (code_of s) a.n a.k a.degree a.coefficients.now × Rightly (code_of s) (given s))
@@ -49,13 +50,16 @@ fits s = let a = s.args in held_check_fits (code_of s) (given s) a.k a.degree a.
 
 symbols-checked-requires : tie.Need-symbols_checked-checked-requires
 symbols-checked-requires c κs e =
-    let f = (fits c.before.before.before.before.before.before.before (accepted (settled c) e)).0 in
+    let entry = c.before.before.before.before.before.before.before in
+    let f = (fits entry (accepted (settled c) e)).0 in
     let few = f.few in
     let full = f.full in
     (f.sized.2, omega arith)
 
 came : (c : tie.After-symbols_checked-checked) → (Came (front c.before.before.before.before.before.before.before.before ++ rest c.before.before.before.before.before.before.before.before) [] (told_checked c.symbols_checked-checked.result))
-came c = further (rest c.before.before.before.before.before.before.before.before) (settled c.before) ▸ refl ▸ c.symbols_checked-checked.ensures
+came c =
+    let entry = c.before.before.before.before.before.before.before.before in
+    further (rest entry) (settled c.before) ▸ refl ▸ c.symbols_checked-checked.ensures
 
 -- A line has refused.
 returns : tie.Need-returns-in-Refused
@@ -65,28 +69,33 @@ accepts : (t : tie.In_default) → Accepts (front t.before.before.before.before.
 accepts t = accepted (came t.before) t.in_default.is
 
 fit : (t : tie.In_default) → (let a = t.args in Fits (code_of t.before.before.before.before.before.before.before.before.before) a.n a.k a.degree a.coefficients.now × Rightly (code_of t.before.before.before.before.before.before.before.before.before) (given t.before.before.before.before.before.before.before.before.before))
-fit t = fits t.before.before.before.before.before.before.before.before.before (accepts_front (front t.before.before.before.before.before.before.before.before.before) (rest t.before.before.before.before.before.before.before.before.before) (accepts t))
+fit t =
+    let entry = t.before.before.before.before.before.before.before.before.before in
+    fits entry (accepts_front (front entry) (rest entry) (accepts t))
 
 sub-is-yes : tie.Need-overflow_sub-k
 sub-is-yes c = let z = (fit c).0.sized.0 in omega arith
 
 is-yes-requires : tie.Need-is_yes-requires
 is-yes-requires c κs =
+    let entry = c.before.before.before.before.before.before.before.before.before in
     let a = c.args in
     let f = fit c in
     let z = (sized a.alphabet).least in
-    let symbol = symbols_fit (code_of c.before.before.before.before.before.before.before.before.before) (omega arith) a.n a.entries.now a.coefficients.now (accepts_behind (front c.before.before.before.before.before.before.before.before.before) (rest c.before.before.before.before.before.before.before.before.before) (accepts c)) in
-    given_entries (code_of c.before.before.before.before.before.before.before.before.before) a.n a.k a.degree a.coefficients.now a.entries.now f.0 symbol.1 (used_within (code_of c.before.before.before.before.before.before.before.before.before) (given c.before.before.before.before.before.before.before.before.before) f.1 f.0.sized.2) symbol.0
+    let symbol = symbols_fit (code_of entry) (omega arith) a.n a.entries.now a.coefficients.now (accepts_behind (front entry) (rest entry) (accepts c)) in
+    given_entries (code_of entry) a.n a.k a.degree a.coefficients.now a.entries.now f.0 symbol.1 (used_within (code_of entry) (given entry) f.1 f.0.sized.2) symbol.0
 
 -- It is a yes.
 returns-2 : tie.Need-returns-then-is_yes
 returns-2 c =
-    says_yes (came c.before.before.before) c.in_default.is _ (sym c.is_yes.ensures ∙ c.if-is_yes.true)
+    let at_symbols_checked_checked = c.before.before.before in
+    says_yes (came at_symbols_checked_checked) c.in_default.is _ (sym c.is_yes.ensures ∙ c.if-is_yes.true)
 
 -- It is a no.
 returns-3 : tie.Need-returns
 returns-3 c =
-    says_no (came c.before.before.before) c.in_default.is _ (sym c.is_yes.ensures ∙ c.if-is_yes.false)
+    let at_symbols_checked_checked = c.before.before.before in
+    says_no (came at_symbols_checked_checked) c.in_default.is _ (sym c.is_yes.ensures ∙ c.if-is_yes.false)
 
 pub check_proposal_of_parts_spec : {M : Type 1} → statement M
 check_proposal_of_parts_spec =

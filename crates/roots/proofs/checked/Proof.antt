@@ -70,10 +70,14 @@ count-requires : tie.Need-count-stated-requires
 count-requires c κs = let f = fit c in (omega arith, omega arith)
 
 div-room : tie.Need-nonzero_div-degree
-div-room c = let f = fit c.before.before.before in omega arith
+div-room c =
+    let at_default = c.before.before.before in
+    let f = fit at_default in omega arith
 
 room-requires : tie.Need-room-requires
-room-requires c κs = let f = fit c.before.before.before in omega arith
+room-requires c κs =
+    let at_default = c.before.before.before in
+    let f = fit at_default in omega arith
 
 came-late : (c : tie.After-or-3)
     → (let a = c.args in
@@ -90,10 +94,11 @@ came-late c =
 -- The second chain has tried the lines that are left of the table, and the size before them has passed.
 returns-2 : tie.Need-returns
 returns-2 c =
+    let at_default = c.before.before.before.before.before.before.before in
     let a = c.args in
     let C = code_on a.alphabet in
     let left = late C a.degree a.k a.coefficients.now a.room in
-    all_tried (came-late c) ∙ front_passes refused_at passed left (size-passed C a.degree a.k (early-accepts c.before.before.before.before.before.before.before))
+    all_tried (came-late c) ∙ front_passes refused_at passed left (size-passed C a.degree a.k (early-accepts at_default))
 
 pub checked_spec : {M : Type 1} → statement M
 checked_spec =

@@ -62,9 +62,10 @@ roots-into-requires c κs =
 -- The table accepts the call, so its answer and its memory are those of the search.
 returns-2 : tie.Need-returns
 returns-2 c =
+    let at_checked_checked = c.before.before.before.before.before in
     let passed = c.in_default.is in (
-      ap counted c.roots_into.ensures.0 ∙ goes_on (came c.before.before.before.before.before) [] refused _ passed,
-      c.roots_into.ensures.1 ∙ goes_on (came c.before.before.before.before.before) [] (λ _ _. c.args.out.now) _ passed,
+      ap counted c.roots_into.ensures.0 ∙ goes_on (came at_checked_checked) [] refused _ passed,
+      c.roots_into.ensures.1 ∙ goes_on (came at_checked_checked) [] (λ _ _. c.args.out.now) _ passed,
     )
 
 pub roots_spec : {M : Type 1} → statement M

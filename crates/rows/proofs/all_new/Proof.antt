@@ -38,16 +38,19 @@ is-new-requires c κs = (
 -- Row j is not new, and j is below the count: not all rows are new.
 returns : tie.Need-returns-then-not-is_new invariant-loop decreases-loop
 returns c =
-    sym (every_but (new c.before.before.before.before.before) c.args.count c.loop-j.j (omega arith) (sym c.is_new.ensures ∙ c.if-not-is_new.true))
+    let start = c.before.before.before.before.before in
+    sym (every_but (new start) c.args.count c.loop-j.j (omega arith) (sym c.is_new.ensures ∙ c.if-not-is_new.true))
 
 loop-again : tie.Need-loop-j-preserved invariant-loop decreases-loop
 loop-again c =
-    (omega arith, every_more (new c.before.before.before.before.before) c.loop-j.j c.loop-j.invariant.1 (sym c.is_new.ensures ∙ c.if-not-is_new.false))
+    let start = c.before.before.before.before.before in
+    (omega arith, every_more (new start) c.loop-j.j c.loop-j.invariant.1 (sym c.is_new.ensures ∙ c.if-not-is_new.false))
 
 -- The loop has ended at the count or above it, so each row below the count is new.
 returns-2 : tie.Need-returns invariant-loop decreases-loop
 returns-2 c =
-    sym (every_of (new c.before.before.before) c.args.count (λ i h. every_at (new c.before.before.before) c.loop-j.j i c.loop-j.invariant.1 (omega arith)))
+    let start = c.before.before.before in
+    sym (every_of (new start) c.args.count (λ i h. every_at (new start) c.loop-j.j i c.loop-j.invariant.1 (omega arith)))
 
 pub all_new_spec : {M : Type 1} → statement M
 all_new_spec =

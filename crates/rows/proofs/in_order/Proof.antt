@@ -44,17 +44,20 @@ row-before-requires c κs =
 -- Row i does not come before row i + 1, so the list is not in order.
 returns : tie.Need-returns-then-not-row_before invariant-loop decreases-loop
 returns c =
-    sym (every_but (ordered c.before.before.before.before.before.before) (length c.args.scores.now - 1) c.loop-i.i (omega arith) (sym c.row_before.ensures ∙ c.if-not-row_before.true))
+    let start = c.before.before.before.before.before.before in
+    sym (every_but (ordered start) (length c.args.scores.now - 1) c.loop-i.i (omega arith) (sym c.row_before.ensures ∙ c.if-not-row_before.true))
 
 loop-again : tie.Need-loop-i-preserved invariant-loop decreases-loop
 loop-again c =
-    (omega arith, every_more (ordered c.before.before.before.before.before.before) c.loop-i.i c.loop-i.invariant.1 (sym c.row_before.ensures ∙ c.if-not-row_before.false))
+    let start = c.before.before.before.before.before.before in
+    (omega arith, every_more (ordered start) c.loop-i.i c.loop-i.invariant.1 (sym c.row_before.ensures ∙ c.if-not-row_before.false))
 
 -- The loop has ended at the last row, or at 0 where there is none: all rows are in order.
 returns-2 : tie.Need-returns invariant-loop decreases-loop
 returns-2 c =
+    let start = c.before.before.before.before in
     let end : c.loop-i.i ≡ length c.args.scores.now - 1 = omega arith in
-    sym (ap (λ (n : ℕ). every n (ordered c.before.before.before.before)) (sym end) ∙ c.loop-i.invariant.1)
+    sym (ap (λ (n : ℕ). every n (ordered start)) (sym end) ∙ c.loop-i.invariant.1)
 
 pub in_order_spec : {M : Type 1} → statement M
 in_order_spec =

@@ -38,7 +38,8 @@ all-new-requires c κs = full c.before.before
 -- The shape and the order fit: whether a message is repeated decides alone, and `all_new` tells it.
 returns-3 : tie.Need-returns
 returns-3 c =
-    rw (shape c.before.before.before, sym c.in_order.ensures ∙ c.if-not-in_order.false) c.all_new.ensures
+    let at_not_is_product = c.before.before.before in
+    rw (shape at_not_is_product, sym c.in_order.ensures ∙ c.if-not-in_order.false) c.all_new.ensures
 
 pub is_list_spec : {M : Type 1} → statement M
 is_list_spec =

@@ -63,18 +63,24 @@ compared c = c.same.ensures ∙ ap₂ same c.row.ensures.0 c.row-message.ensures
 -- Row i - 1 has the message of row j, so row j is not new.
 returns : tie.Need-returns-then-same invariant-loop decreases-loop
 returns c =
-    let h = some c.before.before.before in
+    let at_loop_i = c.before.before.before.before in
+    let at_loop_i' = c.before.before.before in
+    let h = some at_loop_i' in
     let m = c.loop-i.invariant.0 in
-    sym (every_but (others c.before.before.before.before) c.args.j (c.loop-i.i - 1) (omega arith) (ap not (sym (compared c.before) ∙ c.if-same.true)))
+    sym (every_but (others at_loop_i) c.args.j (c.loop-i.i - 1) (omega arith) (ap not (sym (compared c.before) ∙ c.if-same.true)))
 
 loop-less : tie.Need-loop-i-smaller invariant-loop decreases-loop
-loop-less c = let h = some c.before.before.before in omega arith
+loop-less c =
+    let at_loop_i = c.before.before.before in
+    let h = some at_loop_i in omega arith
 
 loop-again : tie.Need-loop-i-preserved invariant-loop decreases-loop
 loop-again c =
+    let at_loop_i = c.before.before.before.before in
+    let at_loop_i' = c.before.before.before in
     let m = c.loop-i.invariant.0 in
     let differs = ap not (sym (compared c.before) ∙ c.if-same.false) in
-    (omega arith, down_more (others c.before.before.before.before) c.loop-i.i c.args.j (some c.before.before.before) c.loop-i.invariant.1 differs)
+    (omega arith, down_more (others at_loop_i) c.loop-i.i c.args.j (some at_loop_i') c.loop-i.invariant.1 differs)
 
 -- The loop has ended at row 0, so no row before row j has its message.
 returns-2 : tie.Need-returns invariant-loop decreases-loop

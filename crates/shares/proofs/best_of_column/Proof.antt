@@ -45,12 +45,15 @@ better-requires c κs =
     (omega arith, omega arith, c.requires.2)
 
 loop-less : tie.Need-loop-b-smaller invariant-loop decreases-loop
-loop-less c = let h = column c.before.before.before in omega arith
+loop-less c =
+    let at_symbols_symbols = c.before.before.before in
+    let h = column at_symbols_symbols in omega arith
 
 loop-again : tie.Need-loop-b-preserved invariant-loop decreases-loop
 loop-again c =
+    let at_symbols_symbols = c.before.before.before in
     let a = c.args in
-    let h = column c.before.before.before in
+    let h = column at_symbols_symbols in
     let first = c.symbols-symbols.result * a.i in
     let r = a.reliabilities.now in
     let m = a.multiplicities.now in

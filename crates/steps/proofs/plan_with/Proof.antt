@@ -25,12 +25,14 @@ from-zeros s = s.requires.1 ∙ sym (plan_zero s.args.reliabilities.now)
 
 lay-leaders-requires : tie.Need-lay_leaders-requires invariant-loop decreases-loop
 lay-leaders-requires c κs =
+    let start = c.before.before.before.before in
     let a = c.args in
-    (beside_plan (code_on a.alphabet) a.n 0 a.reliabilities.now a.multiplicities.now c.requires.0 (from-zeros c.before.before.before.before), c.requires.2)
+    (beside_plan (code_on a.alphabet) a.n 0 a.reliabilities.now a.multiplicities.now c.requires.0 (from-zeros start), c.requires.2)
 
 loop-holds : tie.Need-loop-s-init invariant-loop decreases-loop
 loop-holds c =
-    (omega arith, from-zeros c.before.before.before.before.before.before.before, done_zero c.args.reliabilities.now, c.lay_leaders.ensures)
+    let start = c.before.before.before.before.before.before.before in
+    (omega arith, from-zeros start, done_zero c.args.reliabilities.now, c.lay_leaders.ensures)
 
 abbrev entry : tie.At-loop-s invariant-loop decreases-loop → tie.Start invariant-loop decreases-loop
 entry l = l.before.before.before.before.before.before.before.before
@@ -51,7 +53,8 @@ returns c =
 
 same_length : tie.Need-shape_of-multiplicities-then-step invariant-loop decreases-loop
 same_length c =
-    let s = entry c.before.before.before.before.before.before.before.before.before in
+    let at_loop_s = c.before.before.before.before.before.before.before.before.before in
+    let s = entry at_loop_s in
     as_long s.args.reliabilities.now s.args.steps s.args.multiplicities.now _ s.requires.1 (returns c).1
 
 same-length-2 : tie.Need-shape_of-leaders-then-step invariant-loop decreases-loop

@@ -54,10 +54,14 @@ add-p : tie.Need-overflow_add-p invariant-loop decreases-loop
 add-p c = let i = within c.before.before in omega arith
 
 slice-read-p : tie.Need-bounds-p-column-in-loop-a invariant-loop decreases-loop
-slice-read-p c = let i = within c.before.before.before in omega arith
+slice-read-p c =
+    let at_loop_a = c.before.before.before in
+    let i = within at_loop_a in omega arith
 
 slice-write-p : tie.Need-bounds-p-column-in-loop-a-2 invariant-loop decreases-loop
-slice-write-p c = let i = within c.before.before.before in omega arith
+slice-write-p c =
+    let at_loop_a = c.before.before.before in
+    let i = within at_loop_a in omega arith
 
 loop-again : tie.Need-loop-a-preserved invariant-loop decreases-loop
 unfolding sum_of

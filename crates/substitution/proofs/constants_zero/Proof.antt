@@ -40,7 +40,9 @@ returns c =
     λ w. constants_stop (code_on w) _ _ p c.loop-a.a _ (omega arith) (omega arith) (c.loop-a.invariant.1 w) c.if-p-a-ne0.true
 
 add_a : tie.Need-overflow_add-a invariant-loop decreases-loop
-add_a c = let i = within c.before.before.before in omega arith
+add_a c =
+    let at_loop_a = c.before.before.before in
+    let i = within at_loop_a in omega arith
 
 loop-again : tie.Need-loop-a-preserved invariant-loop decreases-loop
 loop-again c =

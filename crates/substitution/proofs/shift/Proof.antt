@@ -43,7 +43,9 @@ look-requires : tie.Need-look-power-requires invariant-loop decreases-loop
 look-requires c κs = (c.requires.0, (omega arith, omega arith))
 
 loop-less : tie.Need-loop-bit-smaller invariant-loop decreases-loop
-loop-less c = let b = some-bit c.before.before.before.before.before.before in omega arith
+loop-less c =
+    let at_loop_bit = c.before.before.before.before.before.before in
+    let b = some-bit at_loop_bit in omega arith
 
 loop-again : tie.Need-loop-bit-preserved invariant-loop decreases-loop
 loop-again c =

@@ -50,19 +50,21 @@ height l = omega arith
 
 lay-requires : tie.Need-lay-requires invariant-loop decreases-loop
 lay-requires c κs =
+    let at_loop_a = c.before.before.before in
     let a = c.args in
     let i = within c.before.before in
     let rest = drop (c.loop-a.a * a.h) a.p.now in
     let long : length (take a.h rest) ≡ a.h = length-take-le a.h rest (rw length-drop (omega arith)) in
-    rw (height c.before.before.before, long) (omega arith, omega arith, omega arith)
+    rw (height at_loop_a, long) (omega arith, omega arith, omega arith)
 
 loop-again : tie.Need-loop-a-preserved invariant-loop decreases-loop
 loop-again c =
+    let at_loop_a = c.before.before.before.before.before in
     let l = c.loop-a in
     let a = c.args in
     let p = a.p.now in
     let r = c.lay in
-    let e = height c.before.before.before.before.before in (
+    let e = height at_loop_a in (
       omega arith,
       omega arith,
       (λ c sp.

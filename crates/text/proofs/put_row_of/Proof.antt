@@ -18,19 +18,21 @@ few_symbols at-start =
 
 put-row-requires : tie.Need-put_row-requires
 put-row-requires c κs =
+    let start = c.before.before.before.before.before.before.before in
     let a = c.args in
-    let few = few_symbols c.before.before.before.before.before.before.before in
+    let few = few_symbols start in
     let long = lent_row_length a.rows.now a.k a.j (omega arith) in
     omega arith
 
 -- The line that is put is that of row j, with its score.
 returns : tie.Need-returns
 returns c =
+    let start = c.before.before.before.before.before.before.before.before.before.before in
     let a = c.args in
     let score = c.long-score in
     let put = c.put_row in
     row_put (code_on a.alphabet) a.k a.rows.now a.scores.now a.out.now put.new.out a.at a.j score.result put.result
-    (few_symbols c.before.before.before.before.before.before.before.before.before.before) score.ensures.0 (omega arith) put.ensures.0 put.ensures.1
+    (few_symbols start) score.ensures.0 (omega arith) put.ensures.0 put.ensures.1
 
 pub put_row_of_spec : {M : Type 1} → statement M
 put_row_of_spec =

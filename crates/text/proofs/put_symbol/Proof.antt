@@ -28,14 +28,16 @@ digits-put at-start w digits after end on same few puts =
 -- Thirty-two symbols: two digits are put.
 returns : tie.Need-returns-in-ThirtyTwo
 returns c =
+    let start = c.before.before.before.before.before.before.before.before.before in
     let two = ap₂ (λ (a b : ℕ). a ∷ b ∷ []) c.digit-first.ensures c.digit.ensures in
-    digits-put c.before.before.before.before.before.before.before.before.before _ _ c.put.new.out c.put.result c.in-ThirtyTwo.is two (omega arith) c.put.ensures
+    digits-put start _ _ c.put.new.out c.put.result c.in-ThirtyTwo.is two (omega arith) c.put.ensures
 
 -- Sixteen symbols: one digit is put.
 returns-2 : tie.Need-returns
 returns-2 c =
+    let start = c.before.before.before.before.before.before.before.before in
     let one = ap (λ (a : ℕ). a ∷ []) c.digit-2.ensures in
-    digits-put c.before.before.before.before.before.before.before.before _ _ c.put-2.new.out c.put-2.result c.in_default.is one (omega arith) c.put-2.ensures
+    digits-put start _ _ c.put-2.new.out c.put-2.result c.in_default.is one (omega arith) c.put-2.ensures
 
 pub put_symbol_spec : {M : Type 1} → statement M
 put_symbol_spec =

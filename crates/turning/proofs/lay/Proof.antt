@@ -20,32 +20,37 @@ full p =
 
 sub-clear : tie.Need-overflow_sub-entries
 sub-clear c =
-    let e = full c.before.before.before in
+    let at_put = c.before.before.before in
+    let e = full at_put in
     let h = c.requires in
     omega arith
 
 clear-requires : tie.Need-clear-requires
 clear-requires c κs =
-    let e = full c.before.before.before in
+    let at_put = c.before.before.before in
+    let e = full at_put in
     let h = c.requires in
     omega arith
 
 -- the entries are those of the bytes
 there : (k : tie.After-clear) → (k.clear.new.out ≡ filled (code_on k.args.alphabet) k.args.bytes.now)
 there k =
-    let e = full k.before.before.before.before in
+    let at_put = k.before.before.before.before in
+    let e = full at_put in
     let h = k.requires in
     laid_filled (code_on k.args.alphabet) k.args.entries.now k.args.bytes.now k.put.new.out k.clear.new.out
     (length k.put.new.out - length k.args.bytes.now) k.requires.2 (omega arith) k.put.ensures k.clear.ensures
 
 count-requires : tie.Need-count-requires
 count-requires c κs =
-    (c.requires.1, ap length (there c.before.before.before) ∙ length_filled (code_on c.args.alphabet) c.args.bytes.now c.requires.0)
+    let at_clear = c.before.before.before in
+    (c.requires.1, ap length (there at_clear) ∙ length_filled (code_on c.args.alphabet) c.args.bytes.now c.requires.0)
 
 -- What was counted are the entries of the bytes: so are the cost and the totals.
 returns : tie.Need-returns
 returns c =
-    let e = there c.before.before.before.before.before.before in
+    let at_clear = c.before.before.before.before.before.before in
+    let e = there at_clear in
     (c.count.ensures.0 ∙ ap cost e, c.count.ensures.1 ∙ ap (totals_of (code_on c.args.alphabet)) e, e)
 
 pub lay_spec : {M : Type 1} → statement M

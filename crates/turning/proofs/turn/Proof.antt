@@ -28,7 +28,8 @@ front p =
 -- What was turned is the front of the entries, and the front is the bytes.
 returns : tie.Need-returns
 returns c =
-    subst (λ (bytes : List ℕ). Turned bytes c.turn_in_place.result c.turn_in_place.new.entries) (front c.before.before.before.before.before.before)
+    let at_put = c.before.before.before.before.before.before in
+    subst (λ (bytes : List ℕ). Turned bytes c.turn_in_place.result c.turn_in_place.new.entries) (front at_put)
     c.turn_in_place.ensures
 
 pub turn_spec : {M : Type 1} → statement M

@@ -40,12 +40,15 @@ length_totals c = length-take-le c.positions-positions.result (replicate most_po
 
 count-requires : tie.Need-count-requires
 count-requires c κs =
-    (length_totals c.before.before.before.before.before.before ∙ c.positions-positions.ensures, length_turning (turning c.before.before.before) ∙ c.places-places.ensures)
+    let at_positions_positions = c.before.before.before.before.before.before in
+    let at_clear = c.before.before.before in
+    (length_totals at_positions_positions ∙ c.positions-positions.ensures, length_turning (turning at_clear) ∙ c.places-places.ensures)
 
 -- The entries with zeros behind them have been counted, and zeros cost nothing.
 returns : tie.Need-returns
 returns c =
-    turned (turning c.before.before.before.before.before) _ c.count.ensures.0
+    let at_clear = c.before.before.before.before.before in
+    turned (turning at_clear) _ c.count.ensures.0
 
 pub turn_in_place_spec : {M : Type 1} → statement M
 turn_in_place_spec =

@@ -49,24 +49,28 @@ room t =
     bytes_within (code_on a.alphabet) a.n a.matrix.now (fit t).sizes.2 (fit t).full
 
 sub-bound : tie.Need-overflow_sub-k
-sub-bound c = let s = (fit c.before.before.before).sizes in omega arith
+sub-bound c =
+    let at_default = c.before.before.before in
+    let s = (fit at_default).sizes in omega arith
 
 bound-requires : tie.Need-bound-bound-requires
 bound-requires c κs =
-    let f = fit c.before.before.before in
+    let at_default = c.before.before.before in
+    let f = fit at_default in
     let a = c.args in
     let s = f.sizes in
     let paid = c.turn-cost.ensures.paid in
     let z = sized a.alphabet in
     let w = places_within a.alphabet in
-    let small = cost_small (code_on a.alphabet) a.matrix.now (room c.before.before.before) f.low in
+    let small = cost_small (code_on a.alphabet) a.matrix.now (room at_default) f.low in
     (omega arith, omega arith)
 
 -- The table accepts: the record's cost is that of the bytes, and the bound is that of this cost.
 returns-2 : tie.Need-returns
 returns-2 c =
+    let at_symbols_checked = c.before.before.before.before.before in
     let a = c.args in
-    costed_is (came c.before.before.before.before.before) c.in_default.is a.k _ c.bound-bound.result a.matrix.now c.turn-cost.ensures.paid c.bound-bound.ensures
+    costed_is (came at_symbols_checked) c.in_default.is a.k _ c.bound-bound.result a.matrix.now c.turn-cost.ensures.paid c.bound-bound.ensures
 
 pub cost_and_bound_spec : {M : Type 1} → statement M
 cost_and_bound_spec =

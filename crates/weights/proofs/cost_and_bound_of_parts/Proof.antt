@@ -43,8 +43,9 @@ module _ (s : tie.Start) where
 came : (c : tie.After-symbols-checked)
     → (Came (held_cost_table (code c.before.before.before.before.before.before) (given c.before.before.before.before.before.before) c.args.k) [] (told_checked c.symbols-checked.result))
 came c =
+    let entry = c.before.before.before.before.before.before in
     let sizes = c.sizes in
-    start ▸ sizes.ensures ▸ stored_tried (code c.before.before.before.before.before.before) (given c.before.before.before.before.before.before) (told_checked sizes.result) c.or.ensures c.rightly.ensures
+    start ▸ sizes.ensures ▸ stored_tried (code entry) (given entry) (told_checked sizes.result) c.or.ensures c.rightly.ensures
     ▸ c.symbols-checked.ensures
 
 -- A line of the table refuses: the answer is its refusal.
@@ -52,29 +53,33 @@ returns : tie.Need-returns-in-Refused
 returns c = answers (came c.before) [] _ c.in-Refused.is
 
 fit : (t : tie.In_default) → (Fit (code t.before.before.before.before.before.before.before) (given t.before.before.before.before.before.before.before) t.args.k)
-fit t = fits (code t.before.before.before.before.before.before.before) (given t.before.before.before.before.before.before.before) t.args.k (accepted (came t.before) t.in_default.is)
+fit t =
+    let entry = t.before.before.before.before.before.before.before in
+    fits (code entry) (given entry) t.args.k (accepted (came t.before) t.in_default.is)
 
 sub-bound : tie.Need-overflow_sub-k
 sub-bound c = let s = (fit c).sized in omega arith
 
 bound-requires : tie.Need-bound-bound-requires
 bound-requires c κs =
+    let entry = c.before.before.before.before.before.before.before in
     let f = fit c in
     let s = f.sized in
     let full = f.right.full in
     let e = f.right.cost_is in
     let z = sized c.args.alphabet in
     let most = places_within c.args.alphabet in
-    let small = cost_small (code c.before.before.before.before.before.before.before) (given c.before.before.before.before.before.before.before).entries (omega arith) f.low in
+    let small = cost_small (code entry) (given entry).entries (omega arith) f.low in
     (omega arith, omega arith)
 
 -- The table accepts: the stored cost is that of the record's
 -- bytes, and the bound is that of this cost.
 returns-2 : tie.Need-returns
 returns-2 c =
+    let entry = c.before.before.before.before.before.before.before.before in
     let f = fit c.before in
-    let paid = cost_bytes (code c.before.before.before.before.before.before.before.before) (given c.before.before.before.before.before.before.before.before) f.right f.sized.2 in
-    costed_is (came c.before.before) c.in_default.is c.args.k _ c.bound-bound.result (bytes_of (code c.before.before.before.before.before.before.before.before) (given c.before.before.before.before.before.before.before.before)) paid c.bound-bound.ensures
+    let paid = cost_bytes (code entry) (given entry) f.right f.sized.2 in
+    costed_is (came c.before.before) c.in_default.is c.args.k _ c.bound-bound.result (bytes_of (code entry) (given entry)) paid c.bound-bound.ensures
 
 pub cost_and_bound_of_parts_spec : {M : Type 1} → statement M
 cost_and_bound_of_parts_spec =

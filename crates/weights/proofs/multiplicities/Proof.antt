@@ -60,10 +60,14 @@ settled c =
 came : (c : tie.After-columns_checked-checked)
     → (let a = c.args in
     Came (multiplicities_table (code c.before.before.before.before.before.before.before) a.n a.level a.reliabilities.now (length a.out.now)) [] (told_checked c.columns_checked-checked.result))
-came c = further (column-line c.before.before.before.before.before.before.before) (settled c.before) ▸ c.columns_checked-checked.ensures
+came c =
+    let entry = c.before.before.before.before.before.before.before in
+    further (column-line entry) (settled c.before) ▸ c.columns_checked-checked.ensures
 
 columns-checked-requires : tie.Need-columns_checked-checked-requires
-columns-checked-requires c κs e = let f = fits-call c.before.before.before.before.before.before (accepted (settled c) e) in (f.small, omega arith)
+columns-checked-requires c κs e =
+    let entry = c.before.before.before.before.before.before in
+    let f = fits-call entry (accepted (settled c) e) in (f.small, omega arith)
 
 -- A line of the table refuses: the answer is its refusal, and the memory is as it was.
 returns : tie.Need-returns-in-Refused
@@ -72,7 +76,9 @@ returns c =
     (answers (came c.before) [] _ refusal, stops (came c.before) [] (λ _ _. c.args.out.now) _ refusal)
 
 fit : (t : tie.In_default) → Fits t.before.before.before.before.before.before.before.before
-fit t = fits-call t.before.before.before.before.before.before.before.before (accepts_front _ (column-line t.before.before.before.before.before.before.before.before) (accepted (came t.before) t.in_default.is))
+fit t =
+    let entry = t.before.before.before.before.before.before.before.before in
+    fits-call entry (accepts_front _ (column-line entry) (accepted (came t.before) t.in_default.is))
 
 multiplicities-into-requires : tie.Need-multiplicities_into-requires
 multiplicities-into-requires c κs = let f = fit c.before in (f.low, omega arith)
@@ -81,11 +87,14 @@ multiplicities-into-requires c κs = let f = fit c.before in (f.low, omega arith
 -- entries says.
 returns-2 : tie.Need-returns
 returns-2 c =
+    let entry = c.before.before.before.before.before.before.before.before.before.before.before.before in
+    let at_columns_checked_checked = c.before.before.before.before.before in
+    let at_default = c.before.before.before.before in
     let a = c.args in
-    let full = (fit c.before.before.before.before).full in
-    let on = came c.before.before.before.before.before in
+    let full = (fit at_default).full in
+    let on = came at_columns_checked_checked in
     let acceptance = c.in_default.is in (
-      ap counted full ∙ goes_on on [] refused (counted ((code c.before.before.before.before.before.before.before.before.before.before.before.before).symbols * a.n)) acceptance,
+      ap counted full ∙ goes_on on [] refused (counted ((code entry).symbols * a.n)) acceptance,
       c.multiplicities_into.ensures ∙ ap (λ (j : ℕ). matrix a.level a.reliabilities.now ++ drop j a.out.now) full
           ∙ goes_on on [] (λ _ _. a.out.now) _ acceptance,
     )

@@ -20,21 +20,25 @@ Written s out w = out ≡ codeword (code_on w) s.args.n s.args.f.now ++ drop s.a
 
 points-into-requires : tie.Need-points_into-requires
 points-into-requires c κs =
-    (c.products_of_thirty_two-table.ensures, (subst (Given c.before.before.before.before.before.before) c.in-ThirtyTwo.is c.requires.0, c.requires.1))
+    let start = c.before.before.before.before.before.before in
+    (c.products_of_thirty_two-table.ensures, (subst (Given start) c.in-ThirtyTwo.is c.requires.0, c.requires.1))
 
 -- The alphabet has thirty-two symbols, and `points_into` wrote the codeword over it.
 returns : tie.Need-returns-in-ThirtyTwo
 returns c =
-    subst (Written c.before.before.before.before.before.before.before.before.before _) (sym c.in-ThirtyTwo.is) c.points_into.ensures
+    let start = c.before.before.before.before.before.before.before.before.before in
+    subst (Written start _) (sym c.in-ThirtyTwo.is) c.points_into.ensures
 
 points-into-requires-2 : tie.Need-points_into-requires-2
 points-into-requires-2 c κs =
-    (c.products_of_sixteen-table.ensures, (subst (Given c.before.before.before.before.before.before) c.in_default.is c.requires.0, c.requires.1))
+    let start = c.before.before.before.before.before.before in
+    (c.products_of_sixteen-table.ensures, (subst (Given start) c.in_default.is c.requires.0, c.requires.1))
 
 -- The alphabet has sixteen symbols, and `points_into` wrote the codeword over it.
 returns-2 : tie.Need-returns
 returns-2 c =
-    subst (Written c.before.before.before.before.before.before.before.before.before _) (sym c.in_default.is) c.points_into-2.ensures
+    let start = c.before.before.before.before.before.before.before.before.before in
+    subst (Written start _) (sym c.in_default.is) c.points_into-2.ensures
 
 pub encode_into_spec : {M : Type 1} → statement M
 encode_into_spec =

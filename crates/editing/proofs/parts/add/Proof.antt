@@ -45,14 +45,16 @@ after s = held_of (code s) s.args.n (sum s)
 
 came : (c : tie.After-or-checked) → Came (front c.before.before.before.before.before.before.before.before.before.before) [] (told_checked c.or-checked.result)
 came c =
+    let entry = c.before.before.before.before.before.before.before.before.before.before in
     start ▸ c.size.ensures ▸ c.or.ensures
-    ▸ stored_tried (code c.before.before.before.before.before.before.before.before.before.before) (handed c.before.before.before.before.before.before.before.before.before.before) (told_checked c.or.result) c.or-2.ensures c.rightly.ensures
-    ▸ stored_tried (code c.before.before.before.before.before.before.before.before.before.before) (other c.before.before.before.before.before.before.before.before.before.before) (told_checked c.or-2.result) c.or-checked.ensures c.rightly-2.ensures
+    ▸ stored_tried (code entry) (handed entry) (told_checked c.or.result) c.or-2.ensures c.rightly.ensures
+    ▸ stored_tried (code entry) (other entry) (told_checked c.or-2.result) c.or-checked.ensures c.rightly-2.ensures
 
 -- The chain refuses: its refusal is that of the table, and the parts are as they came.
 returns : tie.Need-returns-in-Refused
 returns c =
-    parts_promised (edit_refused (came c.before) (rest c.before.before.before.before.before.before.before.before.before.before.before) (handed c.before.before.before.before.before.before.before.before.before.before.before) (after c.before.before.before.before.before.before.before.before.before.before.before) c.in-Refused.is)
+    let entry = c.before.before.before.before.before.before.before.before.before.before.before in
+    parts_promised (edit_refused (came c.before) (rest entry) (handed entry) (after entry) c.in-Refused.is)
 
 -- what passes the chain has the right numbers, both records
 fits : (s : tie.Start) → Accepts (front s) → (rightly (code s) (handed s) ≡ true) × (rightly (code s) (other s) ≡ true)
@@ -60,13 +62,17 @@ fits s (next n (next m (next h (next o end)))) = (not-false _ h, not-false _ o)
 
 add-right-requires : tie.Need-add_right-requires
 add-right-requires c κs =
-    let right = fits c.before.before.before.before.before.before.before.before.before.before.before.before.before (accepted (came c.before.before.before) c.in_default.is) in
-    (right.0, (rightly_means (code c.before.before.before.before.before.before.before.before.before.before.before.before.before) (other c.before.before.before.before.before.before.before.before.before.before.before.before.before) right.1).full)
+    let entry = c.before.before.before.before.before.before.before.before.before.before.before.before.before in
+    let at_or_checked = c.before.before.before in
+    let right = fits entry (accepted (came at_or_checked) c.in_default.is) in
+    (right.0, (rightly_means (code entry) (other entry) right.1).full)
 
 -- The chain is passed: what `add_right` promises of the last line is what the whole table makes.
 returns-2 : tie.Need-returns
 returns-2 c =
-    parts_promised (edit_goes_on (came c.before.before.before.before.before.before.before.before) (rest c.before.before.before.before.before.before.before.before.before.before.before.before.before.before.before.before.before.before) (handed c.before.before.before.before.before.before.before.before.before.before.before.before.before.before.before.before.before.before) (after c.before.before.before.before.before.before.before.before.before.before.before.before.before.before.before.before.before.before) c.in_default.is c.add_right.ensures)
+    let entry = c.before.before.before.before.before.before.before.before.before.before.before.before.before.before.before.before.before.before in
+    let at_or_checked = c.before.before.before.before.before.before.before.before in
+    parts_promised (edit_goes_on (came at_or_checked) (rest entry) (handed entry) (after entry) c.in_default.is c.add_right.ensures)
 
 pub add_spec : {M : Type 1} → statement M
 add_spec =

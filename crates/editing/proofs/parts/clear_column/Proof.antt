@@ -42,13 +42,15 @@ after s = held_of (code s) s.args.n (cleared s)
 
 came : (c : tie.After-or-checked) → Came (front c.before.before.before.before.before) [] (told_checked c.or-checked.result)
 came c =
+    let entry = c.before.before.before.before.before in
     let at_place = c.placed in
-    start ▸ refl ▸ at_place.ensures ▸ stored_tried (code c.before.before.before.before.before) (handed c.before.before.before.before.before) (told_checked at_place.result) c.or-checked.ensures c.rightly.ensures
+    start ▸ refl ▸ at_place.ensures ▸ stored_tried (code entry) (handed entry) (told_checked at_place.result) c.or-checked.ensures c.rightly.ensures
 
 -- The chain refuses: its refusal is that of the table, and the parts are as they came.
 returns : tie.Need-returns-in-Refused
 returns c =
-    parts_promised (edit_refused (came c.before) (rest c.before.before.before.before.before.before) (handed c.before.before.before.before.before.before) (after c.before.before.before.before.before.before) c.in-Refused.is)
+    let entry = c.before.before.before.before.before.before in
+    parts_promised (edit_refused (came c.before) (rest entry) (handed entry) (after entry) c.in-Refused.is)
 
 -- what the lines of the chain say where they are passed
 record Fit (s : tie.Start) : Type 0 where
@@ -64,7 +66,9 @@ fits s (next n (next p (next h end))) = record {
 }
 
 fit : (passed : tie.In_default) → Fit passed.before.before.before.before.before.before
-fit passed = fits passed.before.before.before.before.before.before (accepted (came passed.before) passed.in_default.is)
+fit passed =
+    let entry = passed.before.before.before.before.before.before in
+    fits entry (accepted (came passed.before) passed.in_default.is)
 
 clear-right-requires : tie.Need-clear_right-requires
 clear-right-requires c κs = let f = fit c.before.before in ((f.sized.1, f.at), f.right)
@@ -72,7 +76,9 @@ clear-right-requires c κs = let f = fit c.before.before in ((f.sized.1, f.at), 
 -- The chain is passed: what `clear_right` promises of the last line is what the whole table makes.
 returns-2 : tie.Need-returns
 returns-2 c =
-    parts_promised (edit_goes_on (came c.before.before.before.before.before.before.before.before) (rest c.before.before.before.before.before.before.before.before.before.before.before.before.before) (handed c.before.before.before.before.before.before.before.before.before.before.before.before.before) (after c.before.before.before.before.before.before.before.before.before.before.before.before.before) c.in_default.is c.clear_right.ensures)
+    let entry = c.before.before.before.before.before.before.before.before.before.before.before.before.before in
+    let at_or_checked = c.before.before.before.before.before.before.before.before in
+    parts_promised (edit_goes_on (came at_or_checked) (rest entry) (handed entry) (after entry) c.in_default.is c.clear_right.ensures)
 
 pub clear_column_spec : {M : Type 1} → statement M
 clear_column_spec =

@@ -39,7 +39,8 @@ came c = start ▸ refl ▸ refl ▸ c.lent-checked.ensures
 -- A line refuses: its refusal is that of the table, and the parts are as they came.
 returns : tie.Need-returns-in-Refused
 returns c =
-    parts_promised (edit_refused (came c.before) [] (handed c.before.before.before.before) (after c.before.before.before.before) c.in-Refused.is)
+    let begun = c.before.before.before.before in
+    parts_promised (edit_refused (came c.before) [] (handed begun) (after begun) c.in-Refused.is)
 
 -- the parts have the lengths of a record
 abbrev Sized : tie.Start → Type 0
@@ -49,7 +50,9 @@ fits : (s : tie.Start) → Accepts (table s) → Sized s
 fits s (next n (next t (next e end))) = (entries_mean _ s.args.totals.now t, entries_mean _ s.args.entries.now e)
 
 sized : (passed : tie.In_default) → Sized passed.before.before.before.before
-sized passed = fits passed.before.before.before.before (accepted (came passed.before) passed.in_default.is)
+sized passed =
+    let begun = passed.before.before.before.before in
+    fits begun (accepted (came passed.before) passed.in_default.is)
 
 abbrev passed : tie.After-clear → tie.In_default
 passed cleared = cleared.before.before
@@ -57,20 +60,27 @@ passed cleared = cleared.before.before
 -- zeros lie in all places
 no-entries : (c : tie.After-clear) → c.clear.new.out ≡ no_entries (code c.before.before.before.before.before.before)
 no-entries c =
-    laid_fresh (code c.before.before.before.before.before.before) c.args.entries.now c.clear.new.out (sized c.before.before).1 c.clear.ensures
+    let begun = c.before.before.before.before.before.before in
+    laid_fresh (code begun) c.args.entries.now c.clear.new.out (sized c.before.before).1 c.clear.ensures
 
 count-requires : tie.Need-count-requires
 count-requires c κs =
-    ((sized c.before.before.before.before.before).0, ap length (no-entries c.before.before.before) ∙ length-replicate {A = ℕ} (places (code c.before.before.before.before.before.before.before.before.before)) 0)
+    let begun = c.before.before.before.before.before.before.before.before.before in
+    let at_default = c.before.before.before.before.before in
+    let at_clear = c.before.before.before in
+    ((sized at_default).0, ap length (no-entries at_clear) ∙ length-replicate {A = ℕ} (places (code begun)) 0)
 
 -- Every line is passed: the entries are none, and the totals and the cost are those that were
 -- counted.
 returns-2 : tie.Need-returns
 returns-2 c =
+    let begun = c.before.before.before.before.before.before.before.before.before.before.before.before in
+    let at_lent_checked = c.before.before.before.before.before.before.before.before.before in
+    let at_clear = c.before.before.before.before.before.before in
     let counted = c.count.ensures in
-    let none = no-entries c.before.before.before.before.before.before in
-    parts_promised (edit_goes_on (came c.before.before.before.before.before.before.before.before.before) [] (handed c.before.before.before.before.before.before.before.before.before.before.before.before) (after c.before.before.before.before.before.before.before.before.before.before.before.before) c.in_default.is
-    (edit_counted (code c.before.before.before.before.before.before.before.before.before.before.before.before) (handed c.before.before.before.before.before.before.before.before.before.before.before.before) c.args.n (no_entries (code c.before.before.before.before.before.before.before.before.before.before.before.before)) (counted.0 ∙ ap cost none) (counted.1 ∙ ap (totals_of (code c.before.before.before.before.before.before.before.before.before.before.before.before)) none) none))
+    let none = no-entries at_clear in
+    parts_promised (edit_goes_on (came at_lent_checked) [] (handed begun) (after begun) c.in_default.is
+    (edit_counted (code begun) (handed begun) c.args.n (no_entries (code begun)) (counted.0 ∙ ap cost none) (counted.1 ∙ ap (totals_of (code begun)) none) none))
 
 pub fresh_spec : {M : Type 1} → statement M
 fresh_spec =

@@ -42,7 +42,8 @@ came c = start ▸ refl ▸ refl ▸ c.lent.ensures ▸ c.entries.ensures ▸ c.
 -- A line refuses: its refusal is that of the table, and the parts are as they came.
 returns : tie.Need-returns-in-Refused
 returns c =
-    parts_promised (edit_refused (came c.before) [] (handed c.before.before.before.before.before.before.before) (after c.before.before.before.before.before.before.before) c.in-Refused.is)
+    let entry = c.before.before.before.before.before.before.before in
+    parts_promised (edit_refused (came c.before) [] (handed entry) (after entry) c.in-Refused.is)
 
 -- what the lines say where they are passed
 record Fit (s : tie.Start) : Type 0 where
@@ -61,8 +62,10 @@ fits s (next n (next t (next e (next b (next a end))))) = record {
 
 lay-requires : tie.Need-lay-requires
 lay-requires c κs =
-    let C = code c.before.before.before.before.before.before.before.before.before in
-    let fit = fits c.before.before.before.before.before.before.before.before.before (accepted (came c.before.before.before) c.in_default.is) in
+    let entry = c.before.before.before.before.before.before.before.before.before in
+    let at_symbols_checked = c.before.before.before in
+    let C = code entry in
+    let fit = fits entry (accepted (came at_symbols_checked) c.in_default.is) in
     let stated = fit.bytes in
     let within : C.symbols * c.args.n ≤ places C = mul-le-mul_left C.symbols fit.size.1 in
     (omega arith, fit.totals, fit.entries)
@@ -70,9 +73,11 @@ lay-requires c κs =
 -- Every line is passed: entries, totals and cost are those that `lay` promises of the bytes.
 returns-2 : tie.Need-returns
 returns-2 c =
+    let entry = c.before.before.before.before.before.before.before.before.before.before.before.before.before.before in
+    let at_symbols_checked = c.before.before.before.before.before.before.before.before in
     let counted = c.lay.ensures in
-    parts_promised (edit_goes_on (came c.before.before.before.before.before.before.before.before) [] (handed c.before.before.before.before.before.before.before.before.before.before.before.before.before.before) (after c.before.before.before.before.before.before.before.before.before.before.before.before.before.before) c.in_default.is
-    (edit_counted (code c.before.before.before.before.before.before.before.before.before.before.before.before.before.before) (handed c.before.before.before.before.before.before.before.before.before.before.before.before.before.before) c.args.n (laid c.before.before.before.before.before.before.before.before.before.before.before.before.before.before) counted.0 counted.1 counted.2))
+    parts_promised (edit_goes_on (came at_symbols_checked) [] (handed entry) (after entry) c.in_default.is
+    (edit_counted (code entry) (handed entry) c.args.n (laid entry) counted.0 counted.1 counted.2))
 
 pub of_bytes_spec : {M : Type 1} → statement M
 of_bytes_spec =

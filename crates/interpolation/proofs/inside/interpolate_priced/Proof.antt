@@ -25,9 +25,10 @@ bytes s = take ((code_on s.args.alphabet).symbols * s.args.n) s.args.entries.now
 -- The limit is below the cost: refusal 7, and out is as it was.
 returns : tie.Need-returns-then-limit-cost
 returns c =
+    let start = c.before.before.before in
     let a = c.args in
     let paid = c.requires.1.paid in
-    refused_by_cost (code_on a.alphabet) a.n a.k a.limit (bytes c.before.before.before) a.out.now (omega arith)
+    refused_by_cost (code_on a.alphabet) a.n a.k a.limit (bytes start) a.out.now (omega arith)
 
 -- The cost is at most the limit, and the limit at most the greatest.
 cheap : (c : tie.Else-limit-cost) → c.args.cost ≤ greatest_limit
@@ -48,16 +49,18 @@ paid c =
 
 polynomial-requires : tie.Need-polynomial-requires
 polynomial-requires c κs =
+    let at_limit_cost = c.before.before.before.before.before in
+    let at_in_columns_columns = c.before.before.before.before in
     let v = c.args.k - 1 in
     let f = c.requires.0 in
     let sized = f.sized in
-    let few = count_small v c.bound-bound.result c.count-count.result c.args.cost (omega arith) (cheap c.before.before.before.before.before) c.bound-bound.ensures c.count-count.ensures in
+    let few = count_small v c.bound-bound.result c.count-count.result c.args.cost (omega arith) (cheap at_limit_cost) c.bound-bound.ensures c.count-count.ensures in
     let space = f.spacious in
     record {
       weighted = omega arith;
-      cheap = cheap c.before.before.before.before.before;
-      priced = paid c.before.before.before.before;
-      bounded = c.bound-bound.ensures ∙ ap (bound v) (paid c.before.before.before.before);
+      cheap = cheap at_limit_cost;
+      priced = paid at_in_columns_columns;
+      bounded = c.bound-bound.ensures ∙ ap (bound v) (paid at_in_columns_columns);
       counted = c.count-count.ensures;
       room = omega arith;
     }
@@ -65,11 +68,12 @@ polynomial-requires c κs =
 -- The polynomial of the columns is written into out, and the columns hold the entries of the bytes.
 returns-2 : tie.Need-returns
 returns-2 c =
+    let start = c.before.before.before.before.before.before.before.before.before.before.before in
     let a = c.args in
     let C = code_on a.alphabet in
     let f = c.requires.0 in
     let h = c.requires.1 in
-    found_is_answered C a.n a.k a.limit (bytes c.before.before.before.before.before.before.before.before.before.before.before) a.out.now f.sized.2 (length-take-le (C.symbols * a.n) a.entries.now h.within)
+    found_is_answered C a.n a.k a.limit (bytes start) a.out.now f.sized.2 (length-take-le (C.symbols * a.n) a.entries.now h.within)
     c.in_columns-columns.result (columns_front C a.n a.cost a.entries.now f.sized.2 h c.in_columns-columns.result c.in_columns-columns.ensures) a.cost c.bound-bound.result
     c.count-count.result c.polynomial.result c.polynomial.new.out h.paid c.if-limit-cost.false c.bound-bound.ensures c.count-count.ensures
     c.polynomial.ensures

@@ -52,25 +52,28 @@ module _ (p : tie.After-plan_into-done) where
 
 same-up-to-requires : tie.Need-same_up_to-requires
 same-up-to-requires c κs =
+    let at_shared_slice_known = c.before.before.before.before in
     let full = c.requires.0.full in
     let wide = c.requires.1 in
     let size = whole c.before.before in
-    let within = room c.before.before.before.before in
+    let within = room at_shared_slice_known in
     (omega arith, omega arith)
 
 -- What stands in front of the entries is not the rule's result: refusal 9.
 returns : tie.Need-returns-then-not-same_up_to
 returns c =
+    let at_plan_into_done = c.before.before.before.before in
     let a = c.args in
-    plan_refused (code_on a.alphabet) a.n a.steps a.reliabilities.now c.requires.0.full a.entries.now (front c.before.before.before.before ++ behind c.before.before.before.before) (behind c.before.before.before.before) (stands c.before.before.before.before)
+    plan_refused (code_on a.alphabet) a.n a.steps a.reliabilities.now c.requires.0.full a.entries.now (front at_plan_into_done ++ behind at_plan_into_done) (behind at_plan_into_done) (stands at_plan_into_done)
     c.same_up_to.result c.same_up_to.ensures (ap not c.if-not-same_up_to.true)
 
 -- It is the rule's result, so the plan's line accepts, and the steps told are those that the rule
 -- took.
 returns-2 : tie.Need-returns
 returns-2 c =
+    let at_plan_into_done = c.before.before.before.before in
     let a = c.args in
-    plan_taken (code_on a.alphabet) a.n a.steps a.reliabilities.now c.requires.0.full a.entries.now (front c.before.before.before.before ++ behind c.before.before.before.before) (behind c.before.before.before.before) (stands c.before.before.before.before)
+    plan_taken (code_on a.alphabet) a.n a.steps a.reliabilities.now c.requires.0.full a.entries.now (front at_plan_into_done ++ behind at_plan_into_done) (behind at_plan_into_done) (stands at_plan_into_done)
     c.same_up_to.result c.same_up_to.ensures (ap not c.if-not-same_up_to.false) c.plan_into-done.result c.plan_into-done.ensures.0
 
 pub check_entries_spec : {M : Type 1} → statement M

@@ -45,10 +45,14 @@ load-degree-requires c κs =
     ((c.requires.0.0, omega arith, omega arith), there c.before)
 
 add-j : tie.Need-overflow_add-j invariant-loop decreases-loop
-add-j c = let t = there c.before.before.before in omega arith
+add-j c =
+    let at_loop_d = c.before.before.before in
+    let t = there at_loop_d in omega arith
 
 add-j-2 : tie.Need-overflow_add-j-in-loop-d invariant-loop decreases-loop
-add-j-2 c = let t = there c.before.before.before in omega arith
+add-j-2 c =
+    let at_loop_d = c.before.before.before in
+    let t = there at_loop_d in omega arith
 
 loop-again : tie.Need-loop-d-preserved invariant-loop decreases-loop
 loop-again c =

@@ -40,14 +40,16 @@ load-requires c κs = ((omega arith, fit c.before.before), c.requires.1.0.0)
 
 add-freed : tie.Need-overflow_add-degree
 add-freed c =
-    let f = columns_fit (height c.before.before.before.before) (c.args.degree + 1) (omega arith) (fit c.before.before.before.before) in
+    let start = c.before.before.before.before in
+    let f = columns_fit (height start) (c.args.degree + 1) (omega arith) (fit start) in
     omega arith
 
 freed-requires : tie.Need-freed-p-requires
 freed-requires c κs =
+    let start = c.before.before.before.before in
     let a = c.args in
     let l = c.load-loaded in
-    (omega arith, fit c.before.before.before.before, loaded_length (code_on a.alphabet) a.degree a.k a.coefficients.now l.result (l.ensures a.alphabet))
+    (omega arith, fit start, loaded_length (code_on a.alphabet) a.degree a.k a.coefficients.now l.result (l.ensures a.alphabet))
 
 -- what is loaded, and freed, are symbols
 are-symbols : (c : tie.After-freed-p) → Symbols (code_on c.args.alphabet) c.freed-p.result
@@ -59,21 +61,24 @@ are-symbols c =
 -- the rows that the search finds in one alphabet
 abbrev rows : tie.After-freed-p → Alphabet → List ℕ
 rows c w =
+    let start = c.before.before.before.before.before in
     let k = c.args.k in
-    rows_after (take (k - k) (zeros most_symbols)) (tree.search (code_on w) k (polynomial (code_on w) (height c.before.before.before.before.before) (c.args.degree + 1) c.freed-p.result))
+    rows_after (take (k - k) (zeros most_symbols)) (tree.search (code_on w) k (polynomial (code_on w) (height start) (c.args.degree + 1) c.freed-p.result))
 
 -- what the search asks, of one alphabet
 abbrev Ready : tie.After-freed-p → Alphabet → Type 0
 Ready c w =
+    let start = c.before.before.before.before.before in
     let a = c.args in
     let p = c.freed-p.result in
     Symbols (code_on w) p
-    × (((0 < height c.before.before.before.before.before) × ((a.degree + 1) * height c.before.before.before.before.before ≤ places) × (a.k ≤ a.k) × (a.k ≤ (code_on w).positions))
-    × (DegreeWithin (code_on w) (a.k - 1) a.degree (height c.before.before.before.before.before) p × (0 + length (rows c w) ≤ length a.out.now)))
+    × (((0 < height start) × ((a.degree + 1) * height start ≤ places) × (a.k ≤ a.k) × (a.k ≤ (code_on w).positions))
+    × (DegreeWithin (code_on w) (a.k - 1) a.degree (height start) p × (0 + length (rows c w) ≤ length a.out.now)))
 
 -- it holds of the call's alphabet
 ready : (c : tie.After-freed-p) → Ready c c.args.alphabet
 ready c =
+    let start = c.before.before.before.before.before in
     let w = c.args.alphabet in
     let C = code_on w in
     let F = field_on w in
@@ -85,7 +90,7 @@ ready c =
     let freed = c.freed-p.ensures.0 w in
     let low = within C F _ _ _ two small full symbols _ loaded _ (are-symbols c) freed in
     let room = room_enough C F _ _ _ two small full symbols _ loaded _ (are-symbols c) freed (zeros most_symbols) c.requires.1.1.1 _ c.requires.1.0.1 in
-    (are-symbols c, ((omega arith, fit c.before.before.before.before.before, omega arith, c.requires.0.1), (low, room)))
+    (are-symbols c, ((omega arith, fit start, omega arith, c.requires.0.1), (low, room)))
 
 -- what the search promises, of one alphabet
 abbrev Found : tie.After-freed-p → ℕ → List ℕ → Alphabet → Type 0
@@ -116,24 +121,28 @@ answered c w e r same found =
 search-requires : tie.Need-search-requires
 unfolding zeros
 search-requires c κs =
-    (c.products_of_thirty_two-table.ensures, subst (Ready c.before.before.before.before) c.in-ThirtyTwo.is (ready c.before.before.before.before))
+    let at_freed_p = c.before.before.before.before in
+    (c.products_of_thirty_two-table.ensures, subst (Ready at_freed_p) c.in-ThirtyTwo.is (ready at_freed_p))
 
 -- The alphabet is that of thirty-two symbols, in which the search has found all roots.
 returns : tie.Need-returns-in-ThirtyTwo
 unfolding zeros
 returns c =
-    answered c.before.before.before.before.before.before.before ThirtyTwo c.search.result _ c.in-ThirtyTwo.is c.search.ensures
+    let at_freed_p = c.before.before.before.before.before.before.before in
+    answered at_freed_p ThirtyTwo c.search.result _ c.in-ThirtyTwo.is c.search.ensures
 
 search-requires-2 : tie.Need-search-requires-2
 unfolding zeros
 search-requires-2 c κs =
-    (c.products_of_sixteen-table.ensures, subst (Ready c.before.before.before.before) c.in_default.is (ready c.before.before.before.before))
+    let at_freed_p = c.before.before.before.before in
+    (c.products_of_sixteen-table.ensures, subst (Ready at_freed_p) c.in_default.is (ready at_freed_p))
 
 -- The alphabet is that of sixteen symbols, in which the search has found all roots.
 returns-2 : tie.Need-returns
 unfolding zeros
 returns-2 c =
-    answered c.before.before.before.before.before.before.before Sixteen c.search-2.result _ c.in_default.is c.search-2.ensures
+    let at_freed_p = c.before.before.before.before.before.before.before in
+    answered at_freed_p Sixteen c.search-2.result _ c.in_default.is c.search-2.ensures
 
 pub roots_into_spec : {M : Type 1} → statement M
 roots_into_spec =

@@ -30,7 +30,8 @@ front p =
 -- What was turned is the front, and the front is the multiplicities.
 returns : tie.Need-returns
 returns c =
-    subst (λ (bytes : List ℕ). Turned bytes c.turn_in_place.result c.turn_in_place.new.entries) (front c.before.before.before.before.before.before)
+    let at_multiplicities_into = c.before.before.before.before.before.before in
+    subst (λ (bytes : List ℕ). Turned bytes c.turn_in_place.result c.turn_in_place.new.entries) (front at_multiplicities_into)
     c.turn_in_place.ensures
 
 pub weigh_spec : {M : Type 1} → statement M
