@@ -12,7 +12,8 @@ use Rattle.definitions.specs.Roots.{scaled, times, powers, compose}
 use Rattle.algebra.specs.Ring.{Ring, Hom}
 use Rattle.algebra.proofs.Carry.{carried}
 use Rattle.algebra.proofs.Evaluation.{evaluate, evaluate_sum, evaluate_multiple, evaluate_product, evaluate_power}
-use Rattle.algebra.proofs.Polynomials.{length_plus, length_scaled, length_times, length_powers}
+use Rattle.algebra.proofs.Polynomials.{length_plus, length_scaled, length_times}
+use Rattle.algebra.proofs.Lengths.{length_powers}
 use Rattle.algebra.proofs.RingLaws.{ring, times_assoc}
 use Rattle.algebra.proofs.Every.{All}
 

@@ -9,6 +9,7 @@ use lib.Dec.{T, eqb, eqb→eq}
 use Rattle.definitions.proofs.Tools.{smallest_found}
 use Rattle.definitions.specs.Field.{Ops, Code, inverse_of}
 use Rattle.algebra.specs.FieldOf.{FieldOf}
+use Rattle.algebra.proofs.SymbolNumbers.{number_plus, number_times}
 use Rattle.algebra.proofs.RingLaws.{plus_zero, plus_self, equal_of_sum, times_assoc, times_comm, one_times, plus_times, times_zero}
 
 module _ (C : Code) (F : FieldOf C) where
@@ -52,60 +53,52 @@ module _ (C : Code) (F : FieldOf C) where
   zero_element a h e = symbol_injective a 0 h zero_symbol (e ∙ sym element_zero)
 
   module _ (a b : ℕ) (ha : a < C.symbols) (hb : b < C.symbols) where
-    -- the number of a sum of elements
-    number_plus : φ (G.add (F.element a) (F.element b)) ≡ C.plus a b
-    number_plus = F.number.φ_add (F.element a) (F.element b) ∙ ap₂ C.plus (F.number_element a ha) (F.number_element b hb)
-
-    -- the number of a product of elements
-    number_times : φ (G.mul (F.element a) (F.element b)) ≡ C.times a b
-    number_times = F.number.φ_mul (F.element a) (F.element b) ∙ ap₂ C.times (F.number_element a ha) (F.number_element b hb)
-
     -- a sum of symbols is a symbol
     pub plus_symbol : C.plus a b < C.symbols
-    plus_symbol = subst (λ (c : ℕ). c < C.symbols) number_plus (F.number_symbol (G.add (F.element a) (F.element b)))
+    plus_symbol = subst (λ (c : ℕ). c < C.symbols) (number_plus C F a b ha hb) (F.number_symbol (G.add (F.element a) (F.element b)))
 
     -- a product of symbols is a symbol
     pub times_symbol : C.times a b < C.symbols
-    times_symbol = subst (λ (c : ℕ). c < C.symbols) number_times (F.number_symbol (G.mul (F.element a) (F.element b)))
+    times_symbol = subst (λ (c : ℕ). c < C.symbols) (number_times C F a b ha hb) (F.number_symbol (G.mul (F.element a) (F.element b)))
 
     -- the element of a sum
     pub element_plus : F.element (C.plus a b) ≡ F.ring.ops.add (F.element a) (F.element b)
-    element_plus = ap F.element (sym number_plus) ∙ F.element_number (G.add (F.element a) (F.element b))
+    element_plus = ap F.element (sym (number_plus C F a b ha hb)) ∙ F.element_number (G.add (F.element a) (F.element b))
 
     -- the element of a product
     pub element_times : F.element (C.times a b) ≡ F.ring.ops.mul (F.element a) (F.element b)
-    element_times = ap F.element (sym number_times) ∙ F.element_number (G.mul (F.element a) (F.element b))
+    element_times = ap F.element (sym (number_times C F a b ha hb)) ∙ F.element_number (G.mul (F.element a) (F.element b))
 
   -- the product of symbols is commutative
   pub times_turned : (a b : ℕ) → a < C.symbols → b < C.symbols → C.times a b ≡ C.times b a
-  times_turned a b ha hb = sym (number_times a b ha hb) ∙ ap φ (times_comm F.ring (F.element a) (F.element b)) ∙ number_times b a hb ha
+  times_turned a b ha hb = sym (number_times C F a b ha hb) ∙ ap φ (times_comm F.ring (F.element a) (F.element b)) ∙ number_times C F b a hb ha
 
   module _ (a b c : ℕ) (ha : a < C.symbols) (hb : b < C.symbols) (hc : c < C.symbols) where
     -- and associative
     pub times_grouped : C.times a (C.times b c) ≡ C.times (C.times a b) c
     times_grouped =
-        sym (F.number.φ_mul (F.element a) (G.mul (F.element b) (F.element c)) ∙ ap₂ C.times (F.number_element a ha) (number_times b c hb hc))
+        sym (F.number.φ_mul (F.element a) (G.mul (F.element b) (F.element c)) ∙ ap₂ C.times (F.number_element a ha) (number_times C F b c hb hc))
         ∙ ap φ (sym (times_assoc F.ring (F.element a) (F.element b) (F.element c)))
-        ∙ F.number.φ_mul (G.mul (F.element a) (F.element b)) (F.element c) ∙ ap₂ C.times (number_times a b ha hb) (F.number_element c hc)
+        ∙ F.number.φ_mul (G.mul (F.element a) (F.element b)) (F.element c) ∙ ap₂ C.times (number_times C F a b ha hb) (F.number_element c hc)
 
     -- a sum of multiples of a symbol is the multiple by the sum
     pub times_joined : C.plus (C.times a c) (C.times b c) ≡ C.times (C.plus a b) c
     times_joined =
         sym (F.number.φ_add (G.mul (F.element a) (F.element c)) (G.mul (F.element b) (F.element c))
-        ∙ ap₂ C.plus (number_times a c ha hc) (number_times b c hb hc))
+        ∙ ap₂ C.plus (number_times C F a c ha hc) (number_times C F b c hb hc))
         ∙ ap φ (sym (plus_times F.ring (F.element a) (F.element b) (F.element c)))
-        ∙ F.number.φ_mul (G.add (F.element a) (F.element b)) (F.element c) ∙ ap₂ C.times (number_plus a b ha hb) (F.number_element c hc)
+        ∙ F.number.φ_mul (G.add (F.element a) (F.element b)) (F.element c) ∙ ap₂ C.times (number_plus C F a b ha hb) (F.number_element c hc)
 
   -- once a symbol is the symbol
   pub once_times : (a : ℕ) → a < C.symbols → C.times 1 a ≡ a
   once_times a h =
-      sym (number_times 1 a one_symbol h) ∙ ap (λ (x : G.K). φ (G.mul x (F.element a))) element_one ∙ ap φ (one_times F.ring (F.element a))
+      sym (number_times C F 1 a one_symbol h) ∙ ap (λ (x : G.K). φ (G.mul x (F.element a))) element_one ∙ ap φ (one_times F.ring (F.element a))
       ∙ F.number_element a h
 
   -- a sum with 0 is the other summand
   pub plus_none : (a : ℕ) → a < C.symbols → C.plus a 0 ≡ a
   plus_none a h =
-      sym (number_plus a 0 h zero_symbol) ∙ ap (λ (x : G.K). φ (G.add (F.element a) x)) element_zero ∙ ap φ (plus_zero F.ring (F.element a))
+      sym (number_plus C F a 0 h zero_symbol) ∙ ap (λ (x : G.K). φ (G.add (F.element a) x)) element_zero ∙ ap φ (plus_zero F.ring (F.element a))
       ∙ F.number_element a h
 
   -- equal symbols sum to zero
@@ -122,7 +115,7 @@ module _ (C : Code) (F : FieldOf C) where
   -- a product with 0 is 0
   pub times_none : (a : ℕ) → a < C.symbols → C.times a 0 ≡ 0
   times_none a h =
-      sym (number_times a 0 h zero_symbol) ∙ ap (λ (x : G.K). φ (G.mul (F.element a) x)) element_zero ∙ ap φ (times_zero F.ring (F.element a))
+      sym (number_times C F a 0 h zero_symbol) ∙ ap (λ (x : G.K). φ (G.mul (F.element a) x)) element_zero ∙ ap φ (times_zero F.ring (F.element a))
       ∙ F.number.φ_zero
 
   -- on both sides

@@ -10,7 +10,7 @@ use Rattle.definitions.specs.Field.{power, value}
 use Rattle.definitions.specs.Polynomial.{Term, derivative, hasse}
 use Rattle.definitions.specs.Roots.{plus, scaled, powers}
 use Rattle.algebra.specs.Ring.{Ring}
-use Rattle.algebra.proofs.Binomials.{derivative_is_coefficient, derivative_in_series}
+use Rattle.algebra.proofs.Derivatives.{derivative_is_coefficient, derivative_in_series}
 use Rattle.algebra.proofs.Carry.{carried, carry_derivative}
 use Rattle.algebra.proofs.Composition.{value_at}
 use Rattle.algebra.proofs.Polynomials.{value_plus, value_scaled, value_powers, coefficient_plus, coefficient_scaled}

@@ -3,7 +3,7 @@
 -- Assumes nothing.
 use mathlib.Core.List.{List, [], ◌∷◌}
 use mathlib.Core.Path.{◌≡◌, refl, sym, ap}
-use Prim.Native.Nat.{ℕ, zero, suc, ◌+◌, ◌*◌, ◌≤◌, ◌<◌}
+use Prim.Native.Nat.{ℕ, zero, suc, ◌+◌, ◌≤◌, ◌<◌}
 use native.Mathlib.Nat.{le_of_suc-le-suc, not-suc-le-zero}
 use native.Mathlib.Omega.{arith}
 use lib.ListN.{length, get_or}
@@ -63,12 +63,6 @@ module _ (A : Ops) where
   length_times (c ∷ d ∷ p) q (suc a) b hp hq =
       let h = length_times (d ∷ p) q a b (le_of_suc-le-suc hp) hq in
       length_plus (scaled A c q) (o ∷ times A (d ∷ p) q) (suc (suc a + b)) (omega (arith, length_scaled c q)) (omega arith)
-
-  -- and a power multiplies the degree
-  pub length_powers : (p : List K) (n v : ℕ) → length p ≤ suc v → length (powers A p n) ≤ suc (n * v)
-  unfolding powers
-  length_powers p zero v h = omega arith
-  length_powers p (suc n) v h = let r = length_times p (powers A p n) v (n * v) h (length_powers p n v h) in omega arith
 
 module _ (R : Ring) where
   open R.ops use {K, o, i, add as ◌⊕◌, mul as ◌⊗◌}

@@ -18,7 +18,7 @@ use Rattle.algebra.specs.FieldOf.{FieldOf}
 use Rattle.algebra.proofs.Numbers.{elements, point_symbol, number_value_at, compose_zero}
 use Rattle.algebra.proofs.Passing.{point_element, multiplicity_of, number_point, elements_pass}
 use Rattle.algebra.proofs.RootCounting.{Distinct}
-use Rattle.algebra.proofs.Theorem.{score_above_degree_of_list}
+use Rattle.algebra.proofs.TheoremOfLists.{score_above_degree_of_list}
 
 module _ (C : Code) (F : FieldOf C) where
   -- the operations on elements

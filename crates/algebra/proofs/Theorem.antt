@@ -6,13 +6,12 @@ use Prim.Native.Nat.{ℕ, suc, ◌≤◌, ◌<◌}
 use native.Mathlib.Omega.{arith}
 use lib.ListN.{length}
 use Rattle.definitions.specs.Field.{value}
-use Rattle.definitions.specs.Polynomial.{Term, terms, monomials, Passes}
+use Rattle.definitions.specs.Polynomial.{Term, Passes}
 use Rattle.definitions.specs.Roots.{compose}
 use Rattle.definitions.specs.Tools.{sum}
 use Rattle.algebra.specs.Ring.{Ring, IsField}
 use Rattle.algebra.proofs.Composition.{DegreeAtMost, length_compose}
 use Rattle.algebra.proofs.KeyLemma.{key_lemma}
-use Rattle.algebra.proofs.Monomials.{list_degree}
 use Rattle.algebra.proofs.RootCounting.{Zero, Distinct, root_counting}
 
 module _ (A : Ring) where
@@ -33,10 +32,3 @@ module _ (A : Ring) (F : IsField A) where
       let l = length_compose A.ops f v D short q degree in
       root_counting A F n x (λ j. m j (value A.ops (x j) f)) distinct (compose A.ops f q) (omega arith)
       (λ j h. key_lemma A f q (x j) (m j (value A.ops (x j) f)) (passes j h (value A.ops (x j) f)))
-
-  -- for a list of coefficients in document 01's order
-  pub score_above_degree_of_list : (n : ℕ) (x : ℕ → K) (m : ℕ → K → ℕ) (v D : ℕ) (q f : List K)
-      → Distinct A.ops n x → PassesThrough A n x m (terms A.ops q (monomials v D))
-      → length f ≤ suc v → D < sum n (λ j. m j (value A.ops (x j) f)) → Zero A.ops (compose A.ops f (terms A.ops q (monomials v D)))
-  score_above_degree_of_list n x m v D q f distinct passes short above =
-      score_above_degree n x m v D (terms A.ops q (monomials v D)) f distinct (list_degree A.ops v D q) passes short above

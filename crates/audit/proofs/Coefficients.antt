@@ -10,7 +10,7 @@ use native.Mathlib.Decide.{ℕ_discrete}
 use borrow.Author.Tests.{eq-eqb, ne_eqb}
 use lib.Dec.{eqb}
 use lib.ListN.{get_or}
-use Rattle.algebra.proofs.Binomials.{derivative_in_series}
+use Rattle.algebra.proofs.Derivatives.{derivative_in_series}
 use Rattle.algebra.proofs.Carry.{carry_power}
 use Rattle.algebra.proofs.Composition.{value_at, evaluate_compose}
 use Rattle.algebra.proofs.Evaluation.{evaluate}

@@ -4,9 +4,8 @@ use mathlib.Core.Path.{◌≡◌, sym}
 use Prim.Native.Nat.{ℕ, suc, ◌+◌, ◌-◌, ◌*◌, ◌/◌, ◌≤◌, ◌<◌}
 use native.Mathlib.Decide.{dec_lt}
 use native.Mathlib.Nat.{mul-add, mul_comm, mul_left_comm, mul-le-mul, mul-le-mul_left, div-eq_of_lt-le}
-use native.Mathlib.Numerals.{add-one}
 use native.Mathlib.Omega.{arith}
-use Rattle.bound.specs.Direct.{Largest, DirectForm}
+use Rattle.bound.specs.Direct.{Largest}
 use Rattle.definitions.proofs.Bound.{bound_is_least}
 use Rattle.definitions.proofs.Powers.{count_closed, count_at_bound, powers_within, powers_enough}
 use Rattle.definitions.specs.Bound.{bound}
@@ -53,10 +52,3 @@ module _ (v : ℕ) (pos : 1 ≤ v) (C : ℕ) where
       let above = (bound_is_least v pos C).0 in
       let whole : (2 * C + v * (suc j * j)) / (2 * suc j) ≡ bound v C = div-eq_of_lt-le (2 * suc j) (omega arith) (omega arith) in
       rw (e, f) (sym whole)
-
-pub direct_form : DirectForm
-direct_form = record {
-  largest_powers = λ v C pos. rw (add-one (bound v C / v)) (largest_powers v pos C);
-  largest_once = λ v C m n a b. largest_once v C m n a b;
-  direct = λ v C m pos largest. direct v pos C m largest;
-}

@@ -1,2 +1,3 @@
 pub mod Direct
+pub mod Form
 pub mod Powers

@@ -19,21 +19,7 @@ use Rattle.algebra.specs.FieldOf.{FieldOf}
 use Rattle.algebra.proofs.Finite.{Tested, finite}
 use Rattle.algebra.proofs.Score as Score
 use Rattle.algebra.proofs.Tests.{every}
-
--- what is computed of sixteen symbols: at most 256 pairs
-sixteen_tested : Tested 4 19 sixteen.positions
-unfolding every sum_of double shifted smallest power
-sixteen_tested =
-    record {
-      wide = omega arith;
-      double_symbol = tt;
-      double_sum = tt;
-      double_product = tt;
-      product_comm = tt;
-      product_one = tt;
-      product_inverse = tt;
-      points_differ = tt;
-    }
+use Rattle.instances.proofs.SixteenTested.{sixteen_tested}
 
 -- the numbers below 16, with the sum and the product of document 01, are a field whose fifteen points differ
 pub sixteen_field : FieldOf sixteen
