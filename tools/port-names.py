@@ -60,8 +60,9 @@ def main():
     texts = {it: read(it) for it in files(".antt")}
     sources = {it: read(it) for it in files(".rt")}
     given, fields, foreign = set(), set(), set()
+    imported = lambda text: {it.split(" as ")[0].strip() for _, all in OF_OTHERS.findall(text) for it in all.split(",")}
     for path, text in texts.items():
-        foreign.update(it.split(" as ")[0].strip() for _, all in OF_OTHERS.findall(text) for it in all.split(","))
+        foreign |= imported(text)
         if of_a_function(path):
             continue
         for record in re.findall(r"(?ms)^ *pub record .*?(?=\n\n|\Z)", text):
@@ -74,8 +75,8 @@ def main():
                 given.add(here[1])
     turned = {}
 
-    def turn(token):
-        if token in foreign or not is_own(token):
+    def turn(token, here=()):
+        if token in here or token in foreign and token not in fields or not is_own(token):
             return token
         if token not in turned:
             turned[token] = snake(token)
@@ -85,6 +86,7 @@ def main():
     for path, text in texts.items():
         seen = {}
         proof = of_a_function(path)
+        here = imported(text)
 
         def each(match):
             token = match[0]
@@ -98,7 +100,7 @@ def main():
             if line.endswith(".") and token not in (fields if proof else given):
                 return token
             law = token in LAWS and not (proof and line.endswith("."))
-            new = LAWS[token] if law else turn(token)
+            new = LAWS[token] if law else turn(token, here)
             if seen.setdefault(new, token) != token:
                 wrong.append(f"{path}: {seen[new]} and {token} would both be {new}")
             return new

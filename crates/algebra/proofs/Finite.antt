@@ -246,12 +246,12 @@ module _ (w modulus : ℕ) where
             ops = record { K = Fin (2 ^ w); o = zero_e; i = one_e; add = add_e; mul = mul_e };
             add_assoc = add_e_assoc;
             add_comm = add_e_comm;
-            add-zero = add_e_zero;
+            add_zero = add_e_zero;
             add_self = add_e_self;
             mul_assoc = mul_e_assoc;
             mul_comm = mul_e_comm;
-            mul-one = mul_e_one;
-            mul-add = mul_e_add;
+            mul_one = mul_e_one;
+            mul_add = mul_e_add;
           }
 
       -- and its inverses

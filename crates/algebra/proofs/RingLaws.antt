@@ -23,7 +23,7 @@ module _ (R : Ring) where
 
   -- zero is neutral
   pub plus_zero : (a : K) → a ⊕ o ≡ a
-  plus_zero a = R.add-zero a
+  plus_zero a = R.add_zero a
 
   -- on both sides
   pub zero_plus : (a : K) → o ⊕ a ≡ a
@@ -51,7 +51,7 @@ module _ (R : Ring) where
 
   -- one is neutral
   pub times_one : (a : K) → a ⊗ i ≡ a
-  times_one a = R.mul-one a
+  times_one a = R.mul_one a
 
   -- on both sides
   pub one_times : (a : K) → i ⊗ a ≡ a
@@ -59,7 +59,7 @@ module _ (R : Ring) where
 
   -- products distribute over sums
   pub times_plus : (a b c : K) → a ⊗ (b ⊕ c) ≡ a ⊗ b ⊕ a ⊗ c
-  times_plus a b c = R.mul-add a b c
+  times_plus a b c = R.mul_add a b c
 
   -- on both sides
   pub plus_times : (a b c : K) → (a ⊕ b) ⊗ c ≡ a ⊗ c ⊕ b ⊗ c

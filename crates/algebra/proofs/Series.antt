@@ -230,12 +230,12 @@ module _ (R : Ring) where
         ops = record { K = ℕ → K; o = zero_s; i = constant i; add = add_s; mul = mul_s };
         add_assoc = add_s_assoc;
         add_comm = add_s_comm;
-        add-zero = add_s_zero;
+        add_zero = add_s_zero;
         add_self = add_s_self;
         mul_assoc = mul_s_assoc_s;
         mul_comm = mul_s_comm_s;
-        mul-one = mul_s_one;
-        mul-add = mul_s_add_s;
+        mul_one = mul_s_one;
+        mul_add = mul_s_add_s;
       }
 
   -- the constant 0 is zero

@@ -8,12 +8,12 @@ pub record Ring : Type 1 where
   pub ops : Ops
   pub add_assoc : (a b c : ops.K) → ops.add (ops.add a b) c ≡ ops.add a (ops.add b c)
   pub add_comm : (a b : ops.K) → ops.add a b ≡ ops.add b a
-  pub add-zero : (a : ops.K) → ops.add a ops.o ≡ a
+  pub add_zero : (a : ops.K) → ops.add a ops.o ≡ a
   pub add_self : (a : ops.K) → ops.add a a ≡ ops.o
   pub mul_assoc : (a b c : ops.K) → ops.mul (ops.mul a b) c ≡ ops.mul a (ops.mul b c)
   pub mul_comm : (a b : ops.K) → ops.mul a b ≡ ops.mul b a
-  pub mul-one : (a : ops.K) → ops.mul a ops.i ≡ a
-  pub mul-add : (a b c : ops.K) → ops.mul a (ops.add b c) ≡ ops.add (ops.mul a b) (ops.mul a c)
+  pub mul_one : (a : ops.K) → ops.mul a ops.i ≡ a
+  pub mul_add : (a b c : ops.K) → ops.mul a (ops.add b c) ≡ ops.add (ops.mul a b) (ops.mul a c)
 
 -- a field: what is not zero has an inverse
 pub record IsField (R : Ring) : Type 0 where

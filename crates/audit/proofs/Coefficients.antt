@@ -135,7 +135,7 @@ module _ (A : Ring) where
       ∙ elim (ℕ_discrete b t) [
         | yes e ↦
             let one : power T.ops Y b t ≡ constant A i = ap (power T.ops Y b) (sym e) ∙ x_same (Series A) b in
-            ap (λ (u : ℕ → K). mul_s A (in_x c a) u s) one ∙ ap (λ (u : ℕ → K). u s) ((Series A).mul-one (in_x c a))
+            ap (λ (u : ℕ → K). mul_s A (in_x c a) u s) one ∙ ap (λ (u : ℕ → K). u s) ((Series A).mul_one (in_x c a))
             ∙ constant_mul A c (power (Series A).ops (linear A o) a) s ∙ sym (times_one A (c ⊗ power (Series A).ops (linear A o) a s))
             ∙ term_at A c (power (Series A).ops (linear A o) a s) i a s b t (λ g. ap (power (Series A).ops (linear A o) a) (sym g) ∙ x_same A a) (x_other A a s)
             (λ _. refl) (λ n. absurd (n e))
