@@ -15,8 +15,7 @@
  *
  * Calls may run side by side in several threads, each with output of its own. A call's working
  * memory is its own, on the stack: 64 KiB are enough for an interpolation and for a list, 24 KiB for
- * kv_roots, 10 KiB for the check of a proposal and 4 KiB for every other call, on x86-64 and on 64-bit
- * Arm.
+ * kv_roots, 10 KiB for the check of a proposal and 4 KiB for every other call, on x86-64.
  */
 #ifndef KV_H
 #define KV_H
