@@ -30,7 +30,9 @@ doubled-requires-3 c κs =
     still_symbols Sixteen 4 (omega arith) (one at_doubled_two) c.doubled-four.result c.requires (is-four c.before)
 
 -- Twice the multiple 4 is the multiple 8.
-is-eight : (eight : tie.After-doubled-eight) → ScaledBlock (code_on Sixteen) 8 (one eight.before.before.before.before) eight.doubled-eight.result
+is-eight : (eight : tie.After-doubled-eight)
+    → (let at_doubled_two = eight.before.before.before.before in
+    ScaledBlock (code_on Sixteen) 8 (one at_doubled_two) eight.doubled-eight.result)
 is-eight eight =
     let at_doubled_two = eight.before.before.before.before in
     eighth Sixteen (one at_doubled_two) eight.doubled-four.result eight.doubled-eight.result eight.requires (is-four eight.before.before) eight.doubled-eight.ensures

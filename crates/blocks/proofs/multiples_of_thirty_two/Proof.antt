@@ -39,7 +39,9 @@ abbrev at-four : tie.After-doubled-eight → tie.After-doubled-four
 at-four eight = eight.before.before
 
 -- Twice the multiple 4 is the multiple 8.
-is-eight : (eight : tie.After-doubled-eight) → ScaledBlock (code_on ThirtyTwo) 8 (one eight.before.before.before.before) eight.doubled-eight.result
+is-eight : (eight : tie.After-doubled-eight)
+    → (let at_doubled_two = eight.before.before.before.before in
+    ScaledBlock (code_on ThirtyTwo) 8 (one at_doubled_two) eight.doubled-eight.result)
 is-eight eight =
     let at_doubled_two = eight.before.before.before.before in
     eighth ThirtyTwo (one at_doubled_two) eight.doubled-four.result eight.doubled-eight.result eight.requires (is-four eight.before.before) eight.doubled-eight.ensures
@@ -54,7 +56,8 @@ at-eight high = high.before.before
 
 -- The first sixteen multiples are there when 1, 2, 4 and 8 are filled in.
 sixteen : (f8 : tie.After-fill-4)
-    → (let high = f8.before.before.before.before.before.before.before.before.before.before.before.before.before.before in
+    → (let at_doubled_sixteen = f8.before.before.before.before.before.before.before.before.before.before.before.before.before.before in
+    let high = at_doubled_sixteen in
     MultiplesBlock (code_on ThirtyTwo) 16 (one (at-two (at-four (at-eight high)))) f8.fill-4.new.times)
 sixteen f8 =
     let at_doubled_four = f8.before.before.before.before.before.before.before.before.before.before.before.before.before.before.before.before.before.before in

@@ -66,7 +66,8 @@ filledRow p = p.powers.new.row
 
 -- The row is filled with the powers of the position's point.
 of-x : (p : tie.After-powers invariant-loop decreases-loop)
-    → (filledRow p ≡ powers_row (code_at p.before.before.before) (p.args.d + 1) (point (code_at p.before.before.before) p.loop-i.i))
+    → (let at_loop_i = p.before.before.before in
+    filledRow p ≡ powers_row (code_at at_loop_i) (p.args.d + 1) (point (code_at at_loop_i) p.loop-i.i))
 of-x p =
     let at_loop_i = p.before.before.before in
     p.powers.ensures ∙ ap (powers_row (code_at at_loop_i) (p.args.d + 1)) p.loop-i.invariant.2
@@ -77,7 +78,9 @@ rows_by l px es = let a = l.args in masked_column (code_at l) px (a.d / a.v + 1)
 
 -- What is put are the rows of the position.
 is-column : (p : tie.After-powers invariant-loop decreases-loop)
-    → (rows_by p.before.before.before (filledRow p) p.exponents-es.result ≡ rows_of p.before.before.before.before.before.before.before p.loop-i.i)
+    → (let start = p.before.before.before.before.before.before.before in
+    let at_loop_i = p.before.before.before in
+    rows_by at_loop_i (filledRow p) p.exponents-es.result ≡ rows_of start p.loop-i.i)
 is-column p =
     let at_loop_i = p.before.before.before in
     ap₂ (rows_by at_loop_i) (of-x p) p.exponents-es.ensures

@@ -45,7 +45,9 @@ powers-requires c κs =
     (c.requires.0, (omega arith, omega arith, zeros_from c.args.n))
 
 -- The row is filled with the powers of y.
-of-y : (p : tie.After-powers) → p.powers.new.row ≡ powersOf p.before.before.before.before.before
+of-y : (p : tie.After-powers)
+    → (let start = p.before.before.before.before.before in
+    p.powers.new.row ≡ powersOf start)
 of-y p = let a = p.args in p.powers.ensures ∙ ap (powers_row (code_on a.alphabet) a.n) p.base_at.ensures
 
 values-requires : tie.Need-values-requires
@@ -57,7 +59,9 @@ values-requires c κs =
     (c.requires.0, ((c.requires.1.0.0, subst (Symbols C) (sym (of-y c.before.before)) y), (c.requires.1.0.1, omega arith, zeros_from (a.blocks * block))))
 
 -- The row is filled with the values at the point.
-at-point : (v : tie.After-values) → (v.values.new.row ≡ valuesBy v.before.before.before.before.before.before.before.before (powersOf v.before.before.before.before.before.before.before.before))
+at-point : (v : tie.After-values)
+    → (let start = v.before.before.before.before.before.before.before.before in
+    v.values.new.row ≡ valuesBy start (powersOf start))
 at-point v =
     let start = v.before.before.before.before.before.before.before.before in
     let at_powers = v.before.before.before in

@@ -39,7 +39,9 @@ lowest-sum-requires c κs =
     let start = c.before.before.before in
     let e = (right start).full in let o = c.requires.1 in omega arith
 
-lowest : (b : tie.After-lowest_sum-bad) → (b.lowest_sum-bad.result ≡ lowest_above (code b.before.before.before.before) (three b.before.before.before.before))
+lowest : (b : tie.After-lowest_sum-bad)
+    → (let start = b.before.before.before.before in
+    b.lowest_sum-bad.result ≡ lowest_above (code start) (three start))
 lowest b =
     let start = b.before.before.before.before in
     b.lowest_sum-bad.ensures (code start) (right start).full
@@ -52,7 +54,9 @@ returns c =
     (let f = (right start).full in omega arith)
 
 -- no entry is above 5
-passed : (c : tie.Else-bad-entries) → ((in_or_out (code c.before.before.before.before.before) (three c.before.before.before.before.before)).given ≡ false)
+passed : (c : tie.Else-bad-entries)
+    → (let start = c.before.before.before.before.before in
+    (in_or_out (code start) (three start)).given ≡ false)
 passed c =
     let start = c.before.before.before.before.before in
     not_given (code start) (three start) (handed start) (held_of (code start) c.args.n (sum start)) c.lowest_sum-bad.result (lowest c.before)

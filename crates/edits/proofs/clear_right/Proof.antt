@@ -43,7 +43,9 @@ totalled : (s : tie.Start) → s.args.position < length s.args.totals.now
 totalled s = let t = length_stored (code s) (handed s) (right s) in let p = here s in omega arith
 
 -- the lowest of what goes in and comes out
-lowest : (b : tie.After-first_above-bad) → (b.first_above-bad.result ≡ lowest_above (code b.before.before.before) (both b.before.before.before))
+lowest : (b : tie.After-first_above-bad)
+    → (let start = b.before.before.before in
+    b.first_above-bad.result ≡ lowest_above (code start) (both start))
 lowest b =
     let start = b.before.before.before in
     b.first_above-bad.ensures ∙ lowest_cleared (code start) b.args.entries.now (right start).full b.args.position (here start)
@@ -68,7 +70,8 @@ column y =
 
 -- the cost of the part that is lent is the column's
 paid : (p : tie.After-cost-of_column)
-    → (p.cost-of_column.result ≡ cost (take (code p.before.before.before.before.before.before.before).symbols (drop ((code p.before.before.before.before.before.before.before).symbols * p.args.position) p.args.entries.now)))
+    → (let start = p.before.before.before.before.before.before.before in
+    p.cost-of_column.result ≡ cost (take (code start).symbols (drop ((code start).symbols * p.args.position) p.args.entries.now)))
 paid p =
     let q = p.symbols-symbols.result in
     let e : q * p.args.position + q - q * p.args.position ≡ q = omega arith in
@@ -77,7 +80,9 @@ paid p =
     (ap (λ (x : ℕ). x * p.args.position) p.symbols-symbols.ensures)
 
 -- zeros are laid over the column
-cleared : (k : tie.After-clear) → k.clear.new.out ≡ after k.before.before.before.before.before.before.before.before.before
+cleared : (k : tie.After-clear)
+    → (let start = k.before.before.before.before.before.before.before.before.before in
+    k.clear.new.out ≡ after start)
 cleared k =
     let start = k.before.before.before.before.before.before.before.before.before in
     k.clear.ensures
@@ -85,7 +90,9 @@ cleared k =
     ∙ laid_cleared (code start) k.args.entries.now k.args.position
 
 -- what is left with the column's cost is the stored cost
-moved : (p : tie.After-cost-of_column) → (cost (after p.before.before.before.before.before.before.before) + p.cost-of_column.result ≡ p.args.cost)
+moved : (p : tie.After-cost-of_column)
+    → (let start = p.before.before.before.before.before.before.before in
+    cost (after start) + p.cost-of_column.result ≡ p.args.cost)
 moved p =
     let start = p.before.before.before.before.before.before.before in
     without_column_lem (code start) (handed start) (right start) p.args.position (here start) p.cost-of_column.result (paid p)

@@ -46,7 +46,9 @@ totalled s = let t = length_stored (code s) (handed s) (right s) in let p = here
 abbrev at : tie.After-symbols → ℕ
 at y = y.symbols.result * y.args.position + y.args.symbol
 
-at-is : (y : tie.After-symbols) → (at y ≡ (code y.before.before.before).symbols * y.args.position + y.args.symbol)
+at-is : (y : tie.After-symbols)
+    → (let start = y.before.before.before in
+    at y ≡ (code start).symbols * y.args.position + y.args.symbol)
 at-is y = ap (λ (q : ℕ). q * y.args.position + y.args.symbol) y.symbols.ensures
 
 within : (y : tie.After-symbols) → at y < length y.args.entries.now
@@ -56,11 +58,15 @@ within y =
     let w = at_within (code start) (handed start) (right start) y.args.position (here start) y.args.symbol y.args.entry y.requires.0.2 in
     omega arith
 
-set_there : (y : tie.After-symbols) → (set y.args.entries.now (at y) y.args.entry ≡ after y.before.before.before)
+set_there : (y : tie.After-symbols)
+    → (let start = y.before.before.before in
+    set y.args.entries.now (at y) y.args.entry ≡ after start)
 set_there y = ap (λ (j : ℕ). set y.args.entries.now j y.args.entry) (at-is y)
 
 -- the lowest of what goes in and comes out
-lowest : (b : tie.After-lowest_set-bad) → (b.lowest_set-bad.result ≡ lowest_above (code b.before.before.before.before) (both b.before.before.before.before))
+lowest : (b : tie.After-lowest_set-bad)
+    → (let start = b.before.before.before.before in
+    b.lowest_set-bad.result ≡ lowest_above (code start) (both start))
 lowest b =
     let start = b.before.before.before.before in
     b.lowest_set-bad.ensures (code start) (right start).full ∙ ap (λ (l : List ℕ). lowest_above (code start) (b.args.entries.now ∷ l ∷ [])) (set_there b.before)
@@ -72,7 +78,9 @@ returns c =
     above_refused (code start) (both start) (handed start) (held_of (code start) c.args.n (after start)) c.lowest_set-bad.result (lowest c.before)
     (let f = (right start).full in omega arith)
 
-passed : (c : tie.Else-bad-entries) → ((in_or_out (code c.before.before.before.before.before) (both c.before.before.before.before.before)).given ≡ false)
+passed : (c : tie.Else-bad-entries)
+    → (let start = c.before.before.before.before.before in
+    (in_or_out (code start) (both start)).given ≡ false)
 passed c =
     let start = c.before.before.before.before.before in
     not_given (code start) (both start) (handed start) (held_of (code start) c.args.n (after start)) c.lowest_set-bad.result (lowest c.before)
@@ -99,13 +107,17 @@ abbrev old : tie.After-symbols → ℕ
 old y = get_or y.args.entries.now (at y) 0
 
 -- the new total with the old entry is the old total with the new one
-total_moved : (y : tie.After-symbols) → (sum_of_column (code y.before.before.before) (after y.before.before.before) y.args.position + old y ≡ get_or y.args.totals.now y.args.position 0 + y.args.entry)
+total_moved : (y : tie.After-symbols)
+    → (let start = y.before.before.before in
+    sum_of_column (code start) (after start) y.args.position + old y ≡ get_or y.args.totals.now y.args.position 0 + y.args.entry)
 total_moved y =
     let start = y.before.before.before in
     ap (λ (j : ℕ). sum_of_column (code start) (after start) y.args.position + get_or y.args.entries.now j 0) (at-is y)
     ∙ total_moves (code start) (handed start) (right start) y.args.position (here start) y.args.symbol y.args.entry y.requires.0.2
 
-cost-moved : (y : tie.After-symbols) → (cost (after y.before.before.before) + entry_cost (old y) ≡ y.args.cost + entry_cost y.args.entry)
+cost-moved : (y : tie.After-symbols)
+    → (let start = y.before.before.before in
+    cost (after start) + entry_cost (old y) ≡ y.args.cost + entry_cost y.args.entry)
 cost-moved y =
     let start = y.before.before.before in
     ap (λ (j : ℕ). cost (after start) + entry_cost (get_or y.args.entries.now j 0)) (at-is y)

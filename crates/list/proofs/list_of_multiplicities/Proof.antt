@@ -22,7 +22,9 @@ front s =
     let a = s.args in
     list_front (code_on a.alphabet) a.n a.k a.limit a.matrix.now (length a.rows.now) (length a.scores.now)
 
-came : (c : tie.After-symbols-checked) → Came (front c.before.before.before.before.before.before.before.before.before) [] (told_checked c.symbols-checked.result)
+came : (c : tie.After-symbols-checked)
+    → (let entry = c.before.before.before.before.before.before.before.before.before in
+    Came (front entry) [] (told_checked c.symbols-checked.result))
 came c =
     start ▸ c.sizes.ensures ▸ c.or.ensures ▸ c.entries.ensures ▸ c.room.ensures ▸ c.or-2.ensures ▸ c.symbols-checked.ensures
 

@@ -41,7 +41,9 @@ settle s =
     let a = s.args in
     read_fits (code_on a.alphabet) a.n a.k a.level a.limit a.reliabilities.now (length a.rows.now) (length a.scores.now)
 
-settled : (c : tie.After-or-settled) → Came (settings c.before.before.before.before.before.before.before.before.before) [] (told_checked c.or-settled.result)
+settled : (c : tie.After-or-settled)
+    → (let entry = c.before.before.before.before.before.before.before.before.before in
+    Came (settings entry) [] (told_checked c.or-settled.result))
 settled c =
     start ▸ c.sizes.ensures ▸ c.level.ensures ▸ c.or.ensures ▸ c.entries.ensures ▸ c.room.ensures ▸ c.or-settled.ensures
 
@@ -53,7 +55,8 @@ columns-checked-requires c κs e =
     (f.1.sized.2, omega arith)
 
 came : (c : tie.After-columns_checked-checked)
-    → (Came (settings c.before.before.before.before.before.before.before.before.before.before ++ sums c.before.before.before.before.before.before.before.before.before.before) [] (told_checked c.columns_checked-checked.result))
+    → (let entry = c.before.before.before.before.before.before.before.before.before.before in
+    Came (settings entry ++ sums entry) [] (told_checked c.columns_checked-checked.result))
 came c =
     let entry = c.before.before.before.before.before.before.before.before.before.before in
     further (sums entry) (settled c.before) ▸ c.columns_checked-checked.ensures
@@ -69,7 +72,9 @@ returns c =
     let a = c.args in
     refused_by_check (code_on a.alphabet) a.n a.k (cost_left a.limit) (made entry) a.rows.now a.scores.now (came c.before) c.in-Refused.is
 
-fit : (t : tie.In_default) → Settled t.before.before.before.before.before.before.before.before.before.before.before
+fit : (t : tie.In_default)
+    → (let entry = t.before.before.before.before.before.before.before.before.before.before.before in
+    Settled entry)
 fit t =
     let entry = t.before.before.before.before.before.before.before.before.before.before.before in
     settle entry (accepts_front _ (sums entry) (accepted (came t.before) t.in_default.is))
@@ -80,7 +85,9 @@ weigh-requires c κs =
     let f = fit c.before in
     (f.0, bytes_within (code_on a.alphabet) a.n a.reliabilities.now f.1.sized.2 f.2, omega arith)
 
-size : (t : tie.In_default) → (length (made t.before.before.before.before.before.before.before.before.before.before.before) ≡ (code_on t.args.alphabet).symbols * t.args.n)
+size : (t : tie.In_default)
+    → (let entry = t.before.before.before.before.before.before.before.before.before.before.before in
+    length (made entry) ≡ (code_on t.args.alphabet).symbols * t.args.n)
 size t = let a = t.args in length_matrix a.level a.reliabilities.now ∙ (fit t).2
 
 list-priced-requires : tie.Need-list_priced-requires

@@ -34,7 +34,9 @@ returns c =
     refused_by_cost (code_of start) a.n a.k a.limit (bytes start) a.rows.now a.scores.now [] (omega arith)
 
 -- the columns are those of the bytes
-loaded : (c : tie.After-in_columns-columns) → (c.in_columns-columns.result ≡ matrix_of (code_of c.before.before.before.before.before) (bytes c.before.before.before.before.before) c.args.n)
+loaded : (c : tie.After-in_columns-columns)
+    → (let start = c.before.before.before.before.before in
+    c.in_columns-columns.result ≡ matrix_of (code_of start) (bytes start) c.args.n)
 loaded c =
     let start = c.before.before.before.before.before in
     let a = c.args in

@@ -41,7 +41,9 @@ roots-into-requires c κs =
 abbrev found : tie.After-roots_into-many → List ℕ
 found at-roots = at-roots.roots_into-many.new.out
 
-found-are-symbols : (r : tie.After-roots_into-many) → Symbols (code_of r.before.before.before.before.before) (found r)
+found-are-symbols : (r : tie.After-roots_into-many)
+    → (let start = r.before.before.before.before.before in
+    Symbols (code_of start) (found r))
 unfolding memory
 found-are-symbols r =
     let start = r.before.before.before.before.before in

@@ -21,16 +21,24 @@ abbrev code : tie.Start → Code
 code s = code_on s.args.alphabet
 
 -- what each of them says there
-counted : (c : tie.Else-totals-positions) → (counts (code c.before.before.before.before) (handed c.before.before.before.before) ≡ true)
+counted : (c : tie.Else-totals-positions)
+    → (let start = c.before.before.before.before in
+    counts (code start) (handed start) ≡ true)
 counted c = eq-eqb _ _ (c.if-totals-positions.false ∙ c.positions-positions.ensures)
 
-full : (c : tie.Else-entries-places) → (length c.args.entries.now ≡ places (code c.before.before.before.before.before.before))
+full : (c : tie.Else-entries-places)
+    → (let start = c.before.before.before.before.before.before in
+    length c.args.entries.now ≡ places (code start))
 full c = c.if-entries-places.false ∙ c.places-places.ensures
 
-filled : (c : tie.Else-entries-places) → (fills (code c.before.before.before.before.before.before) (handed c.before.before.before.before.before.before) ≡ true)
+filled : (c : tie.Else-entries-places)
+    → (let start = c.before.before.before.before.before.before in
+    fills (code start) (handed start) ≡ true)
 filled c = eq-eqb _ _ (full c)
 
-totalled : (c : tie.Else-not-totals_right) → (totals_right (code c.before.before.before.before.before.before.before.before) c.args.totals.now c.args.entries.now ≡ true)
+totalled : (c : tie.Else-not-totals_right)
+    → (let start = c.before.before.before.before.before.before.before.before in
+    totals_right (code start) c.args.totals.now c.args.entries.now ≡ true)
 totalled c = sym c.totals_right.ensures ∙ c.if-not-totals_right.false
 
 -- There are not as many totals as positions.

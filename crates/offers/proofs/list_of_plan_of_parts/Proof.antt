@@ -46,7 +46,9 @@ settle s =
     let a = s.args in
     held_plan_fits (code_on a.alphabet) (given s) a.k a.limit a.steps a.reliabilities.now (length a.rows.now) (length a.scores.now)
 
-settled : (c : tie.After-symbols-settled) → Came (settings c.before.before.before.before.before.before.before.before.before.before.before.before.before.before) [] (told_checked c.symbols-settled.result)
+settled : (c : tie.After-symbols-settled)
+    → (let entry = c.before.before.before.before.before.before.before.before.before.before.before.before.before.before in
+    Came (settings entry) [] (told_checked c.symbols-settled.result))
 settled c =
     let entry = c.before.before.before.before.before.before.before.before.before.before.before.before.before.before in
     start ▸ c.sizes.ensures ▸ c.or.ensures ▸ c.steps.ensures ▸ c.entries.ensures
@@ -61,7 +63,8 @@ columns-checked-requires c κs e =
     (f.0.sized.2, omega arith)
 
 came : (c : tie.After-columns_checked-checked)
-    → (Came (settings c.before.before.before.before.before.before.before.before.before.before.before.before.before.before.before ++ sums c.before.before.before.before.before.before.before.before.before.before.before.before.before.before.before) [] (told_checked c.columns_checked-checked.result))
+    → (let entry = c.before.before.before.before.before.before.before.before.before.before.before.before.before.before.before in
+    Came (settings entry ++ sums entry) [] (told_checked c.columns_checked-checked.result))
 came c =
     let entry = c.before.before.before.before.before.before.before.before.before.before.before.before.before.before.before in
     further (sums entry) (settled c.before) ▸ c.columns_checked-checked.ensures
@@ -78,7 +81,9 @@ returns c =
     let C = code_on a.alphabet in
     refused_by_check C a.n a.k (left entry) (bytes_of C (given entry)) a.rows.now a.scores.now (came c.before) c.in-Refused.is
 
-fit : (t : tie.In_default) → Settled t.before.before.before.before.before.before.before.before.before.before.before.before.before.before.before.before
+fit : (t : tie.In_default)
+    → (let entry = t.before.before.before.before.before.before.before.before.before.before.before.before.before.before.before.before in
+    Settled entry)
 fit t =
     let entry = t.before.before.before.before.before.before.before.before.before.before.before.before.before.before.before.before in
     settle entry (accepts_front _ (sums entry) (accepted (came t.before) t.in_default.is))

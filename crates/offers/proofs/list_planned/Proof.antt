@@ -35,7 +35,9 @@ check-entries-requires c κs =
     let sized = c.requires.0.sized in
     (record { some = omega arith; small = sized.2; full = c.requires.1.1 }, c.requires.1.0.within)
 
-cheap : (c : tie.Else-limit-cost) → (cost (bytes c.before.before.before.before.before) ≤ c.args.limit)
+cheap : (c : tie.Else-limit-cost)
+    → (let start = c.before.before.before.before.before in
+    cost (bytes start) ≤ c.args.limit)
 cheap c = let paid = c.requires.1.0.paid in omega arith
 
 -- The entries are not the rule's plan: refusal 9, and no memory has changed.

@@ -52,7 +52,9 @@ point-passes-requires c κs =
     (c.requires.0, ((omega arith, omega arith, omega arith), c.requires.1.1))
 
 -- What was tested is the point of symbol b, with the entry as its multiplicity.
-is-test : (p : tie.After-point_passes invariant-loop decreases-loop) → (p.point_passes.result ≡ test p.before.before.before.before.before.before.before.before.before p.loop-b.b)
+is-test : (p : tie.After-point_passes invariant-loop decreases-loop)
+    → (let start = p.before.before.before.before.before.before.before.before.before in
+    p.point_passes.result ≡ test start p.loop-b.b)
 is-test p =
     let a = p.args in
     p.point_passes.ensures

@@ -64,7 +64,9 @@ powers-low : (s : tie.Start invariant-loop decreases-loop) → s.args.degree / s
 powers-low s = let h = degree-low s in let q = div-le_self s.args.degree s.args.v in omega arith
 
 -- The point is a symbol.
-symbol : (l : tie.At-loop-i invariant-loop decreases-loop) → l.loop-i.x < (code_of l.before.before.before.before).symbols
+symbol : (l : tie.At-loop-i invariant-loop decreases-loop)
+    → (let start = l.before.before.before.before in
+    l.loop-i.x < (code_of start).symbols)
 symbol l =
     let start = l.before.before.before.before in
     subst (λ (x : ℕ). x < (code_of start).symbols) (sym l.loop-i.invariant.1) (point_symbol (code_of start) (field_on l.args.alphabet) l.loop-i.i)
@@ -106,7 +108,8 @@ add-column-passes c =
 
 -- The entries of position i are among those of n positions.
 among : (p : tie.After-px-1 invariant-loop decreases-loop)
-    → (let C = code_of p.before.before.before.before.before.before.before in C.symbols * p.loop-i.i + C.symbols ≤ C.symbols * p.args.n)
+    → (let start = p.before.before.before.before.before.before.before in
+    let C = code_of start in C.symbols * p.loop-i.i + C.symbols ≤ C.symbols * p.args.n)
 among p =
     let start = p.before.before.before.before.before.before.before in
     let C = code_of start in
@@ -116,7 +119,8 @@ among p =
 
 -- So they lie within the entries.
 inside : (y : tie.After-symbols invariant-loop decreases-loop)
-    → (y.symbols.result * y.loop-i.i + (code_of y.before.before.before.before.before.before.before.before.before.before).symbols ≤ length y.args.entries.now)
+    → (let start = y.before.before.before.before.before.before.before.before.before.before in
+    y.symbols.result * y.loop-i.i + (code_of start).symbols ≤ length y.args.entries.now)
 inside y =
     let at_px = y.before.before.before in
     let whole = y.requires.1.whole in
@@ -128,11 +132,13 @@ mul-column-passes c = let h = inside c in omega arith
 
 -- None of them is above the greatest level.
 low-here : (p : tie.After-px-1 invariant-loop decreases-loop)
-    → (let C = code_of p.before.before.before.before.before.before.before in Low (C.symbols * p.loop-i.i + C.symbols) p.args.entries.now)
+    → (let start = p.before.before.before.before.before.before.before in
+    let C = code_of start in Low (C.symbols * p.loop-i.i + C.symbols) p.args.entries.now)
 low-here p j h = let here = among p in p.requires.1.low j (omega arith)
 
 low-at : (y : tie.After-symbols invariant-loop decreases-loop)
-    → (Low (y.symbols.result * y.loop-i.i + (code_of y.before.before.before.before.before.before.before.before.before.before).symbols) y.args.entries.now)
+    → (let start = y.before.before.before.before.before.before.before.before.before.before in
+    Low (y.symbols.result * y.loop-i.i + (code_of start).symbols) y.args.entries.now)
 low-at y =
     let at_px = y.before.before.before in
     rw y.symbols.ensures (low-here at_px)
@@ -145,7 +151,8 @@ column-passes-requires c κs =
 
 -- What was tested is position i.
 is-test : (p : tie.After-column_passes invariant-loop decreases-loop)
-    → (p.column_passes.result ≡ test p.before.before.before.before.before.before.before.before.before.before.before p.loop-i.i)
+    → (let start = p.before.before.before.before.before.before.before.before.before.before.before in
+    p.column_passes.result ≡ test start p.loop-i.i)
 is-test p =
     let start = p.before.before.before.before.before.before.before.before.before.before.before in
     let at_px = p.before.before.before.before in

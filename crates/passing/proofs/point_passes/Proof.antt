@@ -42,7 +42,9 @@ order-passes-requires c κs =
     (c.requires.0, ((omega arith, omega arith, omega arith), (c.requires.1.1, c.powers-py.ensures.symbols)))
 
 -- What was tested is the test of the orders that begin with s.
-is-test : (o : tie.After-order_passes invariant-loop decreases-loop) → (o.order_passes.result ≡ test o.before.before.before.before.before.before.before o.loop-s.s)
+is-test : (o : tie.After-order_passes invariant-loop decreases-loop)
+    → (let start = o.before.before.before.before.before.before.before in
+    o.order_passes.result ≡ test start o.loop-s.s)
 is-test o =
     let a = o.args in
     o.order_passes.ensures ∙ order_agrees (code_on a.alphabet) a.rows.now o.powers-py.result a.h a.y a.m o.loop-s.s o.powers-py.ensures (omega arith)

@@ -30,7 +30,8 @@ returns c =
 
 -- u is a symbol, and u times the pivot is 1.
 inverts : (c : tie.In-Of)
-    → (let C = code_on c.args.alphabet in (c.in-Of.u < C.symbols) × (C.times c.in-Of.u (pivotOf c.before.before.before.before) ≡ 1))
+    → (let start = c.before.before.before.before in
+    let C = code_on c.args.alphabet in (c.in-Of.u < C.symbols) × (C.times c.in-Of.u (pivotOf start) ≡ 1))
 inverts c =
     let start = c.before.before.before.before in
     let a = c.args in

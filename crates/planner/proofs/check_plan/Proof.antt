@@ -47,11 +47,15 @@ module _ (s : tie.Start) where
   fits-call : Accepts lines → Fits
   fits-call = let a = s.args in fits code a.n a.steps a.reliabilities.now a.plan.now
 
-settled : (c : tie.After-symbols-settled) → Came (lines c.before.before.before.before.before.before.before) [] (told_checked c.symbols-settled.result)
+settled : (c : tie.After-symbols-settled)
+    → (let entry = c.before.before.before.before.before.before.before in
+    Came (lines entry) [] (told_checked c.symbols-settled.result))
 settled c =
     start ▸ c.size.ensures ▸ c.steps.ensures ▸ c.entries.ensures ▸ c.entries-2.ensures ▸ c.symbols-settled.ensures
 
-came : (c : tie.After-columns_checked-checked) → Came (lines c.before.before.before.before.before.before.before.before ++ column-line c.before.before.before.before.before.before.before.before) [] (told_checked c.columns_checked-checked.result)
+came : (c : tie.After-columns_checked-checked)
+    → (let entry = c.before.before.before.before.before.before.before.before in
+    Came (lines entry ++ column-line entry) [] (told_checked c.columns_checked-checked.result))
 came c =
     let entry = c.before.before.before.before.before.before.before.before in
     further (column-line entry) (settled c.before) ▸ c.columns_checked-checked.ensures
@@ -69,7 +73,9 @@ returns c =
     let a = c.args in
     answers (came c.before) (ruled a.reliabilities.now a.steps a.plan.now ∷ []) _ c.in-Refused.is
 
-fit : (t : tie.In_default) → Fits t.before.before.before.before.before.before.before.before.before
+fit : (t : tie.In_default)
+    → (let entry = t.before.before.before.before.before.before.before.before.before in
+    Fits entry)
 fit t =
     let entry = t.before.before.before.before.before.before.before.before.before in
     fits-call entry (accepts_front _ (column-line entry) (accepted (came t.before) t.in_default.is))

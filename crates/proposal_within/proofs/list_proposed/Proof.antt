@@ -48,10 +48,14 @@ abbrev entry : tie.After-bound-bound → tie.Start
 entry b = b.before.before.before.before.before.before
 
 -- The cost of the bytes is within the limit, and the bound is theirs.
-cheap : (b : tie.After-bound-bound) → (cost (bytes b.before.before.before.before.before.before) ≤ b.args.limit)
+cheap : (b : tie.After-bound-bound)
+    → (let start' = b.before.before.before.before.before.before in
+    cost (bytes start') ≤ b.args.limit)
 cheap b = let paid = b.requires.1.0.paid in omega arith
 
-is_bound : (b : tie.After-bound-bound) → (b.bound-bound.result ≡ bound (b.args.k - 1) (cost (bytes b.before.before.before.before.before.before)))
+is_bound : (b : tie.After-bound-bound)
+    → (let start' = b.before.before.before.before.before.before in
+    b.bound-bound.result ≡ bound (b.args.k - 1) (cost (bytes start')))
 is_bound b = b.bound-bound.ensures ∙ ap (bound (b.args.k - 1)) b.requires.1.0.paid
 
 -- The degree limit is above the bound: refusal 2, and no memory has changed.
@@ -66,7 +70,9 @@ abbrev at_bound : tie.After-is_yes → tie.After-bound-bound
 at_bound y = y.before.before
 
 -- The degree limit is within the bound.
-within : (y : tie.After-is_yes) → (y.args.degree ≤ bound (y.args.k - 1) (cost (bytes y.before.before.before.before.before.before.before.before)))
+within : (y : tie.After-is_yes)
+    → (let start' = y.before.before.before.before.before.before.before.before in
+    y.args.degree ≤ bound (y.args.k - 1) (cost (bytes start')))
 within y = let is = is_bound y.before.before in omega arith
 
 -- The proposal is a no: refusal 10, and no memory has changed.

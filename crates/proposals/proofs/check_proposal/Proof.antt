@@ -37,7 +37,9 @@ front s = let a = s.args in check_start (code_of s) a.n a.k a.degree a.matrix.no
 abbrev rest : tie.Start → List Line
 rest s = let a = s.args in symbol_lines (code_of s) a.n a.matrix.now a.coefficients.now
 
-settled : (c : tie.After-entries-settled) → Came (front c.before.before.before.before.before) [] (told_checked c.entries-settled.result)
+settled : (c : tie.After-entries-settled)
+    → (let entry = c.before.before.before.before.before in
+    Came (front entry) [] (told_checked c.entries-settled.result))
 settled c =
     start ▸ c.sizes-sized.ensures ▸ refl ▸ c.degree_checked.ensures ▸ c.entries-settled.ensures
 
@@ -47,43 +49,51 @@ fits s = let a = s.args in check_fits (code_of s) a.n a.k a.degree a.matrix.now 
 
 symbols-checked-requires : tie.Need-symbols_checked-checked-requires
 symbols-checked-requires c κs e =
-    let begun = c.before.before.before.before.before in
-    let f = (fits begun (accepted (settled c) e)).0 in
+    let entry = c.before.before.before.before.before in
+    let f = (fits entry (accepted (settled c) e)).0 in
     let few = f.few in
     let full = f.full in
     (f.sized.2, omega arith)
 
-came : (c : tie.After-symbols_checked-checked) → (Came (front c.before.before.before.before.before.before ++ rest c.before.before.before.before.before.before) [] (told_checked c.symbols_checked-checked.result))
+came : (c : tie.After-symbols_checked-checked)
+    → (let entry = c.before.before.before.before.before.before in
+    Came (front entry ++ rest entry) [] (told_checked c.symbols_checked-checked.result))
 came c =
-    let begun = c.before.before.before.before.before.before in
-    further (rest begun) (settled c.before) ▸ refl ▸ c.symbols_checked-checked.ensures
+    let entry = c.before.before.before.before.before.before in
+    further (rest entry) (settled c.before) ▸ refl ▸ c.symbols_checked-checked.ensures
 
 -- A line has refused.
 returns : tie.Need-returns-in-Refused
 returns c = answers (came c.before) [] _ c.in-Refused.is
 
-accepts : (t : tie.In_default) → Accepts (front t.before.before.before.before.before.before.before ++ rest t.before.before.before.before.before.before.before)
+accepts : (t : tie.In_default)
+    → (let entry = t.before.before.before.before.before.before.before in
+    Accepts (front entry ++ rest entry))
 accepts t = accepted (came t.before) t.in_default.is
 
-fit : (t : tie.In_default) → (let a = t.args in Fits (code_of t.before.before.before.before.before.before.before) a.n a.k a.degree a.coefficients.now × (length a.matrix.now ≡ (code_of t.before.before.before.before.before.before.before).symbols * a.n))
+fit : (t : tie.In_default)
+    → (let entry = t.before.before.before.before.before.before.before in
+    let a = t.args in Fits (code_of entry) a.n a.k a.degree a.coefficients.now × (length a.matrix.now ≡ (code_of entry).symbols * a.n))
 fit t =
-    let begun = t.before.before.before.before.before.before.before in
-    fits begun (accepts_front (front begun) (rest begun) (accepts t))
+    let entry = t.before.before.before.before.before.before.before in
+    fits entry (accepts_front (front entry) (rest entry) (accepts t))
 
 -- no entry is above the greatest level, and each coefficient is a symbol
-symbols-are : (t : tie.In_default) → (let a = t.args in ((j : ℕ) → get_or a.matrix.now j 0 ≤ greatest_level) × Symbols (code_of t.before.before.before.before.before.before.before) a.coefficients.now)
+symbols-are : (t : tie.In_default)
+    → (let entry = t.before.before.before.before.before.before.before in
+    let a = t.args in ((j : ℕ) → get_or a.matrix.now j 0 ≤ greatest_level) × Symbols (code_of entry) a.coefficients.now)
 symbols-are t =
-    let begun = t.before.before.before.before.before.before.before in
+    let entry = t.before.before.before.before.before.before.before in
     let a = t.args in
     let z = (sized a.alphabet).least in
-    symbols_fit (code_of begun) (omega arith) a.n a.matrix.now a.coefficients.now (accepts_behind (front begun) (rest begun) (accepts t))
+    symbols_fit (code_of entry) (omega arith) a.n a.matrix.now a.coefficients.now (accepts_behind (front entry) (rest entry) (accepts t))
 
 turn-requires : tie.Need-turn-requires
 turn-requires c κs =
-    let begun = c.before.before.before.before.before.before.before.before in
+    let entry = c.before.before.before.before.before.before.before.before in
     let a = c.args in
     let f = fit c.before in
-    (bytes_within (code_of begun) a.n a.matrix.now f.0.sized.2 f.1, omega arith)
+    (bytes_within (code_of entry) a.n a.matrix.now f.0.sized.2 f.1, omega arith)
 
 sub-is-yes : tie.Need-overflow_sub-k
 sub-is-yes c =
@@ -92,10 +102,10 @@ sub-is-yes c =
 
 is-yes-requires : tie.Need-is_yes-requires
 is-yes-requires c κs =
-    let begun = c.before.before.before.before.before.before.before.before.before.before.before in
+    let entry = c.before.before.before.before.before.before.before.before.before.before.before in
     let at_default = c.before.before.before.before in
     let a = c.args in
-    let C = code_of begun in
+    let C = code_of entry in
     let f = fit at_default in
     let symbol = symbols-are at_default in
     given_front C a.n a.k a.degree a.coefficients.now _ f.0 symbol.1 (turned_costs C a.n f.1 c.turn.ensures).within
@@ -103,13 +113,14 @@ is-yes-requires c κs =
 
 -- What was asked is whether the matrix that came in has a yes.
 is-yes-of : (y : tie.After-is_yes)
-    → (let a = y.args in
-    y.is_yes.result ≡ is_yes (code_of y.before.before.before.before.before.before.before.before.before.before.before.before) a.n (a.k - 1) a.degree a.matrix.now a.coefficients.now)
+    → (let entry = y.before.before.before.before.before.before.before.before.before.before.before.before in
+    let a = y.args in
+    y.is_yes.result ≡ is_yes (code_of entry) a.n (a.k - 1) a.degree a.matrix.now a.coefficients.now)
 is-yes-of y =
-    let begun = y.before.before.before.before.before.before.before.before.before.before.before.before in
+    let entry = y.before.before.before.before.before.before.before.before.before.before.before.before in
     let at_default = y.before.before.before.before.before in
     let a = y.args in
-    let C = code_of begun in
+    let C = code_of entry in
     y.is_yes.ensures
     ∙ ap (λ (m : List ℕ). is_yes C a.n (a.k - 1) a.degree m a.coefficients.now) (turned_bytes C a.n (fit at_default).1 y.turn.ensures)
 

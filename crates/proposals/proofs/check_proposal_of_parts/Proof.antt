@@ -38,7 +38,9 @@ front s = let a = s.args in held_check_start (code_of s) (given s) a.k a.degree 
 abbrev rest : tie.Start → List Line
 rest s = let a = s.args in symbol_lines (code_of s) a.n a.entries.now a.coefficients.now
 
-settled : (c : tie.After-or-settled) → Came (front c.before.before.before.before.before.before.before) [] (told_checked c.or-settled.result)
+settled : (c : tie.After-or-settled)
+    → (let entry = c.before.before.before.before.before.before.before in
+    Came (front entry) [] (told_checked c.or-settled.result))
 settled c =
     let entry = c.before.before.before.before.before.before.before in
     start ▸ c.sizes-sized.ensures ▸ refl ▸ c.degree_checked.ensures
@@ -56,7 +58,9 @@ symbols-checked-requires c κs e =
     let full = f.full in
     (f.sized.2, omega arith)
 
-came : (c : tie.After-symbols_checked-checked) → (Came (front c.before.before.before.before.before.before.before.before ++ rest c.before.before.before.before.before.before.before.before) [] (told_checked c.symbols_checked-checked.result))
+came : (c : tie.After-symbols_checked-checked)
+    → (let entry = c.before.before.before.before.before.before.before.before in
+    Came (front entry ++ rest entry) [] (told_checked c.symbols_checked-checked.result))
 came c =
     let entry = c.before.before.before.before.before.before.before.before in
     further (rest entry) (settled c.before) ▸ refl ▸ c.symbols_checked-checked.ensures
@@ -65,10 +69,14 @@ came c =
 returns : tie.Need-returns-in-Refused
 returns c = answers (came c.before) [] _ c.in-Refused.is
 
-accepts : (t : tie.In_default) → Accepts (front t.before.before.before.before.before.before.before.before.before ++ rest t.before.before.before.before.before.before.before.before.before)
+accepts : (t : tie.In_default)
+    → (let entry = t.before.before.before.before.before.before.before.before.before in
+    Accepts (front entry ++ rest entry))
 accepts t = accepted (came t.before) t.in_default.is
 
-fit : (t : tie.In_default) → (let a = t.args in Fits (code_of t.before.before.before.before.before.before.before.before.before) a.n a.k a.degree a.coefficients.now × Rightly (code_of t.before.before.before.before.before.before.before.before.before) (given t.before.before.before.before.before.before.before.before.before))
+fit : (t : tie.In_default)
+    → (let entry = t.before.before.before.before.before.before.before.before.before in
+    let a = t.args in Fits (code_of entry) a.n a.k a.degree a.coefficients.now × Rightly (code_of entry) (given entry))
 fit t =
     let entry = t.before.before.before.before.before.before.before.before.before in
     fits entry (accepts_front (front entry) (rest entry) (accepts t))

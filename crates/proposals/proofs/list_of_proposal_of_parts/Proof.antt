@@ -62,68 +62,77 @@ settle s =
     let a = s.args in
     held_list_fits (code_of s) (given s) a.k a.limit a.degree a.coefficients.now (length a.rows.now) (length a.scores.now)
 
-settled : (c : tie.After-or-settled) → Came (front c.before.before.before.before.before.before.before.before.before.before.before.before) [] (told_checked c.or-settled.result)
+settled : (c : tie.After-or-settled)
+    → (let entry = c.before.before.before.before.before.before.before.before.before.before.before.before in
+    Came (front entry) [] (told_checked c.or-settled.result))
 settled c =
-    let begun = c.before.before.before.before.before.before.before.before.before.before.before.before in
+    let entry = c.before.before.before.before.before.before.before.before.before.before.before.before in
     start ▸ c.sizes.ensures ▸ c.or-sized.ensures ▸ refl ▸ c.degree_checked.ensures
-    ▸ stored_tried (code_of begun) (given begun) (told_checked c.degree_checked.result) c.or.ensures c.rightly.ensures
+    ▸ stored_tried (code_of entry) (given entry) (told_checked c.degree_checked.result) c.or.ensures c.rightly.ensures
     ▸ c.room.ensures ▸ c.or-settled.ensures
 
 symbols-checked-requires : tie.Need-symbols_checked-checked-requires
 symbols-checked-requires c κs e =
-    let begun = c.before.before.before.before.before.before.before.before.before.before.before.before in
-    let f = (settle begun (accepted (settled c) e)).1 in
+    let entry = c.before.before.before.before.before.before.before.before.before.before.before.before in
+    let f = (settle entry (accepted (settled c) e)).1 in
     let few = f.few in
     let full = f.full in
     (f.sized.2, omega arith)
 
-came : (c : tie.After-symbols_checked-checked) → (Came (front c.before.before.before.before.before.before.before.before.before.before.before.before.before ++ rest c.before.before.before.before.before.before.before.before.before.before.before.before.before) [] (told_checked c.symbols_checked-checked.result))
+came : (c : tie.After-symbols_checked-checked)
+    → (let entry = c.before.before.before.before.before.before.before.before.before.before.before.before.before in
+    Came (front entry ++ rest entry) [] (told_checked c.symbols_checked-checked.result))
 came c =
-    let begun = c.before.before.before.before.before.before.before.before.before.before.before.before.before in
-    further (rest begun) (settled c.before) ▸ refl ▸ c.symbols_checked-checked.ensures
+    let entry = c.before.before.before.before.before.before.before.before.before.before.before.before.before in
+    further (rest entry) (settled c.before) ▸ refl ▸ c.symbols_checked-checked.ensures
 
 -- A check has refused: its refusal is answered, and no memory has changed.
 returns : tie.Need-returns-in-Refused
 returns c =
-    let begun = c.before.before.before.before.before.before.before.before.before.before.before.before.before.before in
+    let entry = c.before.before.before.before.before.before.before.before.before.before.before.before.before.before in
     let a = c.args in
-    refused_by_check (code_of begun) a.n a.k (left begun) (bytes_of (code_of begun) (given begun)) a.rows.now a.scores.now (came c.before) c.in-Refused.is
+    refused_by_check (code_of entry) a.n a.k (left entry) (bytes_of (code_of entry) (given entry)) a.rows.now a.scores.now (came c.before) c.in-Refused.is
 
-accepts : (t : tie.In_default) → Accepts (front t.before.before.before.before.before.before.before.before.before.before.before.before.before.before ++ rest t.before.before.before.before.before.before.before.before.before.before.before.before.before.before)
+accepts : (t : tie.In_default)
+    → (let entry = t.before.before.before.before.before.before.before.before.before.before.before.before.before.before in
+    Accepts (front entry ++ rest entry))
 accepts t = accepted (came t.before) t.in_default.is
 
-fit : (t : tie.In_default) → Settled t.before.before.before.before.before.before.before.before.before.before.before.before.before.before
+fit : (t : tie.In_default)
+    → (let entry = t.before.before.before.before.before.before.before.before.before.before.before.before.before.before in
+    Settled entry)
 fit t =
-    let begun = t.before.before.before.before.before.before.before.before.before.before.before.before.before.before in
-    settle begun (accepts_front (front begun) (rest begun) (accepts t))
+    let entry = t.before.before.before.before.before.before.before.before.before.before.before.before.before.before in
+    settle entry (accepts_front (front entry) (rest entry) (accepts t))
 
 -- no entry is above the greatest level, and each coefficient is a symbol
 symbols-are : (t : tie.In_default)
-    → (let a = t.args in ((j : ℕ) → get_or a.entries.now j 0 ≤ greatest_level) × Symbols (code_of t.before.before.before.before.before.before.before.before.before.before.before.before.before.before) a.coefficients.now)
+    → (let entry = t.before.before.before.before.before.before.before.before.before.before.before.before.before.before in
+    let a = t.args in ((j : ℕ) → get_or a.entries.now j 0 ≤ greatest_level) × Symbols (code_of entry) a.coefficients.now)
 symbols-are t =
-    let begun = t.before.before.before.before.before.before.before.before.before.before.before.before.before.before in
+    let entry = t.before.before.before.before.before.before.before.before.before.before.before.before.before.before in
     let a = t.args in
     let z = (sized a.alphabet).least in
-    symbols_fit (code_of begun) (omega arith) a.n a.entries.now a.coefficients.now (accepts_behind (front begun) (rest begun) (accepts t))
+    symbols_fit (code_of entry) (omega arith) a.n a.entries.now a.coefficients.now (accepts_behind (front entry) (rest entry) (accepts t))
 
 list-proposed-requires : tie.Need-list_proposed-requires
 list-proposed-requires c κs =
-    let begun = c.before.before.before.before.before.before.before.before.before.before.before.before.before.before.before.before in
+    let entry = c.before.before.before.before.before.before.before.before.before.before.before.before.before.before.before.before in
     let a = c.args in
     let f = fit c.before.before in
     let symbol = symbols-are c.before.before in
-    let costs = rightly_priced (code_of begun) (given begun) f.2 f.0.sized.2 in
-    (f.0, (costs, given_entries (code_of begun) a.n a.k a.degree a.coefficients.now a.entries.now f.1 symbol.1 costs.within symbol.0))
+    let costs = rightly_priced (code_of entry) (given entry) f.2 f.0.sized.2 in
+    (f.0, (costs, given_entries (code_of entry) a.n a.k a.degree a.coefficients.now a.entries.now f.1 symbol.1 costs.within symbol.0))
 
 -- All checks have passed: list_proposed tries the lines that are left, and lists, of the record's
 -- bytes.
 returns-2 : tie.Need-returns
 returns-2 c =
-    let begun = c.before.before.before.before.before.before.before.before.before.before.before.before.before.before.before.before.before.before.before.before.before in
+    let entry = c.before.before.before.before.before.before.before.before.before.before.before.before.before.before.before.before.before.before.before.before.before in
     let at_symbols_checked_checked = c.before.before.before.before.before.before.before.before in
     let a = c.args in
-    let C = code_of begun in
-    passed_on C a.n a.k (left begun) (bytes_of C (given begun)) a.rows.now a.scores.now (came at_symbols_checked_checked) c.in_default.is
+    let C = code_of entry in
+    passed_on C a.n a.k (left entry) (bytes_of C (given entry)) a.rows.now a.scores.now (came at_symbols_checked_checked) c.in_default.is
     refl _ _ _ c.list_proposed.ensures
 
 pub list_of_proposal_of_parts_spec : {M : Type 1} → statement M

@@ -41,7 +41,8 @@ module _ (s : tie.Start) where
   given = let a = s.args in held a.n a.cost a.totals.now a.entries.now
 
 came : (c : tie.After-symbols-checked)
-    → (Came (held_cost_table (code c.before.before.before.before.before.before) (given c.before.before.before.before.before.before) c.args.k) [] (told_checked c.symbols-checked.result))
+    → (let entry = c.before.before.before.before.before.before in
+    Came (held_cost_table (code entry) (given entry) c.args.k) [] (told_checked c.symbols-checked.result))
 came c =
     let entry = c.before.before.before.before.before.before in
     let sizes = c.sizes in
@@ -52,7 +53,9 @@ came c =
 returns : tie.Need-returns-in-Refused
 returns c = answers (came c.before) [] _ c.in-Refused.is
 
-fit : (t : tie.In_default) → (Fit (code t.before.before.before.before.before.before.before) (given t.before.before.before.before.before.before.before) t.args.k)
+fit : (t : tie.In_default)
+    → (let entry = t.before.before.before.before.before.before.before in
+    Fit (code entry) (given entry) t.args.k)
 fit t =
     let entry = t.before.before.before.before.before.before.before in
     fits (code entry) (given entry) t.args.k (accepted (came t.before) t.in_default.is)

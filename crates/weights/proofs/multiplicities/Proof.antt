@@ -53,13 +53,16 @@ module _ (s : tie.Start) where
   fits-call : Accepts lines → Fits
   fits-call = let a = s.args in fits code a.n a.level a.reliabilities.now (length a.out.now)
 
-settled : (c : tie.After-entries_room-settled) → Came (lines c.before.before.before.before.before.before) [] (told_checked c.entries_room-settled.result)
+settled : (c : tie.After-entries_room-settled)
+    → (let entry = c.before.before.before.before.before.before in
+    Came (lines entry) [] (told_checked c.entries_room-settled.result))
 settled c =
     start ▸ c.size.ensures ▸ c.level.ensures ▸ c.entries.ensures ▸ c.entries_room-settled.ensures
 
 came : (c : tie.After-columns_checked-checked)
-    → (let a = c.args in
-    Came (multiplicities_table (code c.before.before.before.before.before.before.before) a.n a.level a.reliabilities.now (length a.out.now)) [] (told_checked c.columns_checked-checked.result))
+    → (let entry = c.before.before.before.before.before.before.before in
+    let a = c.args in
+    Came (multiplicities_table (code entry) a.n a.level a.reliabilities.now (length a.out.now)) [] (told_checked c.columns_checked-checked.result))
 came c =
     let entry = c.before.before.before.before.before.before.before in
     further (column-line entry) (settled c.before) ▸ c.columns_checked-checked.ensures
@@ -75,7 +78,9 @@ returns c =
     let refusal = c.in-Refused.is in
     (answers (came c.before) [] _ refusal, stops (came c.before) [] (λ _ _. c.args.out.now) _ refusal)
 
-fit : (t : tie.In_default) → Fits t.before.before.before.before.before.before.before.before
+fit : (t : tie.In_default)
+    → (let entry = t.before.before.before.before.before.before.before.before in
+    Fits entry)
 fit t =
     let entry = t.before.before.before.before.before.before.before.before in
     fits-call entry (accepts_front _ (column-line entry) (accepted (came t.before) t.in_default.is))

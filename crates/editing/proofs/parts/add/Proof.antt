@@ -43,7 +43,9 @@ rest s = in_or_out (code s) (s.args.entries.now ∷ s.args.other_entries.now ∷
 abbrev after : tie.Start → Held
 after s = held_of (code s) s.args.n (sum s)
 
-came : (c : tie.After-or-checked) → Came (front c.before.before.before.before.before.before.before.before.before.before) [] (told_checked c.or-checked.result)
+came : (c : tie.After-or-checked)
+    → (let entry = c.before.before.before.before.before.before.before.before.before.before in
+    Came (front entry) [] (told_checked c.or-checked.result))
 came c =
     let entry = c.before.before.before.before.before.before.before.before.before.before in
     start ▸ c.size.ensures ▸ c.or.ensures

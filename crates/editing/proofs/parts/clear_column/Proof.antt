@@ -40,7 +40,9 @@ rest s = in_or_out (code s) (s.args.entries.now ∷ cleared s ∷ []) ∷ []
 abbrev after : tie.Start → Held
 after s = held_of (code s) s.args.n (cleared s)
 
-came : (c : tie.After-or-checked) → Came (front c.before.before.before.before.before) [] (told_checked c.or-checked.result)
+came : (c : tie.After-or-checked)
+    → (let entry = c.before.before.before.before.before in
+    Came (front entry) [] (told_checked c.or-checked.result))
 came c =
     let entry = c.before.before.before.before.before in
     let at_place = c.placed in
@@ -65,7 +67,9 @@ fits s (next n (next p (next h end))) = record {
   right = not-false _ h;
 }
 
-fit : (passed : tie.In_default) → Fit passed.before.before.before.before.before.before
+fit : (passed : tie.In_default)
+    → (let entry = passed.before.before.before.before.before.before in
+    Fit entry)
 fit passed =
     let entry = passed.before.before.before.before.before.before in
     fits entry (accepted (came passed.before) passed.in_default.is)

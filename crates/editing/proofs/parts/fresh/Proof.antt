@@ -33,14 +33,16 @@ after s = held_of (code s) s.args.n (no_entries (code s))
 abbrev table : tie.Start → List Line
 table s = lent_table (code s) s.args.n s.args.totals.now s.args.entries.now
 
-came : (c : tie.After-lent-checked) → Came (table c.before.before.before) [] (told_checked c.lent-checked.result)
+came : (c : tie.After-lent-checked)
+    → (let entry = c.before.before.before in
+    Came (table entry) [] (told_checked c.lent-checked.result))
 came c = start ▸ refl ▸ refl ▸ c.lent-checked.ensures
 
 -- A line refuses: its refusal is that of the table, and the parts are as they came.
 returns : tie.Need-returns-in-Refused
 returns c =
-    let begun = c.before.before.before.before in
-    parts_promised (edit_refused (came c.before) [] (handed begun) (after begun) c.in-Refused.is)
+    let entry = c.before.before.before.before in
+    parts_promised (edit_refused (came c.before) [] (handed entry) (after entry) c.in-Refused.is)
 
 -- the parts have the lengths of a record
 abbrev Sized : tie.Start → Type 0
@@ -49,38 +51,42 @@ Sized s = (length s.args.totals.now ≡ (code s).positions) × (length s.args.en
 fits : (s : tie.Start) → Accepts (table s) → Sized s
 fits s (next n (next t (next e end))) = (entries_mean _ s.args.totals.now t, entries_mean _ s.args.entries.now e)
 
-sized : (passed : tie.In_default) → Sized passed.before.before.before.before
+sized : (passed : tie.In_default)
+    → (let entry = passed.before.before.before.before in
+    Sized entry)
 sized passed =
-    let begun = passed.before.before.before.before in
-    fits begun (accepted (came passed.before) passed.in_default.is)
+    let entry = passed.before.before.before.before in
+    fits entry (accepted (came passed.before) passed.in_default.is)
 
 abbrev passed : tie.After-clear → tie.In_default
 passed cleared = cleared.before.before
 
 -- zeros lie in all places
-no-entries : (c : tie.After-clear) → c.clear.new.out ≡ no_entries (code c.before.before.before.before.before.before)
+no-entries : (c : tie.After-clear)
+    → (let entry = c.before.before.before.before.before.before in
+    c.clear.new.out ≡ no_entries (code entry))
 no-entries c =
-    let begun = c.before.before.before.before.before.before in
-    laid_fresh (code begun) c.args.entries.now c.clear.new.out (sized c.before.before).1 c.clear.ensures
+    let entry = c.before.before.before.before.before.before in
+    laid_fresh (code entry) c.args.entries.now c.clear.new.out (sized c.before.before).1 c.clear.ensures
 
 count-requires : tie.Need-count-requires
 count-requires c κs =
-    let begun = c.before.before.before.before.before.before.before.before.before in
+    let entry = c.before.before.before.before.before.before.before.before.before in
     let at_default = c.before.before.before.before.before in
     let at_clear = c.before.before.before in
-    ((sized at_default).0, ap length (no-entries at_clear) ∙ length-replicate {A = ℕ} (places (code begun)) 0)
+    ((sized at_default).0, ap length (no-entries at_clear) ∙ length-replicate {A = ℕ} (places (code entry)) 0)
 
 -- Every line is passed: the entries are none, and the totals and the cost are those that were
 -- counted.
 returns-2 : tie.Need-returns
 returns-2 c =
-    let begun = c.before.before.before.before.before.before.before.before.before.before.before.before in
+    let entry = c.before.before.before.before.before.before.before.before.before.before.before.before in
     let at_lent_checked = c.before.before.before.before.before.before.before.before.before in
     let at_clear = c.before.before.before.before.before.before in
     let counted = c.count.ensures in
     let none = no-entries at_clear in
-    parts_promised (edit_goes_on (came at_lent_checked) [] (handed begun) (after begun) c.in_default.is
-    (edit_counted (code begun) (handed begun) c.args.n (no_entries (code begun)) (counted.0 ∙ ap cost none) (counted.1 ∙ ap (totals_of (code begun)) none) none))
+    parts_promised (edit_goes_on (came at_lent_checked) [] (handed entry) (after entry) c.in_default.is
+    (edit_counted (code entry) (handed entry) c.args.n (no_entries (code entry)) (counted.0 ∙ ap cost none) (counted.1 ∙ ap (totals_of (code entry)) none) none))
 
 pub fresh_spec : {M : Type 1} → statement M
 fresh_spec =

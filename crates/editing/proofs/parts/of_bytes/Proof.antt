@@ -36,7 +36,9 @@ after s = held_of (code s) s.args.n (laid s)
 abbrev table : tie.Start → List Line
 table s = lent_bytes_table (code s) s.args.n s.args.bytes.now s.args.totals.now s.args.entries.now
 
-came : (c : tie.After-symbols-checked) → Came (table c.before.before.before.before.before.before) [] (told_checked c.symbols-checked.result)
+came : (c : tie.After-symbols-checked)
+    → (let entry = c.before.before.before.before.before.before in
+    Came (table entry) [] (told_checked c.symbols-checked.result))
 came c = start ▸ refl ▸ refl ▸ c.lent.ensures ▸ c.entries.ensures ▸ c.symbols-checked.ensures
 
 -- A line refuses: its refusal is that of the table, and the parts are as they came.

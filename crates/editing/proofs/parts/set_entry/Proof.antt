@@ -41,19 +41,21 @@ rest s = in_or_out (code s) (s.args.entries.now ∷ set s ∷ []) ∷ []
 abbrev after : tie.Start → Held
 after s = held_of (code s) s.args.n (set s)
 
-came : (c : tie.After-or-checked) → Came (front c.before.before.before.before.before.before.before) [] (told_checked c.or-checked.result)
+came : (c : tie.After-or-checked)
+    → (let entry = c.before.before.before.before.before.before.before in
+    Came (front entry) [] (told_checked c.or-checked.result))
 came c =
-    let begun = c.before.before.before.before.before.before.before in
+    let entry = c.before.before.before.before.before.before.before in
     let of-place = c.placed in
     start ▸ refl ▸ of-place.ensures
     ▸ (c.or.ensures ∙ ap (λ (many : ℕ). or_line (told_checked of-place.result) (line 1 (leb many c.args.symbol))) c.symbols.ensures)
-    ▸ stored_tried (code begun) (handed begun) (told_checked c.or.result) c.or-checked.ensures c.rightly.ensures
+    ▸ stored_tried (code entry) (handed entry) (told_checked c.or.result) c.or-checked.ensures c.rightly.ensures
 
 -- The chain refuses: its refusal is that of the table, and the parts are as they came.
 returns : tie.Need-returns-in-Refused
 returns c =
-    let begun = c.before.before.before.before.before.before.before.before in
-    parts_promised (edit_refused (came c.before) (rest begun) (handed begun) (after begun) c.in-Refused.is)
+    let entry = c.before.before.before.before.before.before.before.before in
+    parts_promised (edit_refused (came c.before) (rest entry) (handed entry) (after entry) c.in-Refused.is)
 
 -- what the lines of the chain say where they are passed
 record Fit (s : tie.Start) : Type 0 where
@@ -70,10 +72,12 @@ fits s (next n (next p (next b (next h end)))) = record {
   right = not-false _ h;
 }
 
-fit : (passed : tie.In_default) → Fit passed.before.before.before.before.before.before.before.before
+fit : (passed : tie.In_default)
+    → (let entry = passed.before.before.before.before.before.before.before.before in
+    Fit entry)
 fit passed =
-    let begun = passed.before.before.before.before.before.before.before.before in
-    fits begun (accepted (came passed.before) passed.in_default.is)
+    let entry = passed.before.before.before.before.before.before.before.before in
+    fits entry (accepted (came passed.before) passed.in_default.is)
 
 set-right-requires : tie.Need-set_right-requires
 set-right-requires c κs = let f = fit c.before.before in ((f.sized.1, f.at, f.of), f.right)
@@ -81,9 +85,9 @@ set-right-requires c κs = let f = fit c.before.before in ((f.sized.1, f.at, f.o
 -- The chain is passed: what `set_right` promises of the last line is what the whole table makes.
 returns-2 : tie.Need-returns
 returns-2 c =
-    let begun = c.before.before.before.before.before.before.before.before.before.before.before.before.before.before.before in
+    let entry = c.before.before.before.before.before.before.before.before.before.before.before.before.before.before.before in
     let at_or_checked = c.before.before.before.before.before.before.before.before in
-    parts_promised (edit_goes_on (came at_or_checked) (rest begun) (handed begun) (after begun) c.in_default.is c.set_right.ensures)
+    parts_promised (edit_goes_on (came at_or_checked) (rest entry) (handed entry) (after entry) c.in_default.is c.set_right.ensures)
 
 pub set_entry_spec : {M : Type 1} → statement M
 set_entry_spec =

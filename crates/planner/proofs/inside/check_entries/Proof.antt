@@ -64,7 +64,8 @@ returns : tie.Need-returns-then-not-same_up_to
 returns c =
     let at_plan_into_done = c.before.before.before.before in
     let a = c.args in
-    plan_refused (code_on a.alphabet) a.n a.steps a.reliabilities.now c.requires.0.full a.entries.now (front at_plan_into_done ++ behind at_plan_into_done) (behind at_plan_into_done) (stands at_plan_into_done)
+    plan_refused (code_on a.alphabet) a.n a.steps a.reliabilities.now c.requires.0.full a.entries.now
+    (front at_plan_into_done ++ behind at_plan_into_done) (behind at_plan_into_done) (stands at_plan_into_done)
     c.same_up_to.result c.same_up_to.ensures (ap not c.if-not-same_up_to.true)
 
 -- It is the rule's result, so the plan's line accepts, and the steps told are those that the rule
@@ -73,7 +74,8 @@ returns-2 : tie.Need-returns
 returns-2 c =
     let at_plan_into_done = c.before.before.before.before in
     let a = c.args in
-    plan_taken (code_on a.alphabet) a.n a.steps a.reliabilities.now c.requires.0.full a.entries.now (front at_plan_into_done ++ behind at_plan_into_done) (behind at_plan_into_done) (stands at_plan_into_done)
+    plan_taken (code_on a.alphabet) a.n a.steps a.reliabilities.now c.requires.0.full a.entries.now
+    (front at_plan_into_done ++ behind at_plan_into_done) (behind at_plan_into_done) (stands at_plan_into_done)
     c.same_up_to.result c.same_up_to.ensures (ap not c.if-not-same_up_to.false) c.plan_into-done.result c.plan_into-done.ensures.0
 
 pub check_entries_spec : {M : Type 1} → statement M
