@@ -12,7 +12,7 @@ use Rattle.algebra.specs.FieldOf.{FieldOf}
 use Rattle.definitions.proofs.Zeros.{zero_at}
 use Rattle.definitions.specs.Code.{Symbols}
 use Rattle.definitions.specs.Field.{Code}
-use Rattle.blocks.specs.Row.{block, Front, SymbolBlock, BlockOf, Changed, PutBlock, ScaledBlock, SummedBlock, FilledTo, MultiplesBlock}
+use Rattle.blocks.specs.Row.{block, Front, SymbolBlock, BlockOf, Changed, PutBlock, ScaledBlock, FilledTo, MultiplesBlock}
 
 -- no entry yet
 pub front_none : (f : ℕ → ℕ) (l : List ℕ) → Front 0 f l
@@ -90,9 +90,9 @@ module _ (C : Code) (F : FieldOf C) where
       ap (λ (r : List ℕ). get_or r k 0) (get_or-replicate n c (replicate block 0) [] (omega arith)) ∙ zero_at block k
       ∙ sym (ap (λ (n : ℕ). C.times n (get_or a k 0)) z ∙ none_times C F (get_or a k 0) (sa k l))
 
-  -- where the multiples below h are there, those below 2h come of them
+  -- where the multiples below h are there, those below twice h come of them
   pub multiples_filled : (h : ℕ) (a high : List ℕ) (old new : List (List ℕ)) → h < C.symbols → Joins C h → SymbolBlock C a → MultiplesBlock C h a old
-      → ScaledBlock C h a high → FilledTo C.plus h h high old new → MultiplesBlock C (2 * h) a new
+      → ScaledBlock C h a high → FilledTo C.plus h h high old new → MultiplesBlock C (h * 2) a new
   multiples_filled h a high old new hh join sa m e f c l k g =
       elim (dec_lt c h) [
         | yes low ↦ ap (λ (r : List ℕ). get_or r k 0) (f.below c low) ∙ m c low k g
@@ -103,23 +103,3 @@ module _ (C : Code) (F : FieldOf C) where
             ap (λ (i : ℕ). get_or (get_or new i []) k 0) (sym is) ∙ f.sums (c - h) here k g ∙ ap₂ C.plus (m (c - h) here k g) (e k g)
             ∙ times_joined C F (c - h) h (get_or a k 0) symbol hh (sa k g) ∙ ap (λ (i : ℕ). C.times i (get_or a k 0)) (join (c - h) here ∙ is)
       ]
-
-module _ (plus : ℕ → ℕ → ℕ) where
-  -- nothing is filled yet
-  pub fill_none : (h : ℕ) (high : List ℕ) (m : List (List ℕ)) → FilledTo plus h 0 high m m
-  fill_none h high m = record { size = refl; below = λ c l. refl; sums = λ c l. let z : ⊥ = omega arith in absurd z }
-
-  -- one multiple more
-  pub fill_more : (h n : ℕ) (high sum : List ℕ) (old new : List (List ℕ)) → n < h → h + n < length old → FilledTo plus h n high old new
-      → SummedBlock plus (get_or new n []) high sum → FilledTo plus h (n + 1) high old (set new (h + n) sum)
-  fill_more h n high sum old new low room f e = record {
-    size = length-set new (h + n) sum ∙ f.size;
-    below = λ c l. get_or-set_other new (h + n) c sum [] (λ i. omega arith) ∙ f.below c l;
-    sums = λ c l k g. elim (ℕ_discrete c n) [
-      | yes i ↦
-          ap (λ (j : ℕ). get_or (get_or (set new (h + n) sum) (h + j) []) k 0) i
-          ∙ ap (λ (r : List ℕ). get_or r k 0) (get_or-set_same new (h + n) sum [] (let s = f.size in omega arith)) ∙ e k g
-          ∙ ap (λ (r : List ℕ). plus (get_or r k 0) (get_or high k 0)) (f.below n low ∙ ap (λ (j : ℕ). get_or old j []) (sym i))
-      | no i ↦ ap (λ (r : List ℕ). get_or r k 0) (get_or-set_other new (h + n) (h + c) sum [] (λ j. omega arith)) ∙ f.sums c (omega arith) k g
-    ];
-  }

@@ -2,8 +2,11 @@
 -- Assumes nothing.
 use mathlib.Core.Bool.{Bool, cond}
 use mathlib.Core.List.{List}
-use mathlib.Core.Path.{◌≡◌, refl, sym, ◌∙◌, ap}
-use Prim.Native.Nat.{ℕ, ◌*◌, ◌^◌, ◌≤◌, ◌<◌}
+use mathlib.Core.Path.{◌≡◌, refl, sym, ◌∙◌, ap, subst}
+use Prim.Native.Nat.{ℕ, suc, ◌*◌, ◌^◌, ◌≤◌, ◌<◌}
+use native.Mathlib.Decide.{dec_lt}
+use Rattle.std.proofs.Math.Pow.{pow_mono}
+use Rattle.std.proofs.Math.Nat.{pow-suc}
 use native.Mathlib.Omega.{arith}
 use borrow.Author.Tests.{lt-ltb, le-ltb}
 use Rattle.alphabet.proofs.Sizes.{sized}
@@ -38,49 +41,62 @@ pub width_of : (w : Alphabet) → (2 ≤ width_on w) × (2 ^ width_on w ≡ (cod
 width_of Sixteen = (omega arith, refl)
 width_of ThirtyTwo = (omega arith, refl)
 
-module _ (w : Alphabet) where
-  -- α times a low symbol is its double
-  low : (x : ℕ) → x < 8 → (code_on w).times 2 x ≡ x * 2
-  low x h =
-      let e = (width_of w).1 in
+-- what the loop over the powers of two keeps: h is one of them, the multiples below it are there, and `high` is the multiple h
+pub record Doubled (w : Alphabet) (a : List ℕ) (h : ℕ) (high : List ℕ) (times : List (List ℕ)) : Type 0 where
+  pub power : (e : ℕ) × (h ≡ 2 ^ e)
+  pub least : 1 ≤ h
+  pub most : h ≤ (code_on w).symbols
+  pub symbols : SymbolBlock (code_on w) high
+  pub scaled : h < (code_on w).symbols → ScaledBlock (code_on w) h a high
+  pub there : MultiplesBlock (code_on w) h a times
+
+module _ (w : Alphabet) (a : List ℕ) where
+  -- the multiple 1 is the block
+  pub doubled_first : (n : ℕ) → n ≡ (code_on w).symbols → SymbolBlock (code_on w) a → Doubled w a 1 a (replicate n (replicate block 0))
+  doubled_first n is s =
       let least = (sized w).least in
-      sym (twice_low (width_on w) (modulus_on w) (positions_on w) (width_of w).0 x (omega arith))
+      record {
+        power = (0, refl);
+        least = omega arith;
+        most = omega arith;
+        symbols = s;
+        scaled = λ _. scaled_once (code_on w) (field_on w) a s;
+        there = multiples_first (code_on w) (field_on w) n (omega arith) a s;
+      }
 
-  -- a power of two joins what is below it
-  join : (e : ℕ) → Joins (code_on w) (2 ^ e)
-  join e = joins (width_on w) (modulus_on w) (positions_on w) e
+  module _ {h : ℕ} {high : List ℕ} {times : List (List ℕ)} (d : Doubled w a h high times) (low : h < (code_on w).symbols) where
+    -- the number of symbols is a power of two as h is: where h is below it, so is no more than its half
+    pub doubled_room : h * 2 ≤ (code_on w).symbols
+    doubled_room =
+        let e = d.power.0 in
+        let is = d.power.1 in
+        let wide = (width_of w).1 in
+        let less : e < width_on w = elim (dec_lt e (width_on w)) [
+          | yes l ↦ l
+          | no n ↦ let f = pow_mono {i = width_on w} {j = e} (omega arith) in absurd (omega arith)
+        ] in
+        let f = pow_mono {i = suc e} {j = width_on w} (omega arith) in
+        omega (arith, pow-suc 2 e)
 
-  symbol : (x : ℕ) → x < 16 → x < (code_on w).symbols
-  symbol x h = let least = (sized w).least in omega arith
-
-  -- the multiples 4 and 8
-  pub fourth : (a two four : List ℕ) → SymbolBlock (code_on w) a → ScaledBlock (code_on w) 2 a two → ScaledBlock (code_on w) 2 two four → ScaledBlock (code_on w) 4 a four
-  fourth a two four s e f =
-      scaled_again (code_on w) (field_on w) 2 2 4 a two four (symbol 2 (omega arith)) (symbol 2 (omega arith)) (low 2 (omega arith)) s e f
-
-  pub eighth : (a four eight : List ℕ) → SymbolBlock (code_on w) a → ScaledBlock (code_on w) 4 a four → ScaledBlock (code_on w) 2 four eight → ScaledBlock (code_on w) 8 a eight
-  eighth a four eight s e f =
-      scaled_again (code_on w) (field_on w) 2 4 8 a four eight (symbol 2 (omega arith)) (symbol 4 (omega arith)) (low 4 (omega arith)) s e f
-
-  -- a multiple of symbols is of symbols
-  pub still_symbols : (u : ℕ) → u < 16 → (a r : List ℕ) → SymbolBlock (code_on w) a → ScaledBlock (code_on w) u a r → SymbolBlock (code_on w) r
-  still_symbols u h a r s e = scaled_symbols (code_on w) (field_on w) u a r (symbol u h) s e
-
-  -- with each power of two those that are there become twice as many
-  pub first_sixteen : (n : ℕ) → 0 < n → (a two four eight : List ℕ) (m1 m2 m3 m4 : List (List ℕ)) → SymbolBlock (code_on w) a → ScaledBlock (code_on w) 2 a two
-      → ScaledBlock (code_on w) 4 a four → ScaledBlock (code_on w) 8 a eight → FilledTo sum_of 1 1 a (replicate n (replicate block 0)) m1 → FilledTo sum_of 2 2 two m1 m2
-      → FilledTo sum_of 4 4 four m2 m3 → FilledTo sum_of 8 8 eight m3 m4 → MultiplesBlock (code_on w) 16 a m4
-  first_sixteen n pos a two four eight m1 m2 m3 m4 s e2 e4 e8 f1 f2 f4 f8 =
-      let more = multiples_filled (code_on w) (field_on w) in
-      let one = more 1 a a _ m1 (symbol 1 (omega arith)) (join 0) s (multiples_first (code_on w) (field_on w) n pos a s) (scaled_once (code_on w) (field_on w) a s) f1 in
-      let twos = more 2 a two m1 m2 (symbol 2 (omega arith)) (join 1) s one e2 f2 in
-      let fours = more 4 a four m2 m3 (symbol 4 (omega arith)) (join 2) s twos e4 f4 in
-      more 8 a eight m3 m4 (symbol 8 (omega arith)) (join 3) s fours e8 f8
-
--- of thirty-two as many again
-pub other_sixteen : (a eight sixteenth : List ℕ) (old new : List (List ℕ)) → SymbolBlock (code_on ThirtyTwo) a → ScaledBlock (code_on ThirtyTwo) 8 a eight
-    → ScaledBlock (code_on ThirtyTwo) 2 eight sixteenth → MultiplesBlock (code_on ThirtyTwo) 16 a old → FilledTo sum_of 16 16 sixteenth old new
-    → MultiplesBlock (code_on ThirtyTwo) 32 a new
-other_sixteen a eight sixteenth old new s e f m g =
-    multiples_filled (code_on ThirtyTwo) (field_on ThirtyTwo) 16 a sixteenth old new (omega arith) (join ThirtyTwo 4) s m
-    (scaled_again (code_on ThirtyTwo) (field_on ThirtyTwo) 2 8 16 a eight sixteenth (omega arith) (omega arith) (sym (twice_low 5 37 31 (omega arith) 8 (omega arith))) s e f) g
+    -- with the multiple h added to each there are twice as many
+    pub doubled_again : (twofold : List ℕ) (new : List (List ℕ)) → SymbolBlock (code_on w) a → FilledTo sum_of h h high times new
+        → ScaledBlock (code_on w) 2 high twofold → Doubled w a (h * 2) twofold new
+    doubled_again twofold new s f t =
+        let C = code_on w in
+        let F = field_on w in
+        let e = d.power.0 in
+        let is = d.power.1 in
+        let wide = width_of w in
+        let least = (sized w).least in
+        let room = doubled_room in
+        let join = subst (Joins C) (sym is) (joins (width_on w) (modulus_on w) (positions_on w) e) in
+        record {
+          power = (suc e, omega (arith, pow-suc 2 e));
+          least = let one = d.least in omega arith;
+          most = room;
+          symbols = scaled_symbols C F 2 high twofold (omega arith) d.symbols t;
+          scaled = λ l.
+              let double = sym (twice_low (width_on w) (modulus_on w) (positions_on w) wide.0 h (omega arith)) in
+              scaled_again C F 2 h (h * 2) a high twofold (omega arith) low double s (d.scaled low) t;
+          there = multiples_filled C F h a high times new low join s d.there (d.scaled low) f;
+        }

@@ -17,6 +17,14 @@ use Rattle.definitions.specs.Tools.{below}
 use Rattle.blocks.proofs.Blocks.{front_none, front_more, front_block}
 use Rattle.blocks.specs.Row.{width, block, ZeroFrom, Front, PutBlock, filled}
 
+-- behind the first n entries of a row, which others replace, it is as it was
+behind : (front row : List ℕ) (n k : ℕ) → length front ≡ n → n ≤ k → get_or (front ++ drop n row) k 0 ≡ get_or row k 0
+behind front row n k e h =
+    let place : k ≡ length front + (k - n) = omega arith in
+    let back : n + (k - n) ≡ k = omega arith in
+    ap (λ (j : ℕ). get_or (front ++ drop n row) j 0) place ∙ get_or-append-add front (drop n row) (k - n) 0 ∙ get_or-drop n row (k - n) 0
+    ∙ ap (λ (j : ℕ). get_or row j 0) back
+
 module _ (f : ℕ → ℕ) where
   -- a row has `width` entries
   pub length_filled : (n : ℕ) → n ≤ width → length (filled n f) ≡ width
@@ -36,12 +44,7 @@ module _ (f : ℕ → ℕ) where
   -- and where it is not
   pub filled_rest : (n k : ℕ) → n ≤ k → get_or (filled n f) k 0 ≡ 0
   unfolding filled
-  filled_rest n k h =
-      let e : k ≡ length (map f (below n)) + (k - n) = rw (length_map_below f n) (omega arith) in
-      let g : n + (k - n) ≡ k = omega arith in
-      ap (λ (j : ℕ). get_or (map f (below n) ++ drop n (replicate width 0)) j 0) e
-      ∙ get_or-append-add (map f (below n)) (drop n (replicate width 0)) (k - n) 0 ∙ get_or-drop n (replicate width 0) (k - n) 0
-      ∙ ap (λ (j : ℕ). get_or (replicate width 0) j 0) g ∙ zero_at width k
+  filled_rest n k h = behind (map f (below n)) (replicate width 0) n k (length_map_below f n) h ∙ zero_at width k
 
   -- behind which the row is zero
   pub filled_zeros : (n : ℕ) → n ≤ width → ZeroFrom n (filled n f)

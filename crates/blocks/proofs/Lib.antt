@@ -1,3 +1,4 @@
 pub mod Filled
 pub mod Blocks
 pub mod Doubling
+pub mod Calls

@@ -1,3 +1,4 @@
 pub mod Direct
 pub mod Form
 pub mod Powers
+pub mod Degree

@@ -1,35 +1,16 @@
--- The powers of y that are counted, and the search for their number within the bound.
+-- The search for the number of powers of y within the bound.
 -- Assumes nothing.
 use mathlib.Core.Path.{◌≡◌, sym}
 use Prim.Native.Nat.{ℕ, suc, ◌+◌, ◌-◌, ◌*◌, ◌/◌, ◌≤◌, ◌<◌}
 use mir.Syntax.{w64}
 use mir.Val.{Fits}
-use native.Mathlib.Decide.{dec_lt}
-use native.Mathlib.Nat.{div-le_self, div-lt_iff_lt-mul, le-div_iff_mul-le, mul_comm, mul-le-mul, mul-le-mul_right}
+use native.Mathlib.Nat.{div-lt_iff_lt-mul, le-div_iff_mul-le, mul_comm, mul-le-mul}
 use native.Mathlib.Numerals.{add-one}
 use native.Mathlib.Omega.{arith}
 use Rattle.bound.proofs.Direct.{direct, largest_is}
-use Rattle.definitions.proofs.Monomials.{power_within}
 use Rattle.definitions.specs.Bound.{bound}
 
--- a power of y that is counted
-pub power_fits : (v d b : ℕ) → b ≤ d / v → (v * b ≤ d) × (b ≤ d)
-power_fits v d b h = let quotient = div-le_self d v in (power_within v d b h, omega arith)
-
 module _ (v C m : ℕ) (pos : 0 < v) (within : m * (m - 1) ≤ 2 * C / v) where
-  -- m is small
-  pub number_small : m ≤ suc C
-  number_small =
-      elim (dec_lt (suc C) m) [
-        | yes l ↦
-            let quotient = div-le_self (2 * C) v in
-            let a : suc (suc C) * suc C ≤ m * (m - 1) = mul-le-mul l (omega arith) in
-            let b : 2 * suc C ≤ suc (suc C) * suc C = mul-le-mul_right (suc C) (omega arith) in
-            let z : ⊥ = omega arith in
-            absurd z
-        | no n ↦ omega arith
-      ]
-
   -- v m (m - 1) is at most twice the cost
   pub number_within : v * (m * (m - 1)) ≤ 2 * C
   number_within = let a = (le-div_iff_mul-le pos).0 within in let b = mul_comm v (m * (m - 1)) in omega arith
@@ -45,10 +26,3 @@ module _ (v C m : ℕ) (pos : 0 < v) (within : m * (m - 1) ≤ 2 * C / v) where
 -- a machine word holds the product of two numbers that are not much larger than a cost
 pub product_fits : (a b : ℕ) → a ≤ 65537 → b ≤ 65537 → Fits w64 (a * b)
 product_fits a b ha hb = let p : a * b ≤ 65537 * 65537 = mul-le-mul ha hb in omega arith
-
--- the next number, where it is within the quotient, is small too
-pub number_next : (v C m : ℕ) → 0 < v → (m + 1) * m ≤ 2 * C / v → (m + 1 ≤ suc C) × ((m + 1) * (m + 1 - 1) ≤ 2 * C / v)
-number_next v C m pos h =
-    let e : m + 1 - 1 ≡ m = omega arith in
-    let within : (m + 1) * (m + 1 - 1) ≤ 2 * C / v = rw e h in
-    (number_small v C (m + 1) pos within, within)

@@ -1,9 +1,11 @@
 -- The steps of the loops, over plain numbers and lists and any code.
 -- Assumes nothing.
-use mathlib.Core.List.{List, ◌++◌}
+use mathlib.Core.List.{List, ◌++◌, reverse}
 use mathlib.Core.Path.{◌≡◌, sym, ◌∙◌, ap}
 use Prim.Native.Nat.{ℕ, ◌+◌, ◌-◌, ◌≤◌, ◌<◌}
 use native.Mathlib.Numerals.{add-one}
+use native.Mathlib.Omega.{arith}
+use Rattle.std.proofs.lemmas.List.{get_or-reverse, get_or_default, length-reverse}
 use lib.ListN.{length, drop, get_or, set}
 use lib.Seq.{drop-length}
 use Rattle.algebra.proofs.Numbers.{point_symbol, value_symbol}
@@ -23,6 +25,17 @@ module _ (C : Code) where
   pub value_more : (x : ℕ) (f : List ℕ) (j y p : ℕ) → 0 < j → j ≤ length f → y ≡ value (numbers C) x (drop j f) → p ≡ C.times x y
       → C.plus (get_or f (j - 1) 0) p ≡ value (numbers C) x (drop (j - 1) f)
   value_more x f j y p h l ey ep = ap (C.plus (get_or f (j - 1) 0)) (ep ∙ ap (C.times x) ey) ∙ sym (value_step (numbers C) x f j h l)
+
+  -- Horner's step at c, which n coefficients stand behind
+  pub value_back : (x : ℕ) (f : List ℕ) (n m c y p : ℕ) → (n < length (reverse f)) × (c ≡ get_or (reverse f) n c) → m ≡ n + 1
+      → y ≡ value (numbers C) x (drop (length f - n) f) → p ≡ C.times x y → C.plus c p ≡ value (numbers C) x (drop (length f - m) f)
+  value_back x f n m c y p met more ey ep =
+      let low : n < length f = omega (arith, length-reverse f, met.0) in
+      let here : c ≡ get_or f (length f - 1 - n) 0 = met.1 ∙ get_or-reverse f n c low ∙ get_or_default f (length f - 1 - n) c 0 (omega arith) in
+      let place : length f - 1 - n ≡ length f - n - 1 = omega arith in
+      let next : length f - n - 1 ≡ length f - m = omega arith in
+      ap (λ (k : ℕ). C.plus k p) (here ∙ ap (λ (k : ℕ). get_or f k 0) place)
+      ∙ value_more x f (length f - n) y p (omega arith) (omega arith) ey ep ∙ ap (λ (k : ℕ). value (numbers C) x (drop k f)) next
 
   -- the points, one after the other
   pub first_point : 1 ≡ point C 0

@@ -2,13 +2,13 @@
 -- Assumes nothing.
 use mathlib.Core.List.{List, [], ◌∷◌, ◌++◌, map, flat_map}
 use mathlib.Core.Path.{◌≡◌, refl, sym, ◌∙◌, ap, ap₂, subst}
-use Prim.Native.Nat.{ℕ, suc, ◌+◌, ◌≤◌}
+use Prim.Native.Nat.{ℕ, suc, ◌+◌, ◌≤◌, ◌<◌}
 use native.Mathlib.Nat.{add-zero, add-suc, suc-add}
 use native.Mathlib.Numerals.{add-one}
 use native.Mathlib.Omega.{arith}
 use lib.ListN.{length, get_or, set}
 use lib.Seq.{sets, length-sets, get_or-set_other}
-use Rattle.definitions.proofs.Joined.{join_nil, join_below, joined_count}
+use Rattle.definitions.proofs.Joined.{join_nil, join_below, joined_count, joined_room}
 use Rattle.definitions.proofs.Tools.{below_zero, length_map_below, map_below}
 use Rattle.definitions.specs.Tools.{below}
 use Rattle.blocks.specs.Row.{ZeroFrom}
@@ -44,25 +44,35 @@ module _ {A : Type 0} (f : ℕ → A) (o : List A) (at : ℕ) where
       ∙ sym (sets_append o at (map f (below t)) (f t ∷ []))
       ∙ ap (sets o at) (sym (map_below f t)) ∙ ap (λ (n : ℕ). sets o at (map f (below n))) (sym (add-one t))
 
-module _ {A : Type 0} (f : ℕ → List A) where
-  module _ (o : List A) (at : ℕ) where
-    -- none is put yet
-    pub joined_none : o ≡ sets o at (flat_map f (below 0))
-    joined_none = ap (sets o at) (sym (join_nil f)) ∙ ap (λ (l : List ℕ). sets o at (flat_map f l)) (sym below_zero)
+-- lists of rows are put one after the other, from `at` on, in place of the rows of o: the first s lists of f are, and next is the place after them
+pub record Joining (f : ℕ → List (List ℕ)) (o : List (List ℕ)) (at s next : ℕ) (now : List (List ℕ)) : Type 0 where
+  pub place : next ≡ at + length (flat_map f (below s))
+  pub put : now ≡ sets o at (flat_map f (below s))
 
-    -- and none is counted
-    pub none_counted : at ≡ at + length (flat_map f (below 0))
-    none_counted =
-        let e : length (flat_map f (below 0)) ≡ 0 = ap (λ (l : List ℕ). length (flat_map f l)) below_zero ∙ ap length (join_nil f) in
-        omega arith
+module _ {f : ℕ → List (List ℕ)} {o : List (List ℕ)} {at : ℕ} where
+  -- none is put yet
+  pub joining_none : Joining f o at 0 at o
+  joining_none =
+      let e = ap (λ (l : List ℕ). flat_map f l) below_zero ∙ join_nil f in
+      let count : length (flat_map f (below 0)) ≡ 0 = ap length e in
+      record { place = omega arith; put = ap (sets o at) (sym e) }
 
+  module _ {s next : ℕ} {now : List (List ℕ)} (j : Joining f o at s next now) where
     -- one list more
-    pub joined_more : (now next : List A) (s r : ℕ) → now ≡ sets o at (flat_map f (below s)) → r ≡ at + length (flat_map f (below s))
-        → next ≡ sets now r (f s) → next ≡ sets o at (flat_map f (below (s + 1)))
-    joined_more now next s r e er en =
-        en ∙ ap₂ (λ (l : List A) (n : ℕ). sets l n (f s)) e er ∙ sym (sets_append o at (flat_map f (below s)) (f s)) ∙ ap (sets o at) (sym (join_below f s))
-        ∙ ap (λ (n : ℕ). sets o at (flat_map f (below n))) (sym (add-one s))
+    pub joining_more : {after : ℕ} {new : List (List ℕ)} → after ≡ next + length (f s) → new ≡ sets now next (f s) → Joining f o at (s + 1) after new
+    joining_more e put = record {
+      place = let c = joined_count f s in let p = j.place in omega arith;
+      put = put ∙ ap₂ (λ (l : List (List ℕ)) (n : ℕ). sets l n (f s)) j.put j.place ∙ sym (sets_append o at (flat_map f (below s)) (f s)) ∙ ap (sets o at) (sym (join_below f s))
+          ∙ ap (λ (n : ℕ). sets o at (flat_map f (below n))) (sym (add-one s));
+    }
 
-    -- one list more is counted
-    pub count_more : (s r : ℕ) → r ≡ at + length (flat_map f (below s)) → r + length (f s) ≡ at + length (flat_map f (below (s + 1)))
-    count_more s r e = let c = joined_count f s in omega arith
+    -- there is room for it, where there is for more lists
+    pub joining_room : (n : ℕ) → s < n → at + length (flat_map f (below n)) ≤ length o → next + length (f s) ≤ length now
+    joining_room n h room =
+        let fits = joined_room f n s h in
+        let size = ap length j.put ∙ length-sets o at (flat_map f (below s)) in
+        let p = j.place in omega arith
+
+    -- the rows behind them stay clear
+    pub joining_clear : (n : ℕ) → Clear at n o → Clear next n now
+    joining_clear n clear = clear_behind o now (flat_map f (below s)) at n next clear j.put j.place

@@ -6,7 +6,6 @@ ghost use Rattle.std.specs.Prelude.{◌≡◌, ◌+◌, ◌*◌, ◌≤◌, ◌<
 ghost use Rattle.std.proofs.lemmas.List.Edits.{sets};
 ghost use Rattle.alphabet.specs.Codes.{code_on};
 ghost use Rattle.definitions.specs.Code.{Symbols};
-ghost use Rattle.tables.specs.Table.{Tabled};
 ghost use Rattle.monomials.specs.Rows.{Places};
 ghost use Rattle.conditions.specs.MaskedRows.{Clear, asked_at, base_at, kept_order, kept_orders, masked_point, masked_column, masked_rows};
 ghost use Rattle.blocks.specs.Row.{width, block};
@@ -19,19 +18,13 @@ use tables::ALPHA;
 fn asked_at(b: u8, t: u8) -> u8
     ensures { result ≡ asked_at b t }
 {
-    if b == 0 {
-        return 255;
-    }
-    t
+    if b == 0 { 255 } else { t }
 }
 
 fn base_at(b: u8) -> u8
     ensures { result ≡ base_at b }
 {
-    if b == 0 {
-        return 1;
-    }
-    b
+    if b == 0 { 1 } else { b }
 }
 
 // The conditions of one order by x: the orders by y below m. Answers the place after them.
@@ -48,14 +41,17 @@ fn order_rows(
     ensures value { result ≡ at + m }
     ensures rows_after { rows.new ≡ sets rows.old at (kept_order blocks row.now ys.now b m) }
 {
-    let mut next = at;
-    let mut t = 0u8;
-    while t < m {
-        masks::keep(row, ys, asked_at(b, t), t, blocks, &mut rows[next]);
-        next += 1;
-        t += 1;
+    for t in 0..m {
+        masks::keep(
+            row,
+            ys,
+            asked_at(b, t),
+            t,
+            blocks,
+            &mut rows[at + usize::from(t)],
+        );
     }
-    next
+    at + usize::from(m)
 }
 
 // The conditions of all orders below m, of the monomials' values. Answers the place after them.
@@ -74,11 +70,9 @@ fn orders_rows(
 {
     let mut part = [0u8; WIDTH];
     let mut next = at;
-    let mut s = 0u8;
-    while s < m {
+    for s in 0..m {
         masks::keep(row, &es[0], s, s, blocks, &mut part);
         next = order_rows(rows, next, &part, &es[1], b, m - s, blocks);
-        s += 1;
     }
     next
 }
@@ -88,7 +82,6 @@ fn point_rows(
     alphabet: Alphabet,
     rows: &mut [[u8; WIDTH]],
     at: usize,
-    table: &[u8],
     px: &[u8; WIDTH],
     es: &[[u8; WIDTH]; 2],
     b: u8,
@@ -96,7 +89,6 @@ fn point_rows(
     n: usize,
     blocks: usize,
 ) -> usize
-    requires tabled { Tabled (code_on alphabet) table.now }
     requires symbols { Symbols (code_on alphabet) px.now × Places es.now }
     requires b_bound { (b < (code_on alphabet).symbols) × (n ≤ width) × (blocks * block ≤ width) }
     requires m_in_bounds { (at + length (masked_point (code_on alphabet) px.now n blocks es.now b m) ≤ length rows.old) × Clear at (blocks * block) rows.old }
@@ -107,9 +99,9 @@ fn point_rows(
         return at;
     }
     let mut py = [0u8; WIDTH];
-    monomials::powers(alphabet, table, base_at(b), n, &mut py);
+    monomials::powers(alphabet, base_at(b), n, &mut py);
     let mut row = [0u8; WIDTH];
-    monomials::values(alphabet, table, px, &py, es, blocks * BLOCK, &mut row);
+    monomials::values(alphabet, px, &py, es, blocks * BLOCK, &mut row);
     orders_rows(rows, at, &row, es, b, m, blocks)
 }
 
@@ -118,27 +110,22 @@ fn column_rows(
     alphabet: Alphabet,
     rows: &mut [[u8; WIDTH]],
     at: usize,
-    table: &[u8],
     px: &[u8; WIDTH],
     es: &[[u8; WIDTH]; 2],
     column: &[u8; MOST_SYMBOLS],
     n: usize,
     blocks: usize,
 ) -> usize
-    requires tabled { Tabled (code_on alphabet) table.now }
     requires symbols { Symbols (code_on alphabet) px.now × Places es.now }
     requires n_le_width { (n ≤ width) × (blocks * block ≤ width) }
     requires column_in_bounds { (at + length (masked_column (code_on alphabet) px.now n blocks es.now column.now) ≤ length rows.old) × Clear at (blocks * block) rows.old }
     ensures value { result ≡ at + length (masked_column (code_on alphabet) px.now n blocks es.now column.now) }
     ensures rows_after { rows.new ≡ sets rows.old at (masked_column (code_on alphabet) px.now n blocks es.now column.now) }
 {
-    let greatest = alphabet.greatest_symbol();
     let mut next = at;
-    let mut b = 0u8;
-    while b <= greatest {
-        let m = column[numbers::wide(b)];
-        next = point_rows(alphabet, rows, next, table, px, es, b, m, n, blocks);
-        b += 1;
+    for b in 0..=alphabet.greatest_symbol() {
+        let m = column[usize::from(b)];
+        next = point_rows(alphabet, rows, next, px, es, b, m, n, blocks);
     }
     next
 }
@@ -147,39 +134,24 @@ fn column_rows(
 pub fn matrix_rows(
     alphabet: Alphabet,
     rows: &mut [[u8; WIDTH]],
-    table: &[u8],
     matrix: &[[u8; MOST_SYMBOLS]; MOST_POSITIONS],
     v: usize,
     d: usize,
     blocks: usize,
 ) -> usize
-    requires tabled { Tabled (code_on alphabet) table.now }
     requires v_nonzero { (0 < v) × (d < width) × (blocks * block ≤ width) }
     requires matrix_in_bounds { (length (masked_rows (code_on alphabet) v d blocks matrix.now) ≤ length rows.old) × Clear 0 (blocks * block) rows.old }
     ensures value { result ≡ length (masked_rows (code_on alphabet) v d blocks matrix.now) }
     ensures rows_after { rows.new ≡ sets rows.old 0 (masked_rows (code_on alphabet) v d blocks matrix.now) }
 {
-    let positions = alphabet.positions();
     let es = monomials::exponents(v, blocks * BLOCK);
     let mut px = [0u8; WIDTH];
     let mut next = 0;
     let mut a = 1u8;
-    let mut i = 0;
-    while i < positions {
-        monomials::powers(alphabet, table, a, d + 1, &mut px);
-        next = column_rows(
-            alphabet,
-            rows,
-            next,
-            table,
-            &px,
-            &es,
-            &matrix[i],
-            d / v + 1,
-            blocks,
-        );
-        a = tables::look(alphabet, table, ALPHA, a);
-        i += 1;
+    for column in &matrix[..alphabet.positions()] {
+        monomials::powers(alphabet, a, d + 1, &mut px);
+        next = column_rows(alphabet, rows, next, &px, &es, column, d / v + 1, blocks);
+        a = tables::look(alphabet, ALPHA, a);
     }
     next
 }

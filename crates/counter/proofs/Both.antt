@@ -1,32 +1,20 @@
 -- What the table of two lists says of a call that passes it.
 -- Assumes nothing.
-use mathlib.Core.List.{List, [], ◌∷◌}
+use mathlib.Core.List.{List}
 use mathlib.Core.Bool.{false, ◌&&◌}
 use mathlib.Core.Path.{◌≡◌, sym, ◌∙◌, ap}
-use Prim.Native.Nat.{ℕ, ◌*◌, ◌<◌}
-use native.Mathlib.Omega.{arith}
+use Prim.Native.Nat.{ℕ, ◌*◌}
 use borrow.Author.Tests.{eqb-true, not-false}
 use lib.Dec.{eqb}
 use lib.ListN.{length}
-use Rattle.counter.specs.Judging.{lead, same_settings, settings, both_table}
+use Rattle.counter.specs.Judging.{same_settings, settings, both_table}
 use Rattle.counter.specs.declared.Settings.{Settings}
-use Rattle.definitions.proofs.Table.{Accepts, next, sizes_mean}
+use Rattle.definitions.proofs.Table.{Accepts, next}
 use Rattle.definitions.proofs.Tools.{both}
 use Rattle.definitions.specs.Field.{Code}
-use Rattle.definitions.specs.Refusals.{Line, sizes, level}
 use Rattle.rows.proofs.Rows.{list_line_means}
 
 module _ (C : Code) (s t : Settings) where
-  -- the lines before the lists
-  abbrev pub settled_table : ℕ → List Line
-  settled_table g = sizes C s.n s.k ∷ sizes C t.n t.k ∷ level s.level ∷ level t.level ∷ lead g ∷ settings s t ∷ []
-
-  pub first_sized : (g : ℕ) → Accepts (settled_table g) → 0 < s.k
-  first_sized g (next a later) = let h = sizes_mean C s.n s.k a in omega arith
-
-  pub second_sized : (g : ℕ) → Accepts (settled_table g) → 0 < t.k
-  second_sized g (next a (next b later)) = let h = sizes_mean C t.n t.k b in omega arith
-
   same_k : (settings s t).given ≡ false → t.k ≡ s.k
   same_k e =
       let rest = (both (eqb s.n t.n) (eqb s.k t.k && eqb s.level t.level) (not-false (same_settings s t) e)).1 in

@@ -6,17 +6,10 @@ use mathlib.Core.Path.{◌≡◌, refl, sym, ◌∙◌, ap}
 use Prim.Native.Nat.{ℕ, ◌+◌, ◌≤◌, ◌<◌}
 use native.Mathlib.Nat.{suc-ne-zero, suc_inj}
 use native.Mathlib.Omega.{arith}
-use borrow.Author.Tests.{le-leb, lt-leb, eq-eqb, ne_eqb}
+use borrow.Author.Tests.{le-leb, lt-leb}
 use lib.Dec.{leb}
 use lib.ListN.{length, get_or}
-use Rattle.counter.specs.Judging.{to_open, to_ask, nothing, judged, of_judged}
-
--- which list is judged
-pub first_judged : {A : Type 0} (scores : List ℕ) (first second : A) → 1 ≤ length scores → first ≡ of_judged scores first second
-first_judged scores first second h = rw (ne_eqb (length scores) 0 (λ e. let z : ⊥ = omega arith in z))
-
-pub second_judged : {A : Type 0} (scores : List ℕ) (first second : A) → length scores ≡ 0 → second ≡ of_judged scores first second
-second_judged scores first second h = rw (eq-eqb (length scores) 0 h)
+use Rattle.counter.specs.Judging.{to_open, to_ask, nothing, judged}
 
 module _ (g : ℕ) where
   pub judged_none : (scores : List ℕ) → length scores ≡ 0 → nothing ≡ judged g scores

@@ -26,7 +26,7 @@ fn refused(r: Refusal) -> Judgement
 {
     Judgement {
         place: r.place() as u64,
-        number: numbers::narrow(r.number()),
+        number: r.number() as u16,
         value: 0,
         count: 0,
     }
@@ -43,14 +43,14 @@ fn valued(value: u16) -> Judgement
     }
 }
 
-pub fn judged(v: Verdict) -> Judgement
+pub fn judged(v: Result<Verdict, Refusal>) -> Judgement
     ensures { judgement_of result ≡ told_verdict v }
 {
     match v {
-        Verdict::Open => valued(1),
-        Verdict::Ask => valued(2),
-        Verdict::Nothing => valued(3),
-        Verdict::Refused(r) => refused(r),
+        Ok(Verdict::Open) => valued(1),
+        Ok(Verdict::Ask) => valued(2),
+        Ok(Verdict::Nothing) => valued(3),
+        Err(r) => refused(r),
     }
 }
 
@@ -61,27 +61,22 @@ fn told_part(verdict: Judgement, list: u16, k: usize) -> Judgement
 {
     if verdict.value == 1 {
         return Judgement {
-            place: verdict.place,
-            number: verdict.number,
             value: list,
-            count: numbers::narrow(k),
+            count: k as u16,
+            ..verdict
         };
     }
     Judgement {
-        place: verdict.place,
-        number: verdict.number,
         value: 0,
         count: 0,
+        ..verdict
     }
 }
 
 fn holder(scores: &[u16]) -> u16
     ensures { result ≡ holder scores.now }
 {
-    if scores.len() == 0 {
-        return 2;
-    }
-    1
+    if scores.is_empty() { 2 } else { 1 }
 }
 
 pub fn part(alphabet: Alphabet, k: usize, rows: &[u8], scores: &[u16], lead: usize) -> Judgement

@@ -9,20 +9,16 @@ ghost use Rattle.field.specs.Element.{told_element};
 ghost use Rattle.interpolation.specs.Interpolated.{told_interpolated};
 ghost use Rattle.planner.specs.Planned.{told_planned};
 ghost use Rattle.proposals.specs.Proposed.{told_proposed};
-ghost use Rattle.refusals.specs.Counted.{told_counted};
+ghost use Rattle.refusals.specs.Told.{told_counted};
 ghost use Rattle.refusals.specs.Refusal.{told_refusal};
 ghost use Rattle.weights.specs.Costed.{told_costed};
 
 pub mod judgements;
 
-use edits::Priced;
-use field::Element;
 use interpolation::Interpolated;
-use numbers::narrow;
 use planner::Planned;
-use proposals::Proposed;
-use refusals::{Counted, Refusal};
-use weights::Costed;
+use refusals::Refusal;
+use weights::Costs;
 
 #[repr(C)]
 #[derive(Clone, Copy)]
@@ -40,8 +36,8 @@ fn refused(r: Refusal) -> Answer
     ensures { answer_of result ≡ told_refusal r }
 {
     Answer {
-        number: narrow(r.number()),
-        place: narrow(r.place()),
+        number: r.number() as u16,
+        place: r.place() as u16,
         count: 0,
         value: 0,
         cost: 0,
@@ -62,73 +58,72 @@ fn accepted(count: u16, value: u16, cost: u16, bound: u16) -> Answer
     }
 }
 
-pub fn element(e: Element) -> Answer
+pub fn element(e: Result<u8, Refusal>) -> Answer
     requires { Narrow (told_element e) }
     ensures { answer_of result ≡ told_element e }
 {
     match e {
-        Element::Of(x) => accepted(0, x as u16, 0, 0),
-        Element::Refused(r) => refused(r),
+        Ok(x) => accepted(0, u16::from(x), 0, 0),
+        Err(r) => refused(r),
     }
 }
 
-pub fn counted(c: Counted) -> Answer
+pub fn counted(c: Result<usize, Refusal>) -> Answer
     requires { Narrow (told_counted c) }
     ensures { answer_of result ≡ told_counted c }
 {
     match c {
-        Counted::Count(n) => accepted(narrow(n), 0, 0, 0),
-        Counted::Refused(r) => refused(r),
+        Ok(n) => accepted(n as u16, 0, 0, 0),
+        Err(r) => refused(r),
     }
 }
 
-pub fn costed(c: Costed) -> Answer
+pub fn costed(c: Result<Costs, Refusal>) -> Answer
     requires { Narrow (told_costed c) }
     ensures { answer_of result ≡ told_costed c }
 {
     match c {
-        Costed::Of { cost, bound } => accepted(0, 0, narrow(cost), narrow(bound)),
-        Costed::Refused(r) => refused(r),
+        Ok(Costs { cost, bound }) => accepted(0, 0, cost as u16, bound as u16),
+        Err(r) => refused(r),
     }
 }
 
-pub fn interpolated(i: Interpolated) -> Answer
+pub fn interpolated(i: Result<Interpolated, Refusal>) -> Answer
     requires { Narrow (told_interpolated i) }
     ensures { answer_of result ≡ told_interpolated i }
 {
     match i {
-        Interpolated::Of { bound, count } => accepted(narrow(count), 0, 0, narrow(bound)),
-        Interpolated::Refused(r) => refused(r),
+        Ok(Interpolated { bound, count }) => accepted(count as u16, 0, 0, bound as u16),
+        Err(r) => refused(r),
     }
 }
 
-pub fn priced(p: Priced) -> Answer
+pub fn priced(p: Result<usize, Refusal>) -> Answer
     requires { Narrow (told_priced p) }
     ensures { answer_of result ≡ told_priced p }
 {
     match p {
-        Priced::Cost(cost) => accepted(0, 0, narrow(cost), 0),
-        Priced::Refused(r) => refused(r),
+        Ok(cost) => accepted(0, 0, cost as u16, 0),
+        Err(r) => refused(r),
     }
 }
 
-pub fn planned(p: Planned) -> Answer
+pub fn planned(p: Result<Planned, Refusal>) -> Answer
     requires { Narrow (told_planned p) }
     ensures { answer_of result ≡ told_planned p }
 {
     match p {
-        Planned::Of { count, steps } => accepted(narrow(count), narrow(steps), 0, 0),
-        Planned::Refused(r) => refused(r),
+        Ok(Planned { count, steps }) => accepted(count as u16, steps as u16, 0, 0),
+        Err(r) => refused(r),
     }
 }
 
-pub fn proposed(p: Proposed) -> Answer
+pub fn proposed(p: Result<bool, Refusal>) -> Answer
     requires { Narrow (told_proposed p) }
     ensures { answer_of result ≡ told_proposed p }
 {
     match p {
-        Proposed::Yes => accepted(0, 1, 0, 0),
-        Proposed::No => accepted(0, 0, 0, 0),
-        Proposed::Refused(r) => refused(r),
+        Ok(yes) => accepted(0, u16::from(yes), 0, 0),
+        Err(r) => refused(r),
     }
 }

@@ -12,19 +12,19 @@ ghost use Rattle.matrix.specs.Record.{held_by};
 pub mod parts;
 
 use alphabet::Alphabet;
-use edits::Priced;
 use matrix::{Matrix, PLACES, POSITIONS};
+use refusals::Refusal;
 
 // The outcome, and the record after it: where it is refused the one that went in.
 #[derive(Clone, Copy)]
 pub struct Edited {
-    pub outcome: Priced,
+    pub outcome: Result<usize, Refusal>,
     pub matrix: Matrix,
 }
 
 // The record of n with the new cost, or the one of the old n and cost.
 fn recorded(
-    outcome: Priced,
+    outcome: Result<usize, Refusal>,
     old_n: usize,
     old_cost: usize,
     n: usize,
@@ -34,8 +34,8 @@ fn recorded(
     ensures { (result.outcome ≡ outcome) × (held_by result.matrix ≡ record_after outcome old_n old_cost n totals entries) }
 {
     match outcome {
-        Priced::Cost(cost) => Edited {
-            outcome: Priced::Cost(cost),
+        Ok(cost) => Edited {
+            outcome,
             matrix: Matrix {
                 n,
                 cost,
@@ -43,8 +43,8 @@ fn recorded(
                 entries,
             },
         },
-        Priced::Refused(r) => Edited {
-            outcome: Priced::Refused(r),
+        Err(_) => Edited {
+            outcome,
             matrix: Matrix {
                 n: old_n,
                 cost: old_cost,

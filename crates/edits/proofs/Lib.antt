@@ -1,3 +1,5 @@
 pub mod Edits
 pub mod Entries
 pub mod Moving
+pub mod Lowest
+pub mod Rightly

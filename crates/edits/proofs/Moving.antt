@@ -19,6 +19,8 @@ use Rattle.matrix.proofs.Columns.{cost_small}
 use Rattle.edits.proofs.Edits.{none_above_done}
 use Rattle.edits.specs.Edits.{Edits}
 use Rattle.memory.specs.Laid.{laid}
+use Rattle.refusals.specs.Found.{Found}
+use Rattle.std.proofs.Common.{None}
 
 module _ (C : Code) (h : Held) (r : Rightly C h) where
   total_stored : (i : ℕ) → i < C.positions → get_or h.totals i 0 ≡ sum_of_column C h.entries i
@@ -49,13 +51,13 @@ module _ (C : Code) (h : Held) (r : Rightly C h) where
       pub cost_moves : cost (with_entry C h.entries i b x) + entry_cost (entry C h.entries i b) ≡ h.cost + entry_cost x
       cost_moves = cost_set h.entries (C.symbols * i + b) x at_within ∙ ap (λ (c : ℕ). c + entry_cost x) (sym r.cost_is)
 
-      pub set_done : (bad : ℕ) → bad ≡ lowest_above C (h.entries ∷ with_entry C h.entries i b x ∷ []) → places C ≤ bad → (t c : ℕ)
+      pub set_done : Found (lowest_above C (h.entries ∷ with_entry C h.entries i b x ∷ [])) (places C) None → (t c : ℕ)
           → t + entry C h.entries i b ≡ get_or h.totals i 0 + x → c + entry_cost (entry C h.entries i b) ≡ h.cost + entry_cost x
           → (after : List ℕ) → after ≡ with_entry C h.entries i b x
           → Edits (in_or_out C (h.entries ∷ with_entry C h.entries i b x ∷ []) ∷ []) h (held_of C h.n (with_entry C h.entries i b x)) (costed c 0)
           (set h.totals i t) after
-      set_done bad e past t c et ec after ea =
-          none_above_done C (h.entries ∷ with_entry C h.entries i b x ∷ []) h (held_of C h.n (with_entry C h.entries i b x)) bad e past c
+      set_done none t c et ec after ea =
+          none_above_done C (h.entries ∷ with_entry C h.entries i b x ∷ []) h (held_of C h.n (with_entry C h.entries i b x)) none c
           (set h.totals i t) after (let moved = cost_moves in omega arith)
           (ap (λ (l : List ℕ). set l i t) r.totals_are
           ∙ totals_set C h.entries i b x hb at_within t hi (let s = total_at C h.entries i hi in let k = total_stored i hi in omega arith))
@@ -76,12 +78,12 @@ module _ (C : Code) (h : Held) (r : Rightly C h) where
         let stored = r.cost_is in
         omega arith
 
-    pub clear_done : (bad : ℕ) → bad ≡ lowest_above C (h.entries ∷ without_column C h.entries i ∷ []) → places C ≤ bad → (p c : ℕ)
+    pub clear_done : Found (lowest_above C (h.entries ∷ without_column C h.entries i ∷ [])) (places C) None → (p c : ℕ)
         → p ≡ cost (take C.symbols (drop (C.symbols * i) h.entries)) → c + p ≡ h.cost → (after : List ℕ) → after ≡ without_column C h.entries i
         → Edits (in_or_out C (h.entries ∷ without_column C h.entries i ∷ []) ∷ []) h (held_of C h.n (without_column C h.entries i)) (costed c 0)
         (set h.totals i 0) after
-    clear_done bad e past p c ep ec after ea =
-        none_above_done C (h.entries ∷ without_column C h.entries i ∷ []) h (held_of C h.n (without_column C h.entries i)) bad e past c
+    clear_done none p c ep ec after ea =
+        none_above_done C (h.entries ∷ without_column C h.entries i ∷ []) h (held_of C h.n (without_column C h.entries i)) none c
         (set h.totals i 0) after (let moved = without_column_lem p ep in omega arith)
         (ap (λ (l : List ℕ). set l i 0) r.totals_are ∙ totals_cleared C h.entries i column_within hi) ea
 

@@ -11,7 +11,7 @@ use lib.Seq.{get_or-set_same, get_or-set_other}
 use Rattle.algebra.specs.FieldOf.{FieldOf}
 use Rattle.algebra.specs.Grid.{entry_of}
 use Rattle.definitions.specs.Field.{Code, numbers}
-use Rattle.linear.proofs.Back.{solved_none, solved_more}
+use Rattle.linear.proofs.Back.{solved_more}
 use Rattle.linear.proofs.Symbols.{behind_symbol}
 use Rattle.linear.proofs.Triangle.{behind_none, behind_more}
 use Rattle.linear.specs.Rows.{SymbolRows, behind, Solved}
@@ -42,10 +42,6 @@ between_symbols C F m sm s j y q h sq e k l g =
 -- the entries from s on and before j are symbols
 abbrev pub SymbolsFrom : Code → ℕ → ℕ → List ℕ → Type 0
 SymbolsFrom C s j q = (k : ℕ) → s ≤ k → k < j → get_or q k 0 < C.symbols
-
--- none is found yet
-pub solve_none : (C : Code) (j : ℕ) (m : List (List ℕ)) (out : List ℕ) → Solved C j j m out out × SymbolsFrom C j j out
-solve_none C j m out = (solved_none C j m out, λ k l h. let z : ⊥ = omega arith in absurd z)
 
 -- one more is found, behind which all are
 pub solve_more : (C : Code) → FieldOf C → (j s y : ℕ) (m : List (List ℕ)) (old now : List ℕ) → SymbolRows C m → 0 < s → s ≤ j → j ≤ length old

@@ -33,7 +33,9 @@ use Rattle.planner.proofs.Unique.{one_planned}
 use Rattle.planner.specs.Planned.{told_planned}
 use Rattle.proposals.proofs.Unique.{one_proposed}
 use Rattle.refusals.proofs.Unique.{one_counted}
-use Rattle.refusals.specs.Counted.{told_counted}
+use Rattle.std.specs.Prelude.{Result}
+use Rattle.refusals.specs.Told.{told_counted}
+use Rattle.refusals.specs.declared.Refusal.{Refusal}
 use Rattle.weights.proofs.Unique.{one_costed}
 
 -- an answer as it crosses to C is told by its numbers
@@ -72,7 +74,7 @@ listed = both_left told_counted (λ x y e. one_counted e refl)
 planned : (answer : Answer) (memory : List ℕ) → AllowsOne (Leaves told_planned answer memory)
 planned = one_left told_planned (λ x y e. one_planned e refl)
 
-interpolated : (x y : Interpolated × List ℕ) → (told_interpolated x.0 ≡ told_interpolated y.0) × (x.1 ≡ y.1) → x ≡ y
+interpolated : (x y : Result Interpolated Refusal × List ℕ) → (told_interpolated x.0 ≡ told_interpolated y.0) × (x.1 ≡ y.1) → x ≡ y
 interpolated = with_memory told_interpolated (λ x y e. one_interpolated e refl)
 
 edited : (answer : Answer) (after : Held) → AllowsOne (EditsParts answer after)

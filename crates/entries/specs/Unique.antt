@@ -1,7 +1,7 @@
 -- "For every input, refusals too, each public promise determines the answer and the later contents of lent memory: show that any two results
 -- allowed by it are equal" (document 01): of every public entry, and of what crosses to C, as one statement.
 -- Assumes nothing.
-use Rattle.std.specs.Prelude.{List, ◌≡◌, ℕ}
+use Rattle.std.specs.Prelude.{List, ◌≡◌, ℕ, Result}
 use Rattle.std.specs.Borrow.{Bor}
 use Rattle.counter.specs.Judging.{judge_answer, both_answer}
 use Rattle.counter.specs.Verdict.{told_verdict}
@@ -22,7 +22,6 @@ use Rattle.definitions.specs.Proposals.{proposal_answer, proposal_list_answer, p
 use Rattle.definitions.specs.Proposals.{held_proposal_list_rows, held_proposal_list_scores}
 use Rattle.editing.specs.declared.Edited.{Edited}
 use Rattle.edits.specs.Priced.{told_priced}
-use Rattle.edits.specs.declared.Priced.{Priced}
 use Rattle.field.specs.Element.{told_element}
 use Rattle.interpolation.specs.Interpolated.{told_interpolated}
 use Rattle.interpolation.specs.declared.Interpolated.{Interpolated}
@@ -30,7 +29,8 @@ use Rattle.matrix.specs.Record.{held_by}
 use Rattle.opening.specs.Handing.{part_at, opened, both_opened}
 use Rattle.planner.specs.Planned.{told_planned}
 use Rattle.proposals.specs.Proposed.{told_proposed}
-use Rattle.refusals.specs.Counted.{told_counted}
+use Rattle.refusals.specs.Told.{told_counted}
+use Rattle.refusals.specs.declared.Refusal.{Refusal}
 use Rattle.weights.specs.Costed.{told_costed}
 
 -- "any two results allowed by it are equal"
@@ -52,7 +52,7 @@ module _ {X : Type 0} (told : X → Answer) where
 abbrev pub Edits : Answer → Held → Edited → Type 0
 Edits answer after x = (told_priced x.outcome ≡ answer) × (held_by x.matrix ≡ after)
 
-abbrev pub EditsParts : Answer → Held → Priced × List ℕ × List ℕ → Type 0
+abbrev pub EditsParts : Answer → Held → Result ℕ Refusal × List ℕ × List ℕ → Type 0
 EditsParts answer after = LeavesBoth told_priced answer after.totals after.entries
 
 -- one place and one content. (A reference has besides a name in the logic, which no program sees.)
@@ -69,7 +69,7 @@ pub record Unique (C : Code) : Type 0 where
   pub cost_and_bound : (n k : ℕ) (m : List ℕ) → AllowsOne (Answers told_costed (cost_answer C n k m))
   -- here the promise names no answer, but what is true of it
   pub interpolate : (n k G : ℕ) (m out : List ℕ)
-      → AllowsOne (λ (x : Interpolated × List ℕ). InterpolationAnswers C n k G m out (told_interpolated x.0) x.1)
+      → AllowsOne (λ (x : Result Interpolated Refusal × List ℕ). InterpolationAnswers C n k G m out (told_interpolated x.0) x.1)
   pub roots : (D k : ℕ) (q out : List ℕ) → AllowsOne (Leaves told_counted (roots_answer C D k q out) (roots_out C D k q out))
   pub list_of_multiplicities : (n k G : ℕ) (m rows scores : List ℕ)
       → AllowsOne (LeavesBoth told_counted (list_answer C n k G m rows scores) (list_rows C n k G m rows scores) (list_scores C n k G m rows scores))
@@ -99,7 +99,7 @@ pub record Unique (C : Code) : Type 0 where
   -- and taken in place of bytes
   pub matrix_cost_and_bound : (h : Held) (k : ℕ) → AllowsOne (Answers told_costed (held_cost_answer C h k))
   pub matrix_interpolate : (h : Held) (k G : ℕ) (out : List ℕ)
-      → AllowsOne (λ (x : Interpolated × List ℕ). HeldInterpolationAnswers C h k G out (told_interpolated x.0) x.1)
+      → AllowsOne (λ (x : Result Interpolated Refusal × List ℕ). HeldInterpolationAnswers C h k G out (told_interpolated x.0) x.1)
   pub matrix_list : (h : Held) (k G : ℕ) (rows scores : List ℕ)
       → AllowsOne (LeavesBoth told_counted (held_list_answer C h k G rows scores) (held_list_rows C h k G rows scores) (held_list_scores C h k G rows scores))
   -- the planner's (order 7)

@@ -15,24 +15,28 @@ pub mod proposing;
 use alphabet::Alphabet;
 use crossing::Answer;
 
+#[tactic(auto, using(crate::proofs::Fits::sum_narrow))]
 pub fn sum(alphabet: Alphabet, a: u8, b: u8) -> Answer
     ensures { answer_of result ≡ sum_answer (code_on alphabet) a b }
 {
     crossing::element(field::sum(alphabet, a, b))
 }
 
+#[tactic(auto, using(crate::proofs::Fits::product_narrow))]
 pub fn product(alphabet: Alphabet, a: u8, b: u8) -> Answer
     ensures { answer_of result ≡ product_answer (code_on alphabet) a b }
 {
     crossing::element(field::product(alphabet, a, b))
 }
 
+#[tactic(auto, using(crate::proofs::Fits::inverse_narrow))]
 pub fn inverse(alphabet: Alphabet, a: u8) -> Answer
     ensures { answer_of result ≡ inverse_answer (code_on alphabet) a }
 {
     crossing::element(field::inverse(alphabet, a))
 }
 
+#[tactic(auto, using(crate::proofs::Fits::encode_narrow))]
 pub fn encode(alphabet: Alphabet, n: usize, k: usize, message: &[u8], out: &mut [u8]) -> Answer
     ensures answer { answer_of result ≡ encode_answer (code_on alphabet) n k message.now out.old }
     ensures memory { out.new ≡ encode_out (code_on alphabet) n k message.now out.old }
@@ -40,6 +44,7 @@ pub fn encode(alphabet: Alphabet, n: usize, k: usize, message: &[u8], out: &mut 
     crossing::counted(code::encode(alphabet, n, k, message, out))
 }
 
+#[tactic(auto, using(crate::proofs::Fits::multiplicities_narrow))]
 pub fn multiplicities(
     alphabet: Alphabet,
     n: usize,
@@ -53,12 +58,14 @@ pub fn multiplicities(
     crossing::counted(weights::multiplicities(alphabet, n, level, reliabilities, out))
 }
 
+#[tactic(auto, using(crate::proofs::Fits::cost_narrow))]
 pub fn cost_and_bound(alphabet: Alphabet, n: usize, k: usize, matrix: &[u8]) -> Answer
     ensures { answer_of result ≡ cost_answer (code_on alphabet) n k matrix.now }
 {
     crossing::costed(weights::cost_and_bound(alphabet, n, k, matrix))
 }
 
+#[tactic(auto, using(crate::proofs::Fits::interpolation_narrow))]
 pub fn interpolate(
     alphabet: Alphabet,
     n: usize,
@@ -72,6 +79,7 @@ pub fn interpolate(
     crossing::interpolated(interpolation::interpolate(alphabet, n, k, limit, matrix, out))
 }
 
+#[tactic(auto, using(crate::proofs::Fits::roots_narrow))]
 pub fn roots(
     alphabet: Alphabet,
     degree: usize,
@@ -85,6 +93,7 @@ pub fn roots(
     crossing::counted(roots::roots(alphabet, degree, k, coefficients, out))
 }
 
+#[tactic(auto, using(crossing::proofs::Crossed::few_fit, crossing::proofs::Crossed::list_crosses, crate::proofs::Fits::list_narrow))]
 pub fn list_of_multiplicities(
     alphabet: Alphabet,
     n: usize,
@@ -102,6 +111,7 @@ pub fn list_of_multiplicities(
     crossing::counted(list::list_of_multiplicities(alphabet, n, k, limit, matrix, rows, scores))
 }
 
+#[tactic(auto, using(crossing::proofs::Crossed::few_fit, crossing::proofs::Crossed::list_crosses, crate::proofs::Fits::read_narrow))]
 pub fn list_of_reliabilities(
     alphabet: Alphabet,
     n: usize,

@@ -8,6 +8,7 @@ ghost use Rattle.definitions.specs.Planning.{plan_answer, plan_out, check_answer
 use alphabet::Alphabet;
 use crossing::Answer;
 
+#[tactic(auto, using(crate::proofs::PlanFits::plan_narrow))]
 pub fn plan(
     alphabet: Alphabet,
     n: usize,
@@ -21,6 +22,7 @@ pub fn plan(
     crossing::planned(planner::plan(alphabet, n, steps, reliabilities, out))
 }
 
+#[tactic(auto, using(crate::proofs::PlanFits::check_narrow))]
 pub fn check_plan(
     alphabet: Alphabet,
     n: usize,
@@ -33,6 +35,7 @@ pub fn check_plan(
     crossing::planned(planner::check_plan(alphabet, n, steps, reliabilities, plan))
 }
 
+#[tactic(auto, using(crossing::proofs::Crossed::few_fit, crossing::proofs::Crossed::list_crosses, crate::proofs::PlanFits::plan_list_narrow))]
 pub fn list_of_plan(
     alphabet: Alphabet,
     n: usize,

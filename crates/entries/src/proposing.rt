@@ -8,6 +8,7 @@ ghost use Rattle.definitions.specs.Proposals.{proposal_answer, proposal_list_ans
 use alphabet::Alphabet;
 use crossing::Answer;
 
+#[tactic(auto, using(crate::proofs::ProposalFits::proposal_narrow))]
 pub fn check_proposal(
     alphabet: Alphabet,
     n: usize,
@@ -21,6 +22,7 @@ pub fn check_proposal(
     crossing::proposed(proposals::check_proposal(alphabet, n, k, degree, matrix, coefficients))
 }
 
+#[tactic(auto, using(crossing::proofs::Crossed::few_fit, crossing::proofs::Crossed::list_crosses, crate::proofs::ProposalFits::proposal_list_narrow))]
 pub fn list_of_proposal(
     alphabet: Alphabet,
     n: usize,

@@ -12,7 +12,8 @@ use Rattle.definitions.proofs.Table.{Gives, stop, Accepts, next, end, above_mean
 use Rattle.definitions.specs.Field.{Code}
 use Rattle.definitions.specs.Polynomial.{is_zero}
 use Rattle.definitions.specs.Refusals.{first_above, symbols, zeroes, field_table, inverse_table}
-use Rattle.refusals.specs.Checked.{Outcome, passed, refused_at, or_line, line_of}
+use Rattle.refusals.specs.Checked.{Outcome, passed, refused_at, or_line}
+use Rattle.refusals.specs.Tries.{line_of}
 use Rattle.refusals.specs.declared.Refusal.TheVariants.{Symbol, Zero}
 
 -- the greatest symbol

@@ -1,10 +1,9 @@
--- The numbers that document 01 gives to each case of the answer of a field operation.
+-- The numbers that document 01 gives to each case of the result of a field operation.
 -- Assumes nothing.
+use Rattle.std.specs.Prelude.{ℕ, Result}
 use Rattle.definitions.specs.Answers.{Answer, valued}
-use Rattle.field.specs.declared.Element.{Element}
-use Rattle.field.specs.declared.Element.TheVariants.{Of, Refused}
-use Rattle.refusals.specs.Refusal.{told_refusal}
+use Rattle.refusals.specs.Told.{told}
+use Rattle.refusals.specs.declared.Refusal.{Refusal}
 
-abbrev pub told_element : Element → Answer
-told_element (Of x) = valued x
-told_element (Refused r) = told_refusal r
+abbrev pub told_element : Result ℕ Refusal → Answer
+told_element r = told valued r

@@ -1,30 +1,19 @@
--- What interpolation answers and leaves: where a check refuses, where the cost does, and where the polynomial is found.
+-- What interpolation answers and leaves: where the cost refuses, and where the polynomial is found.
 -- Assumes nothing.
-use mathlib.Core.List.{List, [], ◌∷◌, ◌++◌}
+use mathlib.Core.List.{List, [], ◌∷◌}
 use mathlib.Core.Path.{◌≡◌, refl, sym, ◌∙◌, ap, ap₂, subst}
 use Prim.Native.Nat.{ℕ, ◌*◌, ◌-◌, ◌≤◌, ◌<◌}
 use borrow.Author.Tests.{lt-ltb, le-ltb}
 use lib.ListN.{length}
-use Rattle.definitions.proofs.Editing.{stored_means}
-use Rattle.definitions.proofs.Held.{Rightly}
-use Rattle.definitions.proofs.Table.{Accepts, stop, next, end, gives, accepts, sizes_mean, limit_means, entries_mean, room_means}
+use Rattle.definitions.proofs.Table.{stop, next, end, gives, accepts}
 use Rattle.definitions.specs.Answers.{Answer, refused, interpolated, Interpolated}
 use Rattle.definitions.specs.Bound.{count, bound}
-use Rattle.definitions.specs.Editing.{stored}
 use Rattle.definitions.specs.Field.{Code}
-use Rattle.definitions.specs.Held.{Held}
-use Rattle.definitions.specs.Limits.{coefficient_room}
 use Rattle.definitions.specs.Polynomial.{Interpolates}
-use Rattle.definitions.specs.Refusals.{Line, sizes, limit, entries, room, entries_of, cost_within}
+use Rattle.definitions.specs.Refusals.{cost_within}
 use Rattle.definitions.specs.Weights.{cost}
-use Rattle.interpolation.specs.Answered.{Fit, Answered}
+use Rattle.interpolation.specs.Answered.{Answered}
 use Rattle.polynomial.specs.Found.{Found}
-use Rattle.refusals.proofs.Chain.{Came, told_is, stops, goes_on}
-use Rattle.refusals.specs.Checked.{told_checked}
-use Rattle.refusals.specs.Refusal.{told_refusal}
-use Rattle.refusals.specs.declared.Checked.{Checked}
-use Rattle.refusals.specs.declared.Checked.TheVariants.{Passed, Refused}
-use Rattle.refusals.specs.declared.Refusal.{Refusal}
 use Rattle.matrix.specs.Columns.{matrix_of}
 
 module _ (C : Code) (n k G : ℕ) (m out : List ℕ) where
@@ -32,24 +21,13 @@ module _ (C : Code) (n k G : ℕ) (m out : List ℕ) where
   abbrev refusing : Answer → List ℕ → ℕ → ℕ → Type 0
   refusing answer after number place = (answer ≡ refused number place) × (after ≡ out)
 
-  -- the checks of the front, and the cost, which every table tries last
-  module _ {front : List Line} {c : Checked} (came : Came front [] (told_checked c)) where
-    pub refused_by_check : {r : Refusal} → c ≡ Refused r → Answered C (front ++ (cost_within G m ∷ [])) n k m out (told_refusal r) out
-    refused_by_check {r} e =
-        subst (λ (X : Type 0). X) (stops came (cost_within G m ∷ []) (refusing (told_refusal r) out) (Interpolated C n k m out (told_refusal r) out) e) (told_is r, refl)
-
-    -- the rest, of the same bytes
-    pub passed_on : c ≡ Passed → {bytes : List ℕ} → bytes ≡ m → (answer : Answer) (after : List ℕ) → Answered C (cost_within G bytes ∷ []) n k bytes out answer after
-        → Answered C (front ++ (cost_within G m ∷ [])) n k m out answer after
-    passed_on e same answer after w =
-        subst (λ (X : Type 0). X) (goes_on came (cost_within G m ∷ []) (refusing answer after) (Interpolated C n k m out answer after) e)
-        (subst (λ (x : List ℕ). Answered C (cost_within G x ∷ []) n k x out answer after) same w)
-
+  -- the cost is above the limit
   pub refused_by_cost : G < cost m → Answered C (cost_within G m ∷ []) n k m out (refused 7 0) out
   refused_by_cost h =
       subst (λ (X : Type 0). X)
       (gives (refusing (refused 7 0) out) (Interpolated C n k m out (refused 7 0) out) {table = cost_within G m ∷ []} (stop (lt-ltb G (cost m) h))) (refl, refl)
 
+  -- the polynomial of the columns is that of the bytes, at the bound of their cost
   pub found_is_answered : n ≤ C.positions → length m ≡ C.symbols * n → (columns : List (List ℕ)) → columns ≡ matrix_of C m n
       → (price D c place : ℕ) (after : List ℕ) → price ≡ cost m → price ≤ G → D ≡ bound (k - 1) price → c ≡ count (k - 1) D
       → Found C columns (k - 1) D out place after → Answered C (cost_within G m ∷ []) n k m out (interpolated D c) after
@@ -65,21 +43,3 @@ module _ (C : Code) (n k G : ℕ) (m out : List ℕ) where
     where
       is_bound : D ≡ bound (k - 1) (cost m)
       is_bound = ed ∙ ap (bound (k - 1)) ep
-
--- the lines that are tried before the cost, and what they say: of bytes
-module _ (C : Code) (n k G : ℕ) (m : List ℕ) (space : ℕ) where
-  abbrev pub front : List Line
-  front = sizes C n k ∷ limit G ∷ entries (C.symbols * n) m ∷ room coefficient_room space ∷ entries_of m ∷ []
-
-  pub fits : Accepts front → Fit C n k G space × (length m ≡ C.symbols * n)
-  fits (next s (next l (next e (next r (next a end))))) =
-      (record { sized = sizes_mean C n k s; low = limit_means G l; spacious = room_means coefficient_room space r }, entries_mean _ m e)
-
--- of a record
-module _ (C : Code) (h : Held) (k G space : ℕ) where
-  abbrev pub held_front : List Line
-  held_front = sizes C h.n k ∷ limit G ∷ stored C h ∷ room coefficient_room space ∷ entries_of h.entries ∷ []
-
-  pub held_fits : Accepts held_front → Fit C h.n k G space × Rightly C h
-  held_fits (next s (next l (next t (next r (next a end))))) =
-      (record { sized = sizes_mean C h.n k s; low = limit_means G l; spacious = room_means coefficient_room space r }, stored_means C h t)

@@ -23,11 +23,12 @@ use Rattle.definitions.specs.Tools.{sum}
 use Rattle.definitions.specs.Weights.{entry_cost, cost}
 use Rattle.linear.proofs.Leading.{leading_is}
 use Rattle.linear.proofs.Unique.{interpolates_unique}
-use Rattle.refusals.proofs.Unique.{same_told, answer_of, refused_back}
+use Rattle.refusals.proofs.Unique.{one_told}
 use Rattle.interpolation.specs.Answered.{Answered}
 use Rattle.interpolation.specs.Interpolated.{told_interpolated}
 use Rattle.interpolation.specs.declared.Interpolated as Declared
-use Rattle.interpolation.specs.declared.Interpolated.TheVariants.{Of, Refused}
+use Rattle.refusals.specs.declared.Refusal.{Refusal}
+use Rattle.std.specs.Prelude.{Result}
 
 -- the same test decides between two pairs of types
 choose : {A B D E R : Type 0} (b : Bool) → (A → B → R) → (D → E → R) → cond b A D → cond b B E → R
@@ -67,18 +68,10 @@ pub held_numbers_unique : (C : Code) → FieldOf C → (h : Held) (k G : ℕ) (o
     → HeldInterpolationAnswers C h k G out b later → (a ≡ b) × (after ≡ later)
 held_numbers_unique C F h k G out = answered_unique C F h.n k G (bytes_of C h) out (held_interpolation_table C h k G (length out))
 
--- the answer of its numbers
-interpolated_of : Answer → Declared.Interpolated
-interpolated_of = answer_of (λ a. Of a.bound a.count) Refused
-
--- had back
-interpolated_back : (x : Declared.Interpolated) → interpolated_of (told_interpolated x) ≡ x
-unfolding interpolated_of
-interpolated_back (Of bound count) = refl
-interpolated_back (Refused r) = refused_back (λ a. Of a.bound a.count) Refused r
-
-pub one_interpolated : {x y : Declared.Interpolated} {a : Answer} → told_interpolated x ≡ a → told_interpolated y ≡ a → x ≡ y
-one_interpolated = same_told told_interpolated interpolated_of interpolated_back
+-- of the result that the numbers tell
+pub one_interpolated : {x y : Result Declared.Interpolated Refusal} {a : Answer} → told_interpolated x ≡ a → told_interpolated y ≡ a → x ≡ y
+one_interpolated =
+    one_told (λ (x : Declared.Interpolated). interpolated x.bound x.count) (λ a. record { bound = a.bound; count = a.count }) (λ _. refl) (λ _. refl)
 
 -- ---- all multiplicities zero
 

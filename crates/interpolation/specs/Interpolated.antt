@@ -1,10 +1,10 @@
--- The numbers that document 01 gives to each case of the answer of interpolation.
+-- The numbers that document 01 gives to each case of the result of interpolation.
 -- Assumes nothing.
+use Rattle.std.specs.Prelude.{Result}
 use Rattle.definitions.specs.Answers.{Answer, interpolated}
-use Rattle.refusals.specs.Refusal.{told_refusal}
 use Rattle.interpolation.specs.declared.Interpolated.{Interpolated}
-use Rattle.interpolation.specs.declared.Interpolated.TheVariants.{Of, Refused}
+use Rattle.refusals.specs.Told.{told}
+use Rattle.refusals.specs.declared.Refusal.{Refusal}
 
-abbrev pub told_interpolated : Interpolated → Answer
-told_interpolated (Of bound count) = interpolated bound count
-told_interpolated (Refused r) = told_refusal r
+abbrev pub told_interpolated : Result Interpolated Refusal → Answer
+told_interpolated r = told (λ (x : Interpolated). interpolated x.bound x.count) r

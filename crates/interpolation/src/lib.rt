@@ -15,12 +15,13 @@ pub mod inside;
 use alphabet::{Alphabet, MOST_PLACES};
 use matrix::Matrix;
 use refusals::limits::{COEFFICIENT_ROOM, GREATEST_ENTRY, GREATEST_LIMIT};
-use refusals::{Checked, Refusal};
+use refusals::{Refusal, checks};
 
+// Of a polynomial that is found: its bound, and how many coefficients are written.
 #[derive(Clone, Copy)]
-pub enum Interpolated {
-    Of { bound: usize, count: usize },
-    Refused(Refusal),
+pub struct Interpolated {
+    pub bound: usize,
+    pub count: usize,
 }
 
 pub fn interpolate(
@@ -30,17 +31,14 @@ pub fn interpolate(
     limit: usize,
     matrix: &[u8],
     out: &mut [u8],
-) -> Interpolated
+) -> Result<Interpolated, Refusal>
     ensures { InterpolationAnswers (code_on alphabet) n k limit matrix.now out.old (told_interpolated result) out.new }
 {
-    let checked = Checked::sizes(alphabet, n, k)
-        .or(GREATEST_LIMIT < limit, Refusal::Setting)
-        .entries(alphabet, matrix.len(), n)
-        .or(out.len() < COEFFICIENT_ROOM, Refusal::Room)
-        .symbols(GREATEST_ENTRY, matrix);
-    if let Checked::Refused(r) = checked {
-        return Interpolated::Refused(r);
-    }
+    checks::sizes(alphabet, n, k)?;
+    checks::refuse_if(GREATEST_LIMIT < limit, Refusal::Setting)?;
+    checks::entries(alphabet, matrix.len(), n)?;
+    checks::refuse_if(out.len() < COEFFICIENT_ROOM, Refusal::Room)?;
+    checks::symbols(GREATEST_ENTRY, matrix)?;
     let mut entries = [0u8; MOST_PLACES];
     let cost = turning::turn(alphabet, matrix, &mut entries);
     inside::interpolate_priced(alphabet, &entries, n, cost, k, limit, out)
@@ -56,34 +54,34 @@ pub fn interpolate_parts(
     k: usize,
     limit: usize,
     out: &mut [u8],
-) -> Interpolated
+) -> Result<Interpolated, Refusal>
     ensures { HeldInterpolationAnswers (code_on alphabet) (held n cost totals.now entries.now) k limit out.old (told_interpolated result) out.new }
 {
-    let checked = Checked::sizes(alphabet, n, k)
-        .or(GREATEST_LIMIT < limit, Refusal::Setting)
-        .or(
-            !matrix::rightly(alphabet, n, cost, totals, entries),
-            Refusal::Length,
-        )
-        .or(out.len() < COEFFICIENT_ROOM, Refusal::Room)
-        .symbols(GREATEST_ENTRY, entries);
-    if let Checked::Refused(r) = checked {
-        return Interpolated::Refused(r);
-    }
+    checks::sizes(alphabet, n, k)?;
+    checks::refuse_if(GREATEST_LIMIT < limit, Refusal::Setting)?;
+    checks::refuse_if(
+        !matrix::rightly(alphabet, n, cost, totals, entries),
+        Refusal::Length,
+    )?;
+    checks::refuse_if(out.len() < COEFFICIENT_ROOM, Refusal::Room)?;
+    checks::symbols(GREATEST_ENTRY, entries)?;
     inside::interpolate_priced(alphabet, entries, n, cost, k, limit, out)
 }
 
-pub fn interpolate_matrix(m: Matrix, k: usize, limit: usize, out: &mut [u8]) -> Interpolated
+pub fn interpolate_matrix(
+    m: Matrix,
+    k: usize,
+    limit: usize,
+    out: &mut [u8],
+) -> Result<Interpolated, Refusal>
     ensures { HeldInterpolationAnswers sixteen (held_by m) k limit out.old (told_interpolated result) out.new }
 {
-    let totals = m.totals;
-    let entries = m.entries;
     interpolate_parts(
         Alphabet::Sixteen,
         m.n,
         m.cost,
-        &totals,
-        &entries,
+        &m.totals,
+        &m.entries,
         k,
         limit,
         out,

@@ -7,12 +7,12 @@ ghost use Rattle.alphabet.specs.Codes.{code_on};
 ghost use Rattle.definitions.specs.Limits.{greatest_limit, greatest_rows};
 ghost use Rattle.definitions.specs.Refusals.{cost_within};
 ghost use Rattle.list_within.specs.Within.{Loaded, Rooted, RootsOf, ListsOf, Answered, Fit};
-ghost use Rattle.refusals.specs.Counted.{told_counted};
+ghost use Rattle.refusals.specs.Told.{told_counted};
 ghost use Rattle.matrix.specs.Columns.{matrix_cost, FrontCosts};
 
 use alphabet::{Alphabet, MOST_POSITIONS, MOST_SYMBOLS};
 use refusals::limits::{COEFFICIENT_ROOM, GREATEST_ROWS};
-use refusals::{Counted, Refusal};
+use refusals::{Refusal, checks};
 
 // The roots of a polynomial whose score is above the threshold, by falling score. The polynomial may be anybody's.
 pub fn roots_above(
@@ -38,7 +38,7 @@ pub fn roots_above(
         matrix,
         n,
         k,
-        numbers::narrow(threshold),
+        threshold as u16,
         &found,
         many,
         rows,
@@ -88,14 +88,12 @@ pub fn list_priced(
     limit: usize,
     rows: &mut [u8],
     scores: &mut [u16],
-) -> Counted
+) -> Result<usize, Refusal>
     requires fit { Fit (code_on alphabet) n k limit (length rows.old) (length scores.old) }
     requires front_costs { FrontCosts (code_on alphabet) n cost entries.now }
     ensures { Answered (code_on alphabet) (cost_within limit (take ((code_on alphabet).symbols * n) entries.now) ∷ []) n k (take ((code_on alphabet).symbols * n) entries.now) rows.old scores.old (told_counted result) rows.new scores.new }
 {
-    if limit < cost {
-        return Counted::Refused(Refusal::Cost);
-    }
+    checks::refuse_if(limit < cost, Refusal::Cost)?;
     let columns = matrix::in_columns(alphabet, entries, n);
-    Counted::Count(list_of_columns(alphabet, &columns, n, k, cost, rows, scores))
+    Ok(list_of_columns(alphabet, &columns, n, k, cost, rows, scores))
 }

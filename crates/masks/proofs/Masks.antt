@@ -1,12 +1,11 @@
--- A choice by whether two numbers are equal, and what masks leave of a byte, of a block and of a row of symbols.
+-- What masks leave of a byte and of a row of symbols.
 -- Assumes nothing.
 use mathlib.Core.Bool.{Bool, true, false, cond}
 use mathlib.Core.List.{List}
-use mathlib.Core.Path.{◌≡◌, sym, ◌∙◌, ap, ap₂, subst}
-use Prim.Native.Nat.{ℕ, ◌+◌, ◌*◌, ◌≤◌, ◌<◌}
+use mathlib.Core.Path.{◌≡◌, sym, ◌∙◌, ap, subst}
+use Prim.Native.Nat.{ℕ, ◌*◌, ◌≤◌, ◌<◌}
 use native.Mathlib.Nat.{mod-eq_of_lt}
 use native.Mathlib.Omega.{arith}
-use borrow.Author.Tests.{eq-eqb, ne_eqb}
 use lib.Bits.{bit_and, and_mask, and_zero_r}
 use lib.Dec.{eqb}
 use lib.ListN.{get_or}
@@ -16,22 +15,8 @@ use Rattle.algebra.specs.FieldOf.{FieldOf}
 use Rattle.definitions.specs.Code.{Symbols}
 use Rattle.definitions.specs.Field.{Code, numbers}
 use Rattle.blocks.proofs.Filled.{filled_symbols}
-use Rattle.blocks.specs.Row.{block, Front, BlockOf}
-use Rattle.masks.specs.Masks.{mask_byte, kept_entry, KeptBlock, kept_row}
-
-module _ (m n x y : ℕ) where
-  -- the choice where two numbers are equal
-  pub chosen_equal : m ≡ n → x ≡ cond (eqb m n) x y
-  chosen_equal e = sym (ap (λ (b : Bool). cond b x y) (eq-eqb m n e))
-
-  -- and where they are not
-  pub chosen_unequal : (m ≡ n → ⊥) → y ≡ cond (eqb m n) x y
-  chosen_unequal d = sym (ap (λ (b : Bool). cond b x y) (ne_eqb m n d))
-
--- what is left of a block of a row
-pub kept_left : (n : ℕ) (row es a powers left : List ℕ) (asked order : ℕ) → BlockOf n row a → BlockOf n es powers → KeptBlock a powers asked order left
-    → Front block (λ k. kept_entry row es asked order (n + k)) left
-kept_left n row es a powers left asked order ea ep el k h = el k h ∙ ap₂ (λ (x e : ℕ). bit_and x (mask_byte e asked order)) (ea k h) (ep k h)
+use Rattle.blocks.specs.Row.{block}
+use Rattle.masks.specs.Masks.{kept_entry, kept_row}
 
 -- all bits of a byte
 pub all_bits : (x : ℕ) → x < 256 → bit_and x 255 ≡ x

@@ -12,10 +12,7 @@ use blocks::{BLOCK, WIDTH};
 fn mask(e: u8, asked: u8, order: u8) -> u8
     ensures { result ≡ mask_byte e asked order }
 {
-    if e & asked == order {
-        return 255;
-    }
-    0
+    if e & asked == order { 255 } else { 0 }
 }
 
 // What the masks of the powers leave of a block.
@@ -23,10 +20,8 @@ fn kept_block(a: &[u8; BLOCK], es: &[u8; BLOCK], asked: u8, order: u8) -> [u8; B
     ensures { KeptBlock a.now es.now asked order result }
 {
     let mut part = [0u8; BLOCK];
-    let mut k = 0;
-    while k < BLOCK {
+    for k in 0..BLOCK {
         part[k] = a[k] & mask(es[k], asked, order);
-        k += 1;
     }
     part
 }
@@ -43,13 +38,11 @@ pub fn keep(
     requires { (blocks * block ≤ width) × ZeroFrom (blocks * block) out.old }
     ensures { out.new ≡ kept_row blocks row.now es.now asked order }
 {
-    let mut p = 0;
-    while p < blocks {
+    for p in 0..blocks {
         let at = p * BLOCK;
         let a = blocks::block(row, at);
         let powers = blocks::block(es, at);
         let left = kept_block(&a, &powers, asked, order);
         blocks::put(out, at, &left);
-        p += 1;
     }
 }

@@ -6,7 +6,7 @@ use Prim.Native.Nat.{ℕ, ◌+◌, ◌*◌, ◌-◌, ◌≤◌, ◌<◌}
 use native.Mathlib.Decide.{dec_lt}
 use native.Mathlib.Nat.{mul-le-mul_left}
 use native.Mathlib.Omega.{arith}
-use lib.ListN.{length, take, drop, get_or, get_or-append, get_or-eq_default, get_or-replicate}
+use lib.ListN.{length, take, drop, get_or, length-drop, get_or-append, get_or-eq_default, get_or-replicate}
 use lib.Seq.{ext_get_or, get_or-take, get_or-drop, get_or-append-add, length-take-le}
 use Rattle.alphabet.specs.Codes.{code_on, most_symbols, most_positions, most_places}
 use Rattle.alphabet.specs.declared.Alphabet.TheVariants.{Sixteen, ThirtyTwo}
@@ -73,6 +73,20 @@ module _ (C : Code) (m : List ℕ) (n : ℕ) (small : n ≤ C.positions) (size :
       (λ i h. sum_ext C.symbols (λ b. entry_cost (entry_of (matrix_of C m n) i b)) (λ b. entry_cost (get_or m (C.symbols * i + b) 0)) (λ b k. ap entry_cost (matrix_entry i b h k)))
       ∙ sym (sum_blocks C.symbols C.positions (λ j. entry_cost (get_or m j 0)))
       ∙ sum_tail (length m) (C.symbols * C.positions) (λ j. entry_cost (get_or m j 0)) (omega arith) (λ j h. ap entry_cost (get_or-eq_default m 0 {n = j} h))
+
+-- a column that is copied into one of zeros
+pub column_laid : (C : Code) (m col part : List ℕ) (i q n : ℕ) → q ≡ C.symbols → q * i + q ≤ length m → col ≡ zero_column → n ≡ q → part ≡ take n (drop (q * i) m)
+    → part ++ drop q col ≡ column_of C m i
+column_laid C m col part i q n is h zeros many copied =
+    let f : ℕ → ℕ = λ j. get_or m (q * i + j) 0 in
+    let size = length-take-le q (drop (q * i) m) (omega (arith, length-drop (q * i) m)) in
+    let full = length_map_below f q in
+    let each : take q (drop (q * i) m) ≡ map f (below q) =
+    ext_get_or 0 (take q (drop (q * i) m)) (map f (below q)) (size ∙ sym full)
+    (λ j w.
+    let low : j < q = omega arith in
+    get_or-take q (drop (q * i) m) j 0 low ∙ get_or-drop (q * i) m j 0 ∙ sym (map_below_at f q j 0 low)) in
+    rw (copied, many, zeros, each) (ap (λ n. map (λ j. get_or m (n * i + j) 0) (below n) ++ drop n zero_column) is)
 
 -- the next column to be laid is one of zeros
 pub next_column : (C : Code) (m : List ℕ) (i : ℕ) → i < most_positions → get_or (matrix_of C m i) i [] ≡ zero_column

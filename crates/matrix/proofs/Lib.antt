@@ -1,2 +1,3 @@
+pub mod Chains
 pub mod Columns
-pub mod Record
+pub mod Stored

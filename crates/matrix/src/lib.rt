@@ -27,7 +27,7 @@ pub struct Matrix {
 pub fn entry_cost(x: u8) -> usize
     ensures { (result ≡ entry_cost x) × (result ≤ 32640) }
 {
-    let m = numbers::wide(x);
+    let m = usize::from(x);
     m * (m + 1) / 2
 }
 
@@ -35,13 +35,7 @@ pub fn cost(entries: &[u8]) -> usize
     requires { length entries.now ≤ most_places }
     ensures { result ≡ Rattle.definitions.specs.Weights.cost entries.now }
 {
-    let mut total = 0;
-    let mut j = 0;
-    while j < entries.len() {
-        total += entry_cost(entries[j]);
-        j += 1;
-    }
-    total
+    entries.iter().map(|&x| entry_cost(x)).sum()
 }
 
 pub fn column_total(alphabet: Alphabet, entries: &[u8], i: usize) -> u16
@@ -50,11 +44,9 @@ pub fn column_total(alphabet: Alphabet, entries: &[u8], i: usize) -> u16
 {
     let symbols = alphabet.symbols();
     let first = symbols * i;
-    let mut total = 0u16;
-    let mut b = 0;
-    while b < symbols {
-        total += numbers::short(entries[first + b]);
-        b += 1;
+    let mut total = 0;
+    for &x in &entries[first..first + symbols] {
+        total += u16::from(x);
     }
     total
 }
@@ -63,15 +55,10 @@ fn totals_right(alphabet: Alphabet, totals: &[u16], entries: &[u8]) -> bool
     requires { (length totals.now ≡ (code_on alphabet).positions) × (length entries.now ≡ places (code_on alphabet)) }
     ensures { result ≡ totals_right (code_on alphabet) totals.now entries.now }
 {
-    let positions = alphabet.positions();
-    let mut i = 0;
-    while i < positions {
-        if totals[i] != column_total(alphabet, entries, i) {
-            return false;
-        }
-        i += 1;
-    }
-    true
+    totals
+        .iter()
+        .enumerate()
+        .all(|(i, &total)| total == column_total(alphabet, entries, i))
 }
 
 // No entry lies in a column that n positions do not use.
@@ -89,33 +76,21 @@ fn unused_zero(alphabet: Alphabet, n: usize, entries: &[u8]) -> bool
 pub fn rightly(alphabet: Alphabet, n: usize, cost: usize, totals: &[u16], entries: &[u8]) -> bool
     ensures { result ≡ rightly (code_on alphabet) (held n cost totals.now entries.now) }
 {
-    let positions = alphabet.positions();
-    if totals.len() != positions {
-        return false;
-    }
-    let places = alphabet.places();
-    if entries.len() != places {
-        return false;
-    }
-    if !totals_right(alphabet, totals, entries) {
-        return false;
-    }
-    if cost != crate::cost(entries) {
-        return false;
-    }
-    unused_zero(alphabet, n, entries)
+    totals.len() == alphabet.positions()
+        && entries.len() == alphabet.places()
+        && totals_right(alphabet, totals, entries)
+        && cost == crate::cost(entries)
+        && unused_zero(alphabet, n, entries)
 }
 
 // The total of each column, counted from nothing.
+#[tactic(auto, using(definitions::proofs::Loops::map_none, definitions::proofs::Loops::map_more))]
 pub fn lay_totals(alphabet: Alphabet, entries: &[u8], totals: &mut [u16])
     requires { (length totals.old ≡ (code_on alphabet).positions) × (length entries.now ≡ places (code_on alphabet)) }
     ensures { totals.new ≡ totals_of (code_on alphabet) entries.now }
 {
-    let positions = alphabet.positions();
-    let mut i = 0;
-    while i < positions {
-        totals[i] = column_total(alphabet, entries, i);
-        i += 1;
+    for (i, total) in totals.iter_mut().enumerate() {
+        *total = column_total(alphabet, entries, i);
     }
 }
 
@@ -127,14 +102,11 @@ fn lay_column(alphabet: Alphabet, entries: &[u8], i: usize, col: &mut [u8; MOST_
 {
     let symbols = alphabet.symbols();
     let first = symbols * i;
-    let mut b = 0;
-    while b < symbols {
-        col[b] = entries[first + b];
-        b += 1;
-    }
+    col[..symbols].copy_from_slice(&entries[first..first + symbols]);
 }
 
 // The columns of n positions, to columns of zeros.
+#[tactic(auto, using(definitions::proofs::Loops::map_none, definitions::proofs::Loops::map_more, crate::proofs::Columns::next_column))]
 fn lay_columns(
     alphabet: Alphabet,
     entries: &[u8],
@@ -145,10 +117,8 @@ fn lay_columns(
     requires columns_value { columns.old ≡ zero_columns }
     ensures { columns.new ≡ matrix_of (code_on alphabet) entries.now n }
 {
-    let mut i = 0;
-    while i < n {
+    for i in 0..n {
         lay_column(alphabet, entries, i, &mut columns[i]);
-        i += 1;
     }
 }
 
@@ -162,10 +132,9 @@ pub fn in_columns(
     ensures { result ≡ matrix_of (code_on alphabet) entries.now n }
 {
     let mut columns = [[0u8; MOST_SYMBOLS]; MOST_POSITIONS];
-    if let Alphabet::ThirtyTwo = alphabet {
-        lay_columns(Alphabet::ThirtyTwo, entries, n, &mut columns);
-    } else {
-        lay_columns(Alphabet::Sixteen, entries, n, &mut columns);
+    match alphabet {
+        Alphabet::Sixteen => lay_columns(Alphabet::Sixteen, entries, n, &mut columns),
+        Alphabet::ThirtyTwo => lay_columns(Alphabet::ThirtyTwo, entries, n, &mut columns),
     }
     columns
 }

@@ -1,13 +1,13 @@
--- Lists laid over memory: their length, one entry more, and one part behind another.
+-- Lists laid over memory: their length, one entry more, a part that was changed, and one part behind another.
 -- Assumes nothing.
 use mathlib.Core.List.{List, [], ◌∷◌, ◌++◌, append_assoc, append-nil}
 use mathlib.Core.Path.{◌≡◌, sym, ◌∙◌, ap}
 use Prim.Native.Nat.{ℕ, ◌+◌, ◌≤◌, ◌<◌}
 use native.Mathlib.Nat.{add-zero}
-use native.Mathlib.Numerals.{add-one}
 use native.Mathlib.Omega.{arith}
-use lib.ListN.{length, take, drop, get_or, set, replicate, length-append, length-drop, length-replicate, replicate-append-replicate, take-append-drop}
-use lib.Seq.{length-take-le, take_at, take-suc, drop-append-add, drop-drop}
+use borrow.Rule.Slice.PartMut.{put_mid}
+use lib.ListN.{length, take, drop, set, length-append, length-drop, take-append-drop}
+use lib.Seq.{length-take-le, take_at, drop-append-add, drop-drop}
 use Rattle.definitions.proofs.Loops.{put_more}
 use Rattle.memory.specs.Laid.{laid}
 
@@ -47,21 +47,11 @@ laid_more out at part x h =
     ∙ ap (λ (l : List ℕ). l ++ drop (at + length part + 1) out) (append_assoc (take at out) part (x ∷ []))
     ∙ ap (λ (n : ℕ). take at out ++ (part ++ (x ∷ [])) ++ drop n out) end
 
--- a turn of a loop that lays one entry of a part after the other
-pub laid_turned : (out part now : List ℕ) (at j x : ℕ) → at + j < length out → j < length part → now ≡ laid out at (take j part) → x ≡ get_or part j 0
-    → set now (at + j) x ≡ laid out at (take (j + 1) part)
-laid_turned out part now at j x h l e ex =
-    let size : length (take j part) ≡ j = length-take-le j part (omega arith) in
-    rw (e, ex, add-one, take-suc part j 0 l)
-    (ap (λ (n : ℕ). set (laid out at (take j part)) (at + n) (get_or part j 0)) (sym size) ∙ laid_more out at (take j part) (get_or part j 0) (omega arith))
-
--- a turn of a loop that lays one zero after the other
-pub zero_laid : (out now : List ℕ) (at j : ℕ) → at + j < length out → now ≡ laid out at (replicate j 0) → set now (at + j) 0 ≡ laid out at (replicate (j + 1) 0)
-zero_laid out now at j h e =
-    let size : length (replicate {A = ℕ} j 0) ≡ j = length-replicate j 0 in
-    rw e
-    (ap (λ (n : ℕ). set (laid out at (replicate j 0)) (at + n) 0) (sym size) ∙ laid_more out at (replicate j 0) 0 (omega arith)
-    ∙ ap (laid out at) (replicate-append-replicate j 1 0))
+-- what a part of the memory was changed to is laid there
+pub laid_part : (out : List ℕ) (at many : ℕ) (part now : List ℕ) → now ≡ part → many ≡ length part → put_mid at many out now ≡ laid out at part
+unfolding laid
+laid_part out at many part now same size =
+    rw (same, size, drop-drop) (sym (append_assoc (take at out) part (drop (at + length part) out)))
 
 -- one part behind another
 laid_laid : (out : List ℕ) (at : ℕ) (u w : List ℕ) → at ≤ length out → laid (laid out at u) (at + length u) w ≡ laid out at (u ++ w)

@@ -5,7 +5,6 @@
 ghost use Rattle.std.specs.Prelude.{◌≡◌, ◌≤◌, ◌<◌};
 ghost use Rattle.alphabet.specs.Codes.{code_on};
 ghost use Rattle.definitions.specs.Code.{Symbols};
-ghost use Rattle.tables.specs.Table.{Tabled};
 ghost use Rattle.monomials.specs.Rows.{exponent_rows, Places, powers_row, values_row};
 ghost use Rattle.blocks.specs.Row.{width, ZeroFrom};
 
@@ -13,6 +12,7 @@ use alphabet::Alphabet;
 use blocks::WIDTH;
 
 // The powers of x that the first monomials have, in their order, and those of y.
+#[tactic(auto, using(crate::proofs::Walk::walked_le))]
 pub fn exponents(v: usize, count: usize) -> [[u8; WIDTH]; 2]
     requires { (0 < v) × (count ≤ width) }
     ensures { result ≡ exponent_rows v count }
@@ -22,8 +22,7 @@ pub fn exponents(v: usize, count: usize) -> [[u8; WIDTH]; 2]
     let mut x = 0;
     let mut y = 0usize;
     let mut degree = 0;
-    let mut step = 0;
-    while step < count {
+    for step in 0..count {
         xs[step] = x as u8;
         ys[step] = y as u8;
         if v <= x {
@@ -34,68 +33,58 @@ pub fn exponents(v: usize, count: usize) -> [[u8; WIDTH]; 2]
             x = degree;
             y = 0;
         }
-        step += 1;
     }
     [xs, ys]
 }
 
 // The first n powers of x, to the front of a row.
-pub fn powers(alphabet: Alphabet, table: &[u8], x: u8, n: usize, row: &mut [u8; WIDTH])
-    requires tabled { Tabled (code_on alphabet) table.now }
-    requires x_bound { (x < (code_on alphabet).symbols) × (n ≤ width) × ZeroFrom n row.old }
+pub fn powers(alphabet: Alphabet, x: u8, n: usize, row: &mut [u8; WIDTH])
+    requires { (x < (code_on alphabet).symbols) × (n ≤ width) × ZeroFrom n row.old }
     ensures { row.new ≡ powers_row (code_on alphabet) n x }
 {
     let mut next = 1u8;
-    let mut e = 0;
-    while e < n {
-        row[e] = next;
-        next = tables::look(alphabet, table, x, next);
-        e += 1;
+    for entry in &mut row[..n] {
+        *entry = next;
+        next = tables::look(alphabet, x, next);
     }
 }
 
 // The monomials' values at a point, in their order, of the powers of its coordinates, to the front of a row.
 fn values_by(
     alphabet: Alphabet,
-    table: &[u8],
     px: &[u8; WIDTH],
     py: &[u8; WIDTH],
     es: &[[u8; WIDTH]; 2],
     count: usize,
     row: &mut [u8; WIDTH],
 )
-    requires tabled { Tabled (code_on alphabet) table.now }
     requires symbols { Symbols (code_on alphabet) px.now × Symbols (code_on alphabet) py.now }
     requires places { Places es.now × (count ≤ width) × ZeroFrom count row.old }
     ensures { row.new ≡ values_row (code_on alphabet) count px.now py.now es.now }
 {
-    let mut place = 0;
-    while place < count {
-        let x = numbers::wide(es[0][place]);
-        let y = numbers::wide(es[1][place]);
-        row[place] = tables::look(alphabet, table, px[x], py[y]);
-        place += 1;
+    for place in 0..count {
+        let x = usize::from(es[0][place]);
+        let y = usize::from(es[1][place]);
+        row[place] = tables::look(alphabet, px[x], py[y]);
     }
 }
 
 // Each alphabet passes its own constant on.
 pub fn values(
     alphabet: Alphabet,
-    table: &[u8],
     px: &[u8; WIDTH],
     py: &[u8; WIDTH],
     es: &[[u8; WIDTH]; 2],
     count: usize,
     row: &mut [u8; WIDTH],
 )
-    requires tabled { Tabled (code_on alphabet) table.now }
     requires symbols { Symbols (code_on alphabet) px.now × Symbols (code_on alphabet) py.now }
     requires places { Places es.now × (count ≤ width) × ZeroFrom count row.old }
     ensures { row.new ≡ values_row (code_on alphabet) count px.now py.now es.now }
 {
     if let Alphabet::ThirtyTwo = alphabet {
-        values_by(Alphabet::ThirtyTwo, table, px, py, es, count, row);
+        values_by(Alphabet::ThirtyTwo, px, py, es, count, row);
     } else {
-        values_by(Alphabet::Sixteen, table, px, py, es, count, row);
+        values_by(Alphabet::Sixteen, px, py, es, count, row);
     }
 }

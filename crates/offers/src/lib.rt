@@ -12,13 +12,12 @@ ghost use Rattle.definitions.specs.Refusals.{cost_within};
 ghost use Rattle.list_within.specs.Within.{Answered, Fit};
 ghost use Rattle.matrix.specs.Columns.{FrontCosts};
 ghost use Rattle.matrix.specs.Record.{held_by};
-ghost use Rattle.refusals.specs.Counted.{told_counted};
+ghost use Rattle.refusals.specs.Told.{told_counted};
 
 use alphabet::{Alphabet, MOST_PLACES};
 use matrix::Matrix;
-use planner::Planned;
 use refusals::limits::{GREATEST_ENTRY, GREATEST_LIMIT, GREATEST_ROWS};
-use refusals::{Checked, Counted, Refusal};
+use refusals::{Refusal, checks};
 
 // What passed the checks of its table before the cost, the plan in front of the entries.
 fn list_planned(
@@ -32,18 +31,13 @@ fn list_planned(
     limit: usize,
     rows: &mut [u8],
     scores: &mut [u16],
-) -> Counted
+) -> Result<usize, Refusal>
     requires fit { Fit (code_on alphabet) n k limit (length rows.old) (length scores.old) }
     requires front_costs { FrontCosts (code_on alphabet) n cost entries.now × (length reliabilities.now ≡ (code_on alphabet).symbols * n) }
     ensures { Answered (code_on alphabet) (cost_within limit (take ((code_on alphabet).symbols * n) entries.now) ∷ ruled reliabilities.now steps (take ((code_on alphabet).symbols * n) entries.now) ∷ []) n k (take ((code_on alphabet).symbols * n) entries.now) rows.old scores.old (told_counted result) rows.new scores.new }
 {
-    if limit < cost {
-        return Counted::Refused(Refusal::Cost);
-    }
-    let verdict = planner::inside::check_entries(alphabet, n, reliabilities, steps, entries);
-    if let Planned::Refused(r) = verdict {
-        return Counted::Refused(r);
-    }
+    checks::refuse_if(limit < cost, Refusal::Cost)?;
+    planner::inside::check_entries(alphabet, n, reliabilities, steps, entries)?;
     list_within::list_priced(alphabet, entries, n, cost, k, limit, rows, scores)
 }
 
@@ -57,24 +51,21 @@ pub fn list_of_plan(
     plan: &[u8],
     rows: &mut [u8],
     scores: &mut [u16],
-) -> Counted
+) -> Result<usize, Refusal>
     ensures answer { told_counted result ≡ plan_list_answer (code_on alphabet) n k limit steps reliabilities.now plan.now rows.old scores.old }
     ensures row_memory { rows.new ≡ plan_list_rows (code_on alphabet) n k limit steps reliabilities.now plan.now rows.old scores.old }
     ensures score_memory { scores.new ≡ plan_list_scores (code_on alphabet) n k limit steps reliabilities.now plan.now rows.old scores.old }
     ensures few { (told_counted result).count ≤ greatest_rows }
 {
-    let settled = Checked::sizes(alphabet, n, k)
-        .or(GREATEST_LIMIT < limit, Refusal::Setting)
-        .steps(steps)
-        .entries(alphabet, reliabilities.len(), n)
-        .entries(alphabet, plan.len(), n)
-        .room(rows.len(), GREATEST_ROWS, k)
-        .or(scores.len() < GREATEST_ROWS, Refusal::Room)
-        .symbols(GREATEST_ENTRY, plan);
-    let checked = reliabilities::columns_checked(alphabet, settled, reliabilities, n);
-    if let Checked::Refused(r) = checked {
-        return Counted::Refused(r);
-    }
+    checks::sizes(alphabet, n, k)?;
+    checks::refuse_if(GREATEST_LIMIT < limit, Refusal::Setting)?;
+    checks::steps(steps)?;
+    checks::entries(alphabet, reliabilities.len(), n)?;
+    checks::entries(alphabet, plan.len(), n)?;
+    checks::room(rows.len(), GREATEST_ROWS, k)?;
+    checks::refuse_if(scores.len() < GREATEST_ROWS, Refusal::Room)?;
+    checks::symbols(GREATEST_ENTRY, plan)?;
+    reliabilities::columns_checked(alphabet, reliabilities, n)?;
     let mut entries = [0u8; MOST_PLACES];
     let cost = turning::turn(alphabet, plan, &mut entries);
     list_planned(
@@ -104,27 +95,22 @@ pub fn list_of_plan_of_parts(
     reliabilities: &[u16],
     rows: &mut [u8],
     scores: &mut [u16],
-) -> Counted
+) -> Result<usize, Refusal>
     ensures answer { told_counted result ≡ held_plan_list_answer (code_on alphabet) (held n cost totals.now entries.now) k limit steps reliabilities.now rows.old scores.old }
     ensures row_memory { rows.new ≡ held_plan_list_rows (code_on alphabet) (held n cost totals.now entries.now) k limit steps reliabilities.now rows.old scores.old }
     ensures score_memory { scores.new ≡ held_plan_list_scores (code_on alphabet) (held n cost totals.now entries.now) k limit steps reliabilities.now rows.old scores.old }
     ensures few { (told_counted result).count ≤ greatest_rows }
 {
-    let settled = Checked::sizes(alphabet, n, k)
-        .or(GREATEST_LIMIT < limit, Refusal::Setting)
-        .steps(steps)
-        .entries(alphabet, reliabilities.len(), n)
-        .or(
-            !matrix::rightly(alphabet, n, cost, totals, entries),
-            Refusal::Length,
-        )
-        .room(rows.len(), GREATEST_ROWS, k)
-        .or(scores.len() < GREATEST_ROWS, Refusal::Room)
-        .symbols(GREATEST_ENTRY, entries);
-    let checked = reliabilities::columns_checked(alphabet, settled, reliabilities, n);
-    if let Checked::Refused(r) = checked {
-        return Counted::Refused(r);
-    }
+    checks::sizes(alphabet, n, k)?;
+    checks::refuse_if(GREATEST_LIMIT < limit, Refusal::Setting)?;
+    checks::steps(steps)?;
+    checks::entries(alphabet, reliabilities.len(), n)?;
+    let right = matrix::rightly(alphabet, n, cost, totals, entries);
+    checks::refuse_if(!right, Refusal::Length)?;
+    checks::room(rows.len(), GREATEST_ROWS, k)?;
+    checks::refuse_if(scores.len() < GREATEST_ROWS, Refusal::Room)?;
+    checks::symbols(GREATEST_ENTRY, entries)?;
+    reliabilities::columns_checked(alphabet, reliabilities, n)?;
     list_planned(
         alphabet,
         entries,
@@ -147,20 +133,18 @@ pub fn list_of_plan_of_matrix(
     reliabilities: &[u16],
     rows: &mut [u8],
     scores: &mut [u16],
-) -> Counted
+) -> Result<usize, Refusal>
     ensures answer { told_counted result ≡ held_plan_list_answer sixteen (held_by m) k limit steps reliabilities.now rows.old scores.old }
     ensures row_memory { rows.new ≡ held_plan_list_rows sixteen (held_by m) k limit steps reliabilities.now rows.old scores.old }
     ensures score_memory { scores.new ≡ held_plan_list_scores sixteen (held_by m) k limit steps reliabilities.now rows.old scores.old }
     ensures few { (told_counted result).count ≤ greatest_rows }
 {
-    let totals = m.totals;
-    let entries = m.entries;
     list_of_plan_of_parts(
         Alphabet::Sixteen,
         m.n,
         m.cost,
-        &totals,
-        &entries,
+        &m.totals,
+        &m.entries,
         k,
         limit,
         steps,

@@ -1,57 +1,31 @@
 -- Where a row is opened the list that is judged holds it; anything else opens none.
 -- Assumes nothing.
-use mathlib.Core.Bool.{true, false, false≢true}
+use mathlib.Core.Bool.{true, false≢true}
 use mathlib.Core.List.{List, [], ◌∷◌}
-use mathlib.Core.Logic.{⊎_elim}
-use mathlib.Core.Path.{◌≡◌, refl, sym, ◌∙◌, ap, ap₂}
-use Prim.Native.Nat.{ℕ, ◌+◌, ◌*◌, ◌-◌, ◌≤◌}
-use native.Mathlib.Nat.{zero-add, mul-zero, mul-le-mul, mul-one, le_refl, suc-ne-zero}
+use mathlib.Core.Path.{◌≡◌, sym, ap}
+use Prim.Native.Nat.{ℕ, ◌*◌, ◌≤◌}
+use native.Mathlib.Nat.{mul-le-mul, mul-one, le_refl}
 use native.Mathlib.Omega.{arith}
-use denote.Enum.Declared.{tag_of}
-use denote.Ref.{Bor}
-use types.Run.{OneOf}
 use borrow.Author.Tests.{eqb-true, eq-eqb, ne_eqb}
-use lib.ListN.{length, take, drop}
+use lib.ListN.{length}
 use Rattle.counter.proofs.Both.{both_full}
-use Rattle.counter.specs.contracts.Verdict.{the_type}
 use Rattle.counter.proofs.Judging.{open_some}
-use Rattle.opening.specs.Handing.{part_at, front, is_open}
+use Rattle.opening.specs.Handing.{is_open}
 use Rattle.counter.specs.Judging.{to_open, judged, apart, of_judged, both_judged, judge_table, both_table, judge_answer, both_answer}
-use Rattle.counter.specs.Verdict.{told_verdict}
+use Rattle.counter.specs.Verdict.{verdict_number}
 use Rattle.counter.specs.declared.Settings.{Settings}
 use Rattle.counter.specs.declared.Verdict.{Verdict}
-use Rattle.counter.specs.declared.Verdict.TheVariants.{Open, Ask, Nothing, Refused}
+use Rattle.counter.specs.declared.Verdict.TheVariants.{Open}
 use Rattle.definitions.proofs.Table.{Accepts, next, end, size_means, sizes_mean}
 use Rattle.definitions.proofs.Tools.{split}
-use Rattle.definitions.specs.Answers.{refused, valued}
+use Rattle.definitions.specs.Answers.{Answer, refused, valued}
 use Rattle.definitions.specs.Field.{Code}
-use Rattle.definitions.specs.Listing.{row_at}
 use Rattle.definitions.specs.Refusals.{Line, tried}
-use Rattle.refusals.proofs.Chain.{told_is}
 use Rattle.rows.proofs.Rows.{list_line_means}
 
--- the list's first row is its front
-pub front_row : (k : ℕ) (rows row : Bor (List ℕ)) → row.now ≡ row_at k rows.now 0 → row.ref_ptr ≡ (rows.ref_ptr.0, k * 0 + rows.ref_ptr.1)
-    → part_at row ≡ front k rows
-front_row k rows row e p =
-    let start : k * 0 + rows.ref_ptr.1 ≡ rows.ref_ptr.1 = omega (arith, mul-zero k) in
-    ap₂ (λ (place : ℕ × ℕ) (symbols : List ℕ). (place, symbols)) (p ∙ ap (λ (offset : ℕ). (rows.ref_ptr.0, offset)) start)
-    (e ∙ ap (λ (from : ℕ). take k (drop from rows.now)) (mul-zero k))
-
--- and the part from 0 to 0 is its front of none
-pub empty_front : (rows : Bor (List ℕ)) → ((rows.ref_ptr.0, 0 + rows.ref_ptr.1), take (0 - 0) rows.now) ≡ front 0 rows
-empty_front rows = ap (λ (offset : ℕ). ((rows.ref_ptr.0, offset), [])) (zero-add rows.ref_ptr.1)
-
--- a row that fits from the list's start
-pub first_row_fits : (k size : ℕ) → k ≤ size → k * 0 + k ≤ size
-first_row_fits k size h = omega (arith, mul-zero k)
-
--- a verdict that is not Open, by the number of its case, opens none
-pub other_verdict : (v : Verdict) → OneOf (1 ∷ 2 ∷ 3 ∷ []) (tag_of the_type v) → is_open (told_verdict v) ≡ false
-other_verdict Open n = ⊎_elim (λ e. absurd (suc-ne-zero 0 (sym e))) (⊎_elim (λ e. absurd (suc-ne-zero 1 (sym e))) (λ e. absurd (suc-ne-zero 2 (sym e)))) n
-other_verdict Ask n = refl
-other_verdict Nothing n = refl
-other_verdict (Refused r) n = ap is_open (told_is r)
+-- the answer whose verdict is Open opens
+pub opens : {v : Verdict} {answer : Answer} → v ≡ Open → valued (verdict_number v) ≡ answer → is_open answer ≡ true
+opens e h = ap is_open (sym (rw e at h))
 
 -- a table that gives Open accepts: no refusal has a value
 open_accepts : (table : List Line) (value : ℕ) → is_open (tried table refused (valued value)) ≡ true → Accepts table × (value ≡ to_open)

@@ -19,10 +19,10 @@ pub fn opened<'a, 's>(
 ) -> &'a [u8]
     ensures { part_at result ≡ opened (code_on alphabet) k rows.entry scores.now lead }
 {
-    if let Verdict::Open = counter::judge(alphabet, k, rows, scores, lead) {
-        return rows::row(k, rows, 0);
+    match counter::judge(alphabet, k, rows, scores, lead) {
+        Ok(Verdict::Open) => rows::row(k, rows, 0),
+        _ => &rows[..0],
     }
-    &rows[0..0]
 }
 
 // The row that is opened, in the list that is judged; an empty part of the first where none is.
@@ -38,8 +38,7 @@ pub fn opened_both<'a, 's, 't>(
 ) -> &'a [u8]
     ensures { part_at result ≡ both_opened (code_on alphabet) first rows.entry scores.now second others.entry other_scores.now lead }
 {
-    let k = first.k;
-    if let Verdict::Open = counter::judge_both(
+    match counter::judge_both(
         alphabet,
         first,
         rows,
@@ -49,10 +48,13 @@ pub fn opened_both<'a, 's, 't>(
         other_scores,
         lead,
     ) {
-        if scores.len() == 0 {
-            return rows::row(k, others, 0);
+        Ok(Verdict::Open) => {
+            if scores.is_empty() {
+                rows::row(first.k, others, 0)
+            } else {
+                rows::row(first.k, rows, 0)
+            }
         }
-        return rows::row(k, rows, 0);
+        _ => &rows[..0],
     }
-    &rows[0..0]
 }

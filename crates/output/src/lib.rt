@@ -5,7 +5,7 @@
 ghost use Rattle.std.specs.Prelude.{◌++◌, ◌≡◌, ◌*◌, ◌≤◌, length};
 ghost use Rattle.alphabet.specs.Codes.{code_on};
 ghost use Rattle.definitions.specs.Limits.{greatest_rows};
-ghost use Rattle.refusals.specs.Counted.{told_counted};
+ghost use Rattle.refusals.specs.Told.{told_counted};
 ghost use Rattle.io.specs.Counts.{IsPrefixLen};
 ghost use Rattle.output.specs.Program.{answer_to, output, answer_text, Holds};
 ghost use Rattle.output.specs.Rooms.{longest_of, longest, answer_room};
@@ -13,8 +13,8 @@ ghost use Rattle.text.specs.Text.{listed_line, row_lines, Puts};
 
 use alphabet::{Alphabet, MOST_PLACES, MOST_POSITIONS};
 use matrix::PLACES;
+use refusals::Refusal;
 use refusals::limits::GREATEST_ROWS;
-use refusals::{Counted, Refusal};
 use text::rooms::{LISTED_ROOM, ROWS_ROOM};
 
 const HEADER: usize = 4;
@@ -50,7 +50,7 @@ fn put_answer(
     alphabet: Alphabet,
     out: &mut [u8],
     k: usize,
-    answer: Counted,
+    answer: Result<usize, Refusal>,
     rows: &[u8],
     scores: &[u16],
 ) -> usize
@@ -59,8 +59,8 @@ fn put_answer(
     ensures { Puts out.old 0 (answer_text (code_on alphabet) k (told_counted answer) rows.now scores.now) result out.new }
 {
     match answer {
-        Counted::Count(count) => put_list(alphabet, out, k, count, rows, scores),
-        Counted::Refused(r) => text::put_refused(out, 0, r.number(), r.place()),
+        Ok(count) => put_list(alphabet, out, k, count, rows, scores),
+        Err(r) => text::put_refused(out, 0, r.number(), r.place()),
     }
 }
 
@@ -100,10 +100,10 @@ fn answer_to(alphabet: Alphabet, input: &[u8], out: &mut [u8]) -> usize
         let r = Refusal::Length;
         return text::put_refused(out, 0, r.number(), r.place());
     }
-    let n = numbers::wide(input[0]);
-    let k = numbers::wide(input[1]);
-    let level = numbers::wide(input[2]);
-    let limit = numbers::wide(input[3]);
+    let n = usize::from(input[0]);
+    let k = usize::from(input[1]);
+    let level = usize::from(input[2]);
+    let limit = usize::from(input[3]);
     let mut numbers = [0u16; NUMBERS];
     let count = numbers::read(&input[HEADER..], &mut numbers);
     answer(alphabet, n, k, level, limit, &numbers[..count], out)

@@ -8,6 +8,7 @@ use native.Mathlib.Decide.{dec_lt, ℕ_discrete}
 use native.Mathlib.Numerals.{add-one}
 use native.Mathlib.Omega.{arith}
 use borrow.Author.Tests.{eq-eqb, ne_eqb}
+use lib.Seq.{get_or-set_same, get_or-set_other}
 use lib.ListN.{length, get_or, set, replicate, length-set, length-replicate, get_or-replicate}
 use Rattle.algebra.proofs.Elements.{zero_symbol, plus_symbol, times_symbol, plus_none, none_times}
 use Rattle.algebra.proofs.Linear.{dot_none, dot_suc}
@@ -18,8 +19,8 @@ use Rattle.definitions.specs.Code.{Symbols}
 use Rattle.definitions.specs.Field.{Code, numbers}
 use Rattle.definitions.specs.Limits.{greatest_level, greatest_count}
 use Rattle.monomials.specs.Walk.{walked}
-use Rattle.passing.proofs.Rows.{row_put, row_kept, each_put, zero_rows}
-use Rattle.passing.specs.Derivatives.{SymbolRows, Added, part_of, Parts}
+use Rattle.passing.proofs.Rows.{each_put, zero_rows}
+use Rattle.passing.specs.Derivatives.{SymbolRows, Added, part_of}
 
 module _ (C : Code) (v : ℕ) (px : List (List ℕ)) (q : List ℕ) where
   -- the rows hold what the first j coefficients give
@@ -76,20 +77,17 @@ module _ (C : Code) (F : FieldOf C) (v : ℕ) (px : List (List ℕ)) (q : List �
           record {
             size = length-set rows y row ∙ p.size;
             wide = λ b h. elim (ℕ_discrete b y) [
-              | yes i ↦ ap (λ (k : ℕ). length (get_or (set rows y row) k [])) i ∙ ap length (row_put rows y row inside) ∙ a.size ∙ p.wide y low
-              | no i ↦ ap length (row_kept rows y row b i) ∙ p.wide b h
+              | yes i ↦ ap (λ (k : ℕ). length (get_or (set rows y row) k [])) i ∙ ap length (get_or-set_same rows y row [] inside) ∙ a.size ∙ p.wide y low
+              | no i ↦ ap length (get_or-set_other rows y b row [] i) ∙ p.wide b h
             ];
             symbols = each_put rows y row (Symbols C) inside row_symbols p.symbols;
             each = λ b s h l. elim (ℕ_discrete b y) [
               | yes i ↦
-                  ap (λ (k : ℕ). entry_of (set rows y row) k s) i ∙ ap (λ (z : List ℕ). get_or z s 0) (row_put rows y row inside)
+                  ap (λ (k : ℕ). entry_of (set rows y row) k s) i ∙ ap (λ (z : List ℕ). get_or z s 0) (get_or-set_same rows y row [] inside)
                   ∙ a.patched.inside s (omega arith) (omega arith)
                   ∙ ap (λ (z : ℕ). C.plus z (C.times (entry_of px x s) (get_or q j 0))) (p.each y s low l) ∙ sym (part_here s) ∙ ap (λ (k : ℕ). part (j + 1) k s) (sym i)
               | no i ↦
-                  ap (λ (z : List ℕ). get_or z s 0) (row_kept rows y row b i) ∙ p.each b s h l
+                  ap (λ (z : List ℕ). get_or z s 0) (get_or-set_other rows y b row [] i) ∙ p.each b s h l
                   ∙ sym (part_other b s i (subst (λ (z : ℕ). z < C.symbols) (p.each b s h l) (p.symbols b s)))
             ];
           }
-
-  pub parts_done : (n : ℕ) (rows : List (List ℕ)) → PartsTo C v px q n rows → Parts C v n px q rows
-  parts_done n rows p = record { symbols = p.symbols; each = p.each }

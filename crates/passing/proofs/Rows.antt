@@ -18,22 +18,16 @@ use Rattle.definitions.specs.Field.{Ops, Code, numbers}
 use Rattle.definitions.specs.Limits.{greatest_level, greatest_count}
 use Rattle.definitions.specs.Polynomial.{derivative}
 use Rattle.passing.proofs.Collected.{number_derivative, derivative_symbol}
-use Rattle.passing.specs.Derivatives.{SymbolRows, Moved, Powers}
+use Rattle.passing.specs.Derivatives.{SymbolRows, Moved}
 
 -- a row is put in place of another
 module _ (rows : List (List ℕ)) (e : ℕ) (row : List ℕ) where
-  pub row_put : e < length rows → get_or (set rows e row) e [] ≡ row
-  row_put h = get_or-set_same rows e row [] h
-
-  pub row_kept : (k : ℕ) → (k ≡ e → ⊥) → get_or (set rows e row) k [] ≡ get_or rows k []
-  row_kept k n = get_or-set_other rows e k row [] n
-
   -- what holds of the row and of every one before holds of every one
   pub each_put : (P : List ℕ → Type 0) → e < length rows → P row → ((k : ℕ) → P (get_or rows k [])) → (k : ℕ) → P (get_or (set rows e row) k [])
   each_put P h p all k =
       elim (ℕ_discrete k e) [
-        | yes i ↦ subst P (sym (ap (λ (j : ℕ). get_or (set rows e row) j []) i ∙ row_put h)) p
-        | no i ↦ subst P (sym (row_kept k i)) (all k)
+        | yes i ↦ subst P (sym (ap (λ (j : ℕ). get_or (set rows e row) j []) i ∙ get_or-set_same rows e row [] h)) p
+        | no i ↦ subst P (sym (get_or-set_other rows e k row [] i)) (all k)
       ]
 
 module _ (C : Code) (some : 0 < C.symbols) where
@@ -131,11 +125,8 @@ module _ (C : Code) (F : FieldOf C) where
           symbols = each_put rows e row (Symbols C) inside (row_symbols e row r) p.symbols;
           each = λ k s l f. elim (ℕ_discrete k e) [
             | yes i ↦
-                ap (λ (j : ℕ). entry_of (set rows e row) j s) i ∙ ap (λ (x : List ℕ). get_or x s 0) (row_put rows e row inside) ∙ r.each s f
+                ap (λ (j : ℕ). entry_of (set rows e row) j s) i ∙ ap (λ (x : List ℕ). get_or x s 0) (get_or-set_same rows e row [] inside) ∙ r.each s f
                 ∙ ap (λ (j : ℕ). derivative N j s c) (sym i)
-            | no i ↦ ap (λ (x : List ℕ). get_or x s 0) (row_kept rows e row k i) ∙ p.each k s (omega arith) f
+            | no i ↦ ap (λ (x : List ℕ). get_or x s 0) (get_or-set_other rows e k row [] i) ∙ p.each k s (omega arith) f
           ];
         }
-
-    pub powers_done : (count : ℕ) (rows : List (List ℕ)) → PowersTo C c count rows → Powers C c count rows
-    powers_done count rows p = record { symbols = p.symbols; each = p.each }

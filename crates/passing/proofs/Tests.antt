@@ -2,18 +2,20 @@
 -- Assumes nothing.
 use mathlib.Core.Bool.{Bool}
 use mathlib.Core.List.{List}
-use mathlib.Core.Path.{◌≡◌, refl, sym, ap}
+use mathlib.Core.Path.{◌≡◌, refl, sym, ◌∙◌, ap, subst}
 use Prim.Native.Nat.{ℕ, ◌+◌, ◌-◌, ◌*◌, ◌/◌, ◌≤◌, ◌<◌}
-use native.Mathlib.Nat.{mul-suc, mul-le-mul_left}
+use native.Mathlib.Nat.{div-le_self, le_refl, mul-suc, mul-le-mul_left}
 use native.Mathlib.Omega.{arith}
 use lib.Dec.{eqb}
-use lib.ListN.{get_or, take}
+use lib.ListN.{length, get_or, take}
 use lib.Seq.{get_or-take}
 use Rattle.algebra.proofs.Linear.{dot_equal}
 use Rattle.algebra.proofs.Numbers.{point_symbol}
 use Rattle.algebra.specs.FieldOf.{FieldOf}
 use Rattle.algebra.specs.Grid.{entry_of}
+use Rattle.definitions.proofs.Bound.{count_above}
 use Rattle.definitions.proofs.Every.{every_same}
+use Rattle.definitions.proofs.Loops.{row_within}
 use Rattle.definitions.specs.Bound.{count}
 use Rattle.definitions.specs.Code.{Symbols, point}
 use Rattle.definitions.specs.Field.{Code, numbers}
@@ -22,7 +24,7 @@ use Rattle.definitions.specs.Proposals.{passes_at, passes}
 use Rattle.definitions.specs.Tools.{every}
 use Rattle.definitions.specs.Weights.{entry}
 use Rattle.passing.proofs.Collected.{parts_hasse}
-use Rattle.passing.specs.Derivatives.{Low, Powers, Parts, order_passes, derivative_at, point_passes, column_passes}
+use Rattle.passing.specs.Derivatives.{Low, Powers, Parts, order_passes, derivative_at, point_passes, column_passes, Given}
 
 module _ (C : Code) where
   -- the orders that begin with s, of a point
@@ -48,6 +50,34 @@ module _ (C : Code) (F : FieldOf C) (v D : ℕ) (pos : 0 < v) (q : List ℕ) (sq
         → column_passes C rows (D / v + 1) entries (C.symbols * i) ≡ every C.symbols (λ b. passes_at C v D q i b (entry C entries i b))
     column_agrees entries low =
         every_same _ _ C.symbols (λ b l. point_agrees b (get_or entries (C.symbols * i + b) 0) l (low (C.symbols * i + b) (omega arith)))
+
+-- what is asked of each position, of a matrix and a polynomial within limits
+module _ (C : Code) {n v D : ℕ} {entries q : List ℕ} (given : Given C n v D entries q) where
+  -- the degree limit is below the number of coefficients
+  pub degree_low : D + 1 ≤ greatest_count
+  degree_low = let few = given.few in let above = count_above v given.positive D in omega arith
+
+  -- and so are the powers of y
+  pub powers_low : D / v + 1 ≤ greatest_count
+  powers_low = let low = degree_low in let q = div-le_self D v in omega arith
+
+  module _ (i : ℕ) (h : i < n) where
+    -- the entries of a position are among those of n positions
+    pub column_within : C.symbols * i + C.symbols ≤ length entries
+    column_within = row_within C.symbols i n (length entries) h given.whole
+
+    -- so none of them is above the greatest level
+    pub column_low : Low (C.symbols * i + C.symbols) entries
+    column_low j l = let among = row_within C.symbols i n (C.symbols * n) h (le_refl (C.symbols * n)) in given.low j (omega arith)
+
+    -- what the rows of its x answer is whether the position passes
+    pub position_agrees : (F : FieldOf C) {x size : ℕ} {px rows : List (List ℕ)} {answer : Bool} → x ≡ point C i → size ≡ C.symbols → Powers C x (D + 1) px
+        → Parts C v (length q) px q rows → answer ≡ column_passes C rows (D / v + 1) entries (size * i)
+        → answer ≡ every C.symbols (λ b. passes_at C v D q i b (entry C entries i b))
+    position_agrees F {px = px} {rows = rows} ex es powers parts e =
+        e ∙ ap (λ (z : ℕ). column_passes C rows (D / v + 1) entries (z * i)) es
+        ∙ column_agrees C F v D given.positive q given.coefficients powers_low i px rows
+        (subst (λ (c : ℕ). Powers C c (D + 1) px) ex powers) (subst (λ (k : ℕ). Parts C v k px q rows) given.full parts) entries column_low
 
 -- a polynomial passes through the points of the first n positions, whatever stands behind them
 pub passes_front : (C : Code) (n v D : ℕ) (entries q : List ℕ) → passes C n v D entries q ≡ passes C n v D (take (C.symbols * n) entries) q

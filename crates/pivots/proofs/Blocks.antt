@@ -1,7 +1,7 @@
 -- A step of the elimination by blocks: two rows change places, and the rows listed lose a multiple of the pivot row.
 -- Assumes nothing.
 use mathlib.Core.List.{List, []}
-use mathlib.Core.Path.{◌≡◌, refl, sym, ◌∙◌, ap, subst}
+use mathlib.Core.Path.{◌≡◌, sym, ◌∙◌, ap, subst}
 use Prim.Native.Nat.{ℕ, ◌+◌, ◌*◌, ◌/◌, ◌-◌, ◌≤◌, ◌<◌}
 use native.Mathlib.Decide.{ℕ_discrete}
 use native.Mathlib.Numerals.{add-one}
@@ -14,8 +14,8 @@ use Rattle.algebra.specs.Grid.{entry_of, Patched}
 use Rattle.definitions.specs.Code.{Symbols}
 use Rattle.definitions.specs.Field.{Code, numbers}
 use Rattle.pivots.specs.System.{System, ExchangedIn, column_of, ListedRows, TargetRows, Factors, DoneIn, LoweredIn, Eliminated}
-use Rattle.linear.proofs.Columns.{exchanged_block, between_none, between_more, patched_symbols, blocks_solutions, blocks_triangle}
-use Rattle.linear.proofs.Listed.{done_none, done_row, done_lowered, listed_targets}
+use Rattle.linear.proofs.Columns.{exchanged_block, between_more, patched_symbols, blocks_solutions, blocks_triangle}
+use Rattle.linear.proofs.Listed.{done_row, done_lowered, listed_targets}
 use Rattle.linear.specs.Columns.{Between, Exchanged, Lowered, Listed}
 use Rattle.linear.specs.Rows.{Triangle}
 use Rattle.blocks.proofs.Blocks.{block_symbols, scaled_symbols}
@@ -77,10 +77,6 @@ exchanged_in C F at r j u m part other first one two s hr hj hu is_part is_other
 }
 
 module _ (C : Code) where
-  -- in no block yet
-  pub exchange_none : (from r j u : ℕ) (m : List (List ℕ)) → System C m → ExchangedIn C from from r j u m m
-  exchange_none from r j u m s = record { size = refl; system = s; columns = between_none (Exchanged (numbers C) r j u) from (entry_of m) }
-
   -- in one block more
   pub exchange_more : (p q r j u : ℕ) (o m b : List (List ℕ)) → q ≤ p → ExchangedIn C (q * block) (p * block) r j u o m
       → ExchangedIn C (p * block) (p * block + block) r j u m b → ExchangedIn C (q * block) ((p + 1) * block) r j u o b
@@ -95,10 +91,6 @@ module _ (C : Code) where
       }
 
 -- ---- the rows listed, in some columns
-
--- none is done yet
-pub rows_undone : (C : Code) (from to j : ℕ) (places c : List ℕ) (m : List (List ℕ)) → System C m → DoneIn C from to j 0 places c m m
-rows_undone C from to j places c m s = record { size = refl; system = s; done = done_none C from to j (λ (i : ℕ). get_or places i 0) (λ (i : ℕ). get_or c i 0) (entry_of m) }
 
 -- a row has lost x times another in some columns
 abbrev pub Less : Code → ℕ → ℕ → ℕ → List ℕ → List ℕ → List ℕ → Type 0
@@ -141,19 +133,20 @@ module _ (C : Code) where
   listed_rows R L j n m places c h s l =
       (listed_targets R L j n _ _ _ h l, λ i g. subst (λ (x : ℕ). x < C.symbols) (sym (l.factor i g)) (s.symbols (get_or places i 0) j))
 
-  -- in no block yet
-  pub lower_none : (from R j : ℕ) (x : ℕ → ℕ) (m : List (List ℕ)) → System C m → LoweredIn C from from R j x m m
-  lower_none from R j x m s = record { size = refl; system = s; columns = between_none (Lowered (numbers C) R j x) from (entry_of m) }
-
--- in more columns
-pub lower_more : (C : Code) → FieldOf C → (from mid to R j n : ℕ) (x : ℕ → ℕ) (places c : List ℕ) (o m b : List (List ℕ)) → from ≤ mid → mid ≤ to
-    → Listed R j n x (λ i. get_or places i 0) (λ i. get_or c i 0) → LoweredIn C from mid R j x o m → DoneIn C mid to j n places c m b → LoweredIn C from to R j x o b
-lower_more C F from mid to R j n x places c o m b low high listed d e = record {
-  size = e.size ∙ d.size;
-  system = e.system;
-  columns = between_more (Lowered (numbers C) R j x) from mid to (entry_of o) (entry_of m) (entry_of b) low high d.columns
-      (done_lowered C mid to j (λ i. get_or places i 0) (λ i. get_or c i 0) F R n x (entry_of m) (entry_of b) (λ t k. d.system.symbols t k) listed e.done);
-}
+-- in one block more
+pub lower_more : (C : Code) → FieldOf C → (p q R j n : ℕ) (x : ℕ → ℕ) (places c : List ℕ) (o m b : List (List ℕ)) → q ≤ p
+    → Listed R j n x (λ i. get_or places i 0) (λ i. get_or c i 0) → LoweredIn C (q * block) (p * block) R j x o m
+    → DoneIn C (p * block) (p * block + block) j n places c m b → LoweredIn C (q * block) ((p + 1) * block) R j x o b
+lower_more C F p q R j n x places c o m b h listed d e =
+    let f : p * block + block ≡ (p + 1) * block = omega arith in
+    let one = done_lowered C (p * block) (p * block + block) j (λ i. get_or places i 0) (λ i. get_or c i 0) F R n x (entry_of m) (entry_of b) (λ t k. d.system.symbols t k) listed e.done in
+    record {
+      size = e.size ∙ d.size;
+      system = e.system;
+      columns = subst (λ (k : ℕ). Between (Lowered (numbers C) R j x) (q * block) k (entry_of o) (entry_of b)) f
+          (between_more (Lowered (numbers C) R j x) (q * block) (p * block) (p * block + block) (entry_of o) (entry_of m) (entry_of b) (omega arith) (omega arith)
+          d.columns one);
+    }
 
 -- ---- the step
 

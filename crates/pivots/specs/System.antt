@@ -1,12 +1,13 @@
 -- What each step of the elimination makes of the rows.
 -- Assumes nothing.
-use Rattle.std.specs.Prelude.{cond, List, [], ◌≡◌, ℕ, ◌*◌, ◌≤◌, ◌<◌, eqb, length, get_or}
+use Rattle.std.specs.Prelude.{List, [], map, ◌≡◌, ℕ, ◌*◌, ◌≤◌, ◌<◌, length, get_or}
 use Rattle.algebra.specs.Grid.{entry_of}
 use Rattle.definitions.specs.Field.{Code, numbers}
 use Rattle.definitions.specs.Limits.{greatest_limit}
 use Rattle.linear.specs.Columns.{Between, Exchanged, Lowered, Targets, Listed, Done}
 use Rattle.linear.specs.Rows.{SymbolRows, SameSolutions, Triangle}
 use Rattle.blocks.specs.Row.{width, block}
+use Rattle.pivots.specs.declared.Target.{Target}
 
 -- rows of symbols, each of its width
 pub record System (C : Code) (m : List (List ℕ)) : Type 0 where
@@ -26,13 +27,16 @@ pub record ExchangedIn (C : Code) (from to r j u : ℕ) (m b : List (List ℕ)) 
   pub system : System C b
   pub columns : Between (Exchanged (numbers C) r j u) from to (entry_of m) (entry_of b)
 
--- 0 of zero, else 1
-abbrev pub one_of : ℕ → ℕ
-one_of x = cond (eqb x 0) 0 1
-
 -- column j
 abbrev pub column_of : List (List ℕ) → ℕ → ℕ → ℕ
 column_of m j t = entry_of m t j
+
+-- the rows of those that lose a multiple of the pivot row, and their factors
+abbrev pub rows_of : List Target → List ℕ
+rows_of targets = map (λ (t : Target). t.row) targets
+
+abbrev pub factors_of : List Target → List ℕ
+factors_of targets = map (λ (t : Target). t.factor) targets
 
 -- the rows behind j that are not zero in column j are listed, with their entries there
 abbrev pub ListedRows : ℕ → ℕ → ℕ → List (List ℕ) → List ℕ → List ℕ → Type 0

@@ -1,19 +1,13 @@
 -- What the numbers of the planner's answer tell is the answer.
 -- Assumes nothing.
 use mathlib.Core.Path.{◌≡◌, refl}
+use Rattle.std.specs.Prelude.{Result}
 use Rattle.definitions.specs.Answers.{Answer}
+use Rattle.definitions.specs.Planning.{planned}
 use Rattle.planner.specs.Planned.{told_planned}
 use Rattle.planner.specs.declared.Planned.{Planned}
-use Rattle.planner.specs.declared.Planned.TheVariants.{Of, Refused}
-use Rattle.refusals.proofs.Unique.{same_told, answer_of, refused_back}
+use Rattle.refusals.proofs.Unique.{one_told}
+use Rattle.refusals.specs.declared.Refusal.{Refusal}
 
-planned_of : Answer → Planned
-planned_of = answer_of (λ a. Of a.count a.value) Refused
-
-planned_back : (p : Planned) → planned_of (told_planned p) ≡ p
-unfolding planned_of
-planned_back (Of count steps) = refl
-planned_back (Refused r) = refused_back (λ a. Of a.count a.value) Refused r
-
-pub one_planned : {x y : Planned} {a : Answer} → told_planned x ≡ a → told_planned y ≡ a → x ≡ y
-one_planned = same_told told_planned planned_of planned_back
+pub one_planned : {x y : Result Planned Refusal} {a : Answer} → told_planned x ≡ a → told_planned y ≡ a → x ≡ y
+one_planned = one_told (λ (p : Planned). planned p.count p.steps) (λ a. record { count = a.count; steps = a.value }) (λ _. refl) (λ _. refl)

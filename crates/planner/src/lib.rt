@@ -15,12 +15,12 @@ pub mod inside;
 use alphabet::{Alphabet, MOST_PLACES};
 use matrix::Matrix;
 use refusals::limits::GREATEST_ENTRY;
-use refusals::{Checked, Refusal};
+use refusals::{Refusal, checks};
 
 #[derive(Clone, Copy)]
-pub enum Planned {
-    Of { count: usize, steps: usize },
-    Refused(Refusal),
+pub struct Planned {
+    pub count: usize,
+    pub steps: usize,
 }
 
 pub fn plan(
@@ -29,25 +29,20 @@ pub fn plan(
     steps: usize,
     reliabilities: &[u16],
     out: &mut [u8],
-) -> Planned
+) -> Result<Planned, Refusal>
     ensures answer { told_planned result ≡ plan_answer (code_on alphabet) n steps reliabilities.now out.old }
     ensures memory { out.new ≡ plan_out (code_on alphabet) n steps reliabilities.now out.old }
 {
-    let settled = Checked::size(alphabet, n)
-        .steps(steps)
-        .entries(alphabet, reliabilities.len(), n)
-        .entries_room(alphabet, out.len(), n);
-    let checked = reliabilities::columns_checked(alphabet, settled, reliabilities, n);
-    if let Checked::Refused(r) = checked {
-        return Planned::Refused(r);
-    }
-    let used = reliabilities.len();
-    memory::clear(out, 0, used);
-    let done = steps::plan_into(alphabet, n, reliabilities, steps, &mut out[..used]);
-    Planned::Of {
-        count: used,
-        steps: done,
-    }
+    checks::size(alphabet, n)?;
+    checks::steps(steps)?;
+    checks::entries(alphabet, reliabilities.len(), n)?;
+    checks::entries_room(alphabet, out.len(), n)?;
+    reliabilities::columns_checked(alphabet, reliabilities, n)?;
+    let count = reliabilities.len();
+    let front = &mut out[..count];
+    front.fill(0);
+    let done = steps::plan_into(alphabet, n, reliabilities, steps, front);
+    Ok(Planned { count, steps: done })
 }
 
 pub fn check_plan(
@@ -56,18 +51,15 @@ pub fn check_plan(
     steps: usize,
     reliabilities: &[u16],
     plan: &[u8],
-) -> Planned
+) -> Result<Planned, Refusal>
     ensures { told_planned result ≡ check_answer (code_on alphabet) n steps reliabilities.now plan.now }
 {
-    let settled = Checked::size(alphabet, n)
-        .steps(steps)
-        .entries(alphabet, reliabilities.len(), n)
-        .entries(alphabet, plan.len(), n)
-        .symbols(GREATEST_ENTRY, plan);
-    let checked = reliabilities::columns_checked(alphabet, settled, reliabilities, n);
-    if let Checked::Refused(r) = checked {
-        return Planned::Refused(r);
-    }
+    checks::size(alphabet, n)?;
+    checks::steps(steps)?;
+    checks::entries(alphabet, reliabilities.len(), n)?;
+    checks::entries(alphabet, plan.len(), n)?;
+    checks::symbols(GREATEST_ENTRY, plan)?;
+    reliabilities::columns_checked(alphabet, reliabilities, n)?;
     let mut entries = [0u8; MOST_PLACES];
     turning::turn(alphabet, plan, &mut entries);
     inside::check_entries(alphabet, n, reliabilities, steps, &entries)
@@ -82,35 +74,32 @@ pub fn check_plan_of_parts(
     entries: &[u8],
     steps: usize,
     reliabilities: &[u16],
-) -> Planned
+) -> Result<Planned, Refusal>
     ensures { told_planned result ≡ held_check_answer (code_on alphabet) (held n cost totals.now entries.now) steps reliabilities.now }
 {
-    let settled = Checked::size(alphabet, n)
-        .steps(steps)
-        .entries(alphabet, reliabilities.len(), n)
-        .or(
-            !matrix::rightly(alphabet, n, cost, totals, entries),
-            Refusal::Length,
-        )
-        .symbols(GREATEST_ENTRY, entries);
-    let checked = reliabilities::columns_checked(alphabet, settled, reliabilities, n);
-    if let Checked::Refused(r) = checked {
-        return Planned::Refused(r);
-    }
+    checks::size(alphabet, n)?;
+    checks::steps(steps)?;
+    checks::entries(alphabet, reliabilities.len(), n)?;
+    let right = matrix::rightly(alphabet, n, cost, totals, entries);
+    checks::refuse_if(!right, Refusal::Length)?;
+    checks::symbols(GREATEST_ENTRY, entries)?;
+    reliabilities::columns_checked(alphabet, reliabilities, n)?;
     inside::check_entries(alphabet, n, reliabilities, steps, entries)
 }
 
-pub fn check_plan_of_matrix(m: Matrix, steps: usize, reliabilities: &[u16]) -> Planned
+pub fn check_plan_of_matrix(
+    m: Matrix,
+    steps: usize,
+    reliabilities: &[u16],
+) -> Result<Planned, Refusal>
     ensures { told_planned result ≡ held_check_answer sixteen (held_by m) steps reliabilities.now }
 {
-    let totals = m.totals;
-    let entries = m.entries;
     check_plan_of_parts(
         Alphabet::Sixteen,
         m.n,
         m.cost,
-        &totals,
-        &entries,
+        &m.totals,
+        &m.entries,
         steps,
         reliabilities,
     )

@@ -5,7 +5,7 @@ use mathlib.Core.List.{List}
 use mathlib.Core.Path.{◌≡◌, refl, sym, ◌∙◌, ap, ap₂, subst}
 use Prim.Native.Nat.{ℕ, zero, suc, ◌+◌, ◌-◌, ◌*◌, ◌≤◌, ◌<◌}
 use native.Mathlib.Decide.{dec_lt, ℕ_discrete}
-use native.Mathlib.Nat.{add_assoc, mul-suc, le_refl, le_trans, le_of_eq, le_of_lt, lt_of_le_of_lt, lt_of_lt_of_le, mul_right_comm, mul-le-mul_right, mul-lt-mul_of_pos_right, lt_of_mul-lt-mul_right}
+use native.Mathlib.Nat.{mul-suc, le_refl, le_trans, le_of_eq, le_of_lt, lt_of_le_of_lt, lt_of_lt_of_le, mul_right_comm, mul-le-mul_right, mul-lt-mul_of_pos_right, lt_of_mul-lt-mul_right}
 use native.Mathlib.Numerals.{add-one}
 use native.Mathlib.Omega.{arith}
 use borrow.Author.Tests.{ltb-true, ltb-false, lt-ltb, le-ltb}
@@ -141,11 +141,6 @@ leads_elsewhere r m now a c place same l =
       unbeaten = λ i h e. alike i place h e here there ∙ l.unbeaten i h e;
       lowest = λ i h e. alike place i here there h (omega arith) ∙ l.lowest i h e;
     }
-
--- one symbol more of a column
-pub symbol_more : (r m : List ℕ) (first b x y : ℕ) → Leads r m first (first + b) x → y ≡ cond (beats r m (first + b) x) (first + b) x → Leads r m first (first + (b + 1)) y
-symbol_more r m first b x y l e =
-    subst (λ (j : ℕ). Leads r m first j y) (add_assoc first b 1) (better_leads r m first (first + b) (first + b + 1) x (first + b) y l (leads_itself r m (first + b)) e)
 
 -- one column more, by its leader
 pub column_more : (C : Code) (r m : List ℕ) (i x k y : ℕ) → Leads r m 0 (C.symbols * i) x → LeadsColumn C r m i k → y ≡ cond (beats r m k x) k x

@@ -3,12 +3,12 @@
 use mathlib.Core.Bool.{true, true≢false}
 use mathlib.Core.List.{List, ◌++◌}
 use mathlib.Core.Logic.{◌≢◌}
-use mathlib.Core.Path.{◌≡◌, refl, sym, ◌∙◌, ap, subst}
-use Prim.Native.Nat.{ℕ, suc, ◌+◌, ◌*◌, ◌≤◌, ◌<◌}
-use native.Mathlib.Decide.{dec_lt, ℕ_discrete}
+use mathlib.Core.Path.{◌≡◌, sym, ◌∙◌, ap, subst}
+use Prim.Native.Nat.{ℕ, suc, ◌*◌, ◌≤◌, ◌<◌}
+use native.Mathlib.Decide.{dec_lt}
 use native.Mathlib.Omega.{arith}
-use lib.ListN.{length, take, drop, get_or, set, length-set}
-use lib.Seq.{sets, length-sets, get_or-set_same, get_or-set_other}
+use lib.ListN.{length, take, drop, get_or}
+use lib.Seq.{sets, length-sets}
 use Rattle.algebra.specs.FieldOf.{FieldOf}
 use Rattle.conditions.specs.MaskedRows.{masked_rows}
 use Rattle.definitions.proofs.Bound.{bound_le, bound_is_least}
@@ -28,38 +28,6 @@ use Rattle.polynomial.proofs.Conditions.{length_conditions, conditions_symbols, 
 use Rattle.polynomial.specs.Found.{Given, Found}
 use Rattle.blocks.specs.Row.{width, block, blocks_for}
 use Rattle.matrix.specs.Columns.{matrix_of, matrix_cost}
-
--- ---- the leading coefficient
-
--- 1 is put at j
-pub led_first : (j : ℕ) (out : List ℕ) → j < length out → Led j (j + 1) (set out j 1) (set out j 1)
-led_first j out h = record {
-  size = refl;
-  one = get_or-set_same out j 1 0 h;
-  zeros = λ k l g. let z : ⊥ = omega arith in absurd z;
-  kept = λ k l. refl;
-}
-
--- one zero more
-pub led_more : (j n : ℕ) (out now : List ℕ) → j < n → n < length out → Led j n out now → Led j (n + 1) out (set now n 0)
-led_more j n out now low h l = record {
-  size = length-set now n 0 ∙ l.size;
-  one = get_or-set_other now n j 0 0 (λ e. omega arith) ∙ l.one;
-  zeros = λ k g f. elim (ℕ_discrete k n) [
-    | yes e ↦ ap (λ (i : ℕ). get_or (set now n 0) i 0) e ∙ get_or-set_same now n 0 0 (let s = l.size in omega arith)
-    | no e ↦ get_or-set_other now n k 0 0 e ∙ l.zeros k g (omega arith)
-  ];
-  kept = λ k g. get_or-set_other now n k 0 0 (λ e. omega arith) ∙ l.kept k (omega arith);
-}
-
--- what stays behind them stood there before the 1
-pub led_whole : (j n : ℕ) (out now : List ℕ) → j < n → Led j n (set out j 1) now → Led j n out now
-led_whole j n out now low l = record {
-  size = l.size ∙ length-set out j 1;
-  one = l.one;
-  zeros = l.zeros;
-  kept = λ k g. l.kept k g ∙ get_or-set_other out j k 1 0 (λ e. omega arith);
-}
 
 -- ---- what is given is within the limits of the functions
 

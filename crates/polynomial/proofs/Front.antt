@@ -10,7 +10,7 @@ use Rattle.definitions.proofs.Powers.{bound_fits}
 use Rattle.definitions.specs.Bound.{bound}
 use Rattle.definitions.specs.Field.{Code}
 use Rattle.definitions.specs.Limits.{greatest_limit, coefficient_room}
-use Rattle.definitions.specs.Polynomial.{Interpolates, leading}
+use Rattle.definitions.specs.Polynomial.{Interpolates}
 use Rattle.definitions.specs.Weights.{cost}
 use Rattle.matrix.proofs.Columns.{matrix_cost_lem}
 use Rattle.matrix.specs.Columns.{matrix_of, matrix_cost}
@@ -41,10 +41,6 @@ module _ (C : Code) (a : List (List ℕ)) (v price : ℕ) (before : List ℕ) (D
       let n = f.counted in
       let fits = few in
       ap length f.found.written ∙ length-append q (drop (length q) before) ∙ ap (λ (x : ℕ). length q + x) (length-drop (length q) before) ∙ omega arith
-
-  -- the place is that of their leading monomial
-  pub leads_front : place ≡ leading (take w after)
-  leads_front = f.found.leads ∙ ap leading (sym at_front)
 
   -- and they interpolate the bytes that the matrix was loaded from, whose cost it is
   module _ (n : ℕ) (some : n ≤ C.positions) (paid : price ≡ matrix_cost C a) (m : List ℕ) (size : length m ≡ C.symbols * n) (loaded : a ≡ matrix_of C m n) where

@@ -9,12 +9,13 @@ ghost use Rattle.list_within.specs.Within.{Answered, Fit};
 ghost use Rattle.matrix.specs.Columns.{FrontCosts};
 ghost use Rattle.passing.specs.Derivatives.{Given};
 ghost use Rattle.proposal_within.specs.Lines.{list_lines};
-ghost use Rattle.refusals.specs.Counted.{told_counted};
+ghost use Rattle.refusals.specs.Told.{told_counted};
 
 use alphabet::Alphabet;
-use refusals::{Counted, Refusal};
+use refusals::{Refusal, checks};
 
 // "yes exactly when it is not all zero and passes", of the matrix in front of the entries.
+#[tactic(auto, using(passing::proofs::Tests::passes_front))]
 pub fn is_yes(
     alphabet: Alphabet,
     entries: &[u8],
@@ -26,10 +27,8 @@ pub fn is_yes(
     requires { Given (code_on alphabet) n v degree entries.now coefficients.now }
     ensures { result ≡ is_yes (code_on alphabet) n v degree (take ((code_on alphabet).symbols * n) entries.now) coefficients.now }
 {
-    if memory::all_zero(coefficients) {
-        return false;
-    }
-    passing::passes(alphabet, entries, n, v, degree, coefficients)
+    !memory::all_zero(coefficients)
+        && passing::passes(alphabet, entries, n, v, degree, coefficients)
 }
 
 // What passed the checks of its table before the cost, the matrix in front of the entries.
@@ -44,23 +43,20 @@ pub fn list_proposed(
     coefficients: &[u8],
     rows: &mut [u8],
     scores: &mut [u16],
-) -> Counted
+) -> Result<usize, Refusal>
     requires fit { Fit (code_on alphabet) n k limit (length rows.old) (length scores.old) }
     requires front_costs { FrontCosts (code_on alphabet) n cost entries.now × Given (code_on alphabet) n (k - 1) degree entries.now coefficients.now }
     ensures { Answered (code_on alphabet) (list_lines (code_on alphabet) n k limit degree coefficients.now (take ((code_on alphabet).symbols * n) entries.now)) n k (take ((code_on alphabet).symbols * n) entries.now) rows.old scores.old (told_counted result) rows.new scores.new }
 {
-    if limit < cost {
-        return Counted::Refused(Refusal::Cost);
-    }
+    checks::refuse_if(limit < cost, Refusal::Cost)?;
     let bound = bound::bound(k - 1, cost);
-    if bound < degree {
-        return Counted::Refused(Refusal::Setting);
-    }
-    if !is_yes(alphabet, entries, n, k - 1, degree, coefficients) {
-        return Counted::Refused(Refusal::Proposal);
-    }
+    checks::refuse_if(bound < degree, Refusal::Setting)?;
+    checks::refuse_if(
+        !is_yes(alphabet, entries, n, k - 1, degree, coefficients),
+        Refusal::Proposal,
+    )?;
     let columns = matrix::in_columns(alphabet, entries, n);
-    Counted::Count(list_within::roots_above(
+    Ok(list_within::roots_above(
         alphabet,
         &columns,
         n,

@@ -1,4 +1,3 @@
 pub mod Lines
-pub mod Fits
-pub mod Answers
+pub mod Given
 pub mod Unique

@@ -1,22 +1,18 @@
 -- What the numbers of the check's answer tell is the answer.
 -- Assumes nothing.
-use mathlib.Core.Bool.{cond}
+use mathlib.Core.Bool.{Bool, true, false, cond}
 use mathlib.Core.Path.{◌≡◌, refl}
 use lib.Dec.{eqb}
-use Rattle.definitions.specs.Answers.{Answer}
+use Rattle.std.specs.Prelude.{Result}
+use Rattle.definitions.specs.Answers.{Answer, valued}
 use Rattle.proposals.specs.Proposed.{told_proposed}
-use Rattle.proposals.specs.declared.Proposed.{Proposed}
-use Rattle.proposals.specs.declared.Proposed.TheVariants.{Yes, No, Refused}
-use Rattle.refusals.proofs.Unique.{same_told, answer_of, refused_back}
+use Rattle.refusals.proofs.Unique.{one_told}
+use Rattle.refusals.specs.declared.Refusal.{Refusal}
 
-proposed_of : Answer → Proposed
-proposed_of = answer_of (λ a. cond (eqb a.value 1) Yes No) Refused
+-- yes is had back from its value
+agreed_back : (b : Bool) → eqb (valued (cond b 1 0)).value 1 ≡ b
+agreed_back true = refl
+agreed_back false = refl
 
-proposed_back : (p : Proposed) → proposed_of (told_proposed p) ≡ p
-unfolding proposed_of
-proposed_back Yes = refl
-proposed_back No = refl
-proposed_back (Refused r) = refused_back (λ a. cond (eqb a.value 1) Yes No) Refused r
-
-pub one_proposed : {x y : Proposed} {a : Answer} → told_proposed x ≡ a → told_proposed y ≡ a → x ≡ y
-one_proposed = same_told told_proposed proposed_of proposed_back
+pub one_proposed : {x y : Result Bool Refusal} {a : Answer} → told_proposed x ≡ a → told_proposed y ≡ a → x ≡ y
+one_proposed = one_told (λ (b : Bool). valued (cond b 1 0)) (λ a. eqb a.value 1) (λ _. refl) agreed_back

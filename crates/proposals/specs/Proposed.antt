@@ -1,12 +1,9 @@
--- The numbers that document 02 gives to each case of a check's answer.
+-- The numbers that document 02 gives to each case of a check's result: "yes" or "a no".
 -- Assumes nothing.
+use Rattle.std.specs.Prelude.{Bool, cond, Result}
 use Rattle.definitions.specs.Answers.{Answer, valued}
-use Rattle.refusals.specs.Refusal.{told_refusal}
-use Rattle.proposals.specs.declared.Proposed.{Proposed}
-use Rattle.proposals.specs.declared.Proposed.TheVariants.{Yes, No, Refused}
+use Rattle.refusals.specs.Told.{told}
+use Rattle.refusals.specs.declared.Refusal.{Refusal}
 
--- "yes", or "a no"
-abbrev pub told_proposed : Proposed → Answer
-told_proposed Yes = valued 1
-told_proposed No = valued 0
-told_proposed (Refused r) = told_refusal r
+abbrev pub told_proposed : Result Bool Refusal → Answer
+told_proposed r = told (λ (agreed : Bool). valued (cond agreed 1 0)) r

@@ -14,6 +14,7 @@ ghost use Rattle.definitions.specs.Proposals.{held_proposal_answer, held_proposa
 use alphabet::Alphabet;
 use crossing::Answer;
 
+#[tactic(auto, using(crate::proofs::Fits::fresh_narrow))]
 pub fn matrix_fresh(alphabet: Alphabet, n: usize, totals: &mut [u16], entries: &mut [u8]) -> Answer
     ensures answer { answer_of result ≡ lent_fresh_answer (code_on alphabet) n totals.old entries.old }
     ensures total_memory { totals.new ≡ (lent_fresh_held (code_on alphabet) n totals.old entries.old).totals }
@@ -22,6 +23,7 @@ pub fn matrix_fresh(alphabet: Alphabet, n: usize, totals: &mut [u16], entries: &
     crossing::priced(editing::parts::fresh(alphabet, n, totals, entries))
 }
 
+#[tactic(auto, using(crate::proofs::Fits::bytes_narrow))]
 pub fn matrix_of_bytes(
     alphabet: Alphabet,
     n: usize,
@@ -128,6 +130,7 @@ pub fn matrix_interpolate(
     ))
 }
 
+#[tactic(auto, using(crossing::proofs::Crossed::few_fit, crossing::proofs::Crossed::list_crosses, crate::proofs::Fits::held_list_narrow))]
 pub fn matrix_list(
     alphabet: Alphabet,
     n: usize,
@@ -171,6 +174,7 @@ pub fn matrix_check_plan(
     ))
 }
 
+#[tactic(auto, using(crossing::proofs::Crossed::few_fit, crossing::proofs::Crossed::list_crosses, crate::proofs::Fits::held_plan_list_narrow))]
 pub fn matrix_list_of_plan(
     alphabet: Alphabet,
     n: usize,
@@ -228,6 +232,7 @@ pub fn matrix_check_proposal(
     ))
 }
 
+#[tactic(auto, using(crossing::proofs::Crossed::few_fit, crossing::proofs::Crossed::list_crosses, crate::proofs::Fits::held_proposal_list_narrow))]
 pub fn matrix_list_of_proposal(
     alphabet: Alphabet,
     n: usize,

@@ -1,4 +1,6 @@
 pub mod Tests
-pub mod Lines
+pub mod First
+pub mod Tried
 pub mod Chain
+pub mod Outcomes
 pub mod Unique

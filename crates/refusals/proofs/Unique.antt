@@ -6,11 +6,10 @@ use mathlib.Core.Path.{◌≡◌, refl, sym, ◌∙◌, ap}
 use native.Mathlib.Omega.{arith}
 use lib.Dec.{eqb}
 use lib.ListN.{get_or}
-use Rattle.definitions.specs.Answers.{Answer}
-use Rattle.refusals.specs.Counted.{told_counted}
+use Rattle.std.specs.Prelude.{ℕ, Result, Ok, Err}
+use Rattle.definitions.specs.Answers.{Answer, counted}
+use Rattle.refusals.specs.Told.{told, told_counted}
 use Rattle.refusals.specs.Refusal.{told_refusal}
-use Rattle.refusals.specs.declared.Counted.{Counted}
-use Rattle.refusals.specs.declared.Counted.TheVariants.{Count, Refused}
 use Rattle.refusals.specs.declared.Refusal.{Refusal}
 use Rattle.refusals.specs.declared.Refusal.TheVariants.{Sizes, Setting, Length, Room, Symbol, Column, Cost, Zero, Plan, Proposal}
 
@@ -53,13 +52,17 @@ refused_back accepted refused Zero = refl
 refused_back accepted refused Plan = refl
 refused_back accepted refused Proposal = refl
 
-counted_of : Answer → Counted
-counted_of = answer_of (λ a. Count a.count) Refused
+-- where what is accepted can be had back from its answer, whose number is 0, a result can be had back from its numbers
+result_back : {T : Type 0} (accepted : T → Answer) (back : Answer → T) → ((x : T) → (accepted x).number ≡ 0) → ((x : T) → back (accepted x) ≡ x)
+    → (r : Result T Refusal) → answer_of (λ a. Ok (back a)) Err (told accepted r) ≡ r
+result_back accepted back zero is_back (Ok x) =
+    ap (λ (n : ℕ). cond (eqb n 0) (Ok (back (accepted x))) (Err (refusal_of (accepted x)))) (zero x) ∙ ap Ok (is_back x)
+result_back accepted back zero is_back (Err r) = refused_back (λ a. Ok (back a)) Err r
 
-counted_back : (c : Counted) → counted_of (told_counted c) ≡ c
-unfolding counted_of
-counted_back (Count n) = refl
-counted_back (Refused r) = refused_back (λ a. Count a.count) Refused r
+-- so two results with the same numbers are equal
+pub one_told : {T : Type 0} (accepted : T → Answer) (back : Answer → T) → ((x : T) → (accepted x).number ≡ 0) → ((x : T) → back (accepted x) ≡ x)
+    → {x y : Result T Refusal} {a : Answer} → told accepted x ≡ a → told accepted y ≡ a → x ≡ y
+one_told accepted back zero is_back = same_told (told accepted) (answer_of (λ a. Ok (back a)) Err) (result_back accepted back zero is_back)
 
-pub one_counted : {x y : Counted} {a : Answer} → told_counted x ≡ a → told_counted y ≡ a → x ≡ y
-one_counted = same_told told_counted counted_of counted_back
+pub one_counted : {x y : Result ℕ Refusal} {a : Answer} → told_counted x ≡ a → told_counted y ≡ a → x ≡ y
+one_counted = one_told counted (λ a. a.count) (λ _. refl) (λ _. refl)

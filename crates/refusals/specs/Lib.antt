@@ -1,3 +1,5 @@
 pub mod Refusal
-pub mod Counted
+pub mod Told
+pub mod Tries
 pub mod Checked
+pub mod Found

@@ -2,66 +2,44 @@
 
 #![tactic(auto)]
 
-ghost use Rattle.std.specs.Prelude.{◌≡◌, ◌+◌, ◌*◌, ◌≤◌, ◌<◌, length};
+ghost use Rattle.std.specs.Prelude.{◌≡◌, ◌+◌, ◌*◌, ◌≤◌, ◌<◌, length, sum};
 ghost use Rattle.alphabet.specs.Codes.{code_on};
-ghost use Rattle.definitions.specs.Refusals.{bad_column, columns};
-ghost use Rattle.definitions.specs.Tools.{smallest};
+ghost use Rattle.definitions.specs.Refusals.{columns};
 ghost use Rattle.definitions.specs.Weights.{sum_of_column};
-ghost use Rattle.refusals.specs.Checked.{or_line, told_checked};
+ghost use Rattle.refusals.specs.Tries.{Tries};
 
-use alphabet::Alphabet;
+use alphabet::{Alphabet, MOST_SYMBOLS};
 use refusals::limits::GREATEST_SUM;
-use refusals::{Checked, Refusal};
+use refusals::{Refusal, checks};
 
-// The reliabilities of position i, summed: up to 32 times 65,535.
+// Up to 32 times 65,535.
+fn sum_of(column: &[u16]) -> usize
+    requires { length column.now ≤ MOST_SYMBOLS }
+    ensures { result ≡ sum column.now }
+{
+    column.iter().map(|&x| usize::from(x)).sum()
+}
+
+// The reliabilities of position i, summed.
+#[tactic(auto, using(crate::proofs::Passed::part_sum))]
 fn column_sum(alphabet: Alphabet, reliabilities: &[u16], i: usize) -> usize
     requires { (i < (code_on alphabet).positions) × ((code_on alphabet).symbols * i + (code_on alphabet).symbols ≤ length reliabilities.now) }
     ensures { result ≡ sum_of_column (code_on alphabet) reliabilities.now i }
 {
     let symbols = alphabet.symbols();
     let first = symbols * i;
-    let mut total = 0;
-    let mut b = 0;
-    while b < symbols {
-        total += numbers::long(reliabilities[first + b]);
-        b += 1;
-    }
-    total
+    sum_of(&reliabilities[first..first + symbols])
 }
 
-// The first position whose reliabilities sum to more than 4,096, or n.
-fn first_bad_column(alphabet: Alphabet, reliabilities: &[u16], n: usize) -> usize
+// Refused at the first position whose reliabilities sum to more than 4,096.
+#[tactic(auto, using(crate::proofs::Passed::columns_passed))]
+pub fn columns_checked(alphabet: Alphabet, reliabilities: &[u16], n: usize) -> Result<(), Refusal>
     requires { (n ≤ (code_on alphabet).positions) × ((code_on alphabet).symbols * n ≤ length reliabilities.now) }
-    ensures { result ≡ smallest (bad_column (code_on alphabet) reliabilities.now) n }
+    ensures { Tries (columns (code_on alphabet) n reliabilities.now) result }
 {
-    let mut position = 0;
-    while position < n {
-        if GREATEST_SUM < column_sum(alphabet, reliabilities, position) {
-            return position;
-        }
-        position += 1;
+    for position in 0..n {
+        let sum = column_sum(alphabet, reliabilities, position);
+        checks::refuse_if(GREATEST_SUM < sum, Refusal::Column(position))?;
     }
-    n
-}
-
-pub fn columns_checked(
-    alphabet: Alphabet,
-    checked: Checked,
-    reliabilities: &[u16],
-    n: usize,
-) -> Checked
-    requires { checked ≡ Checked.Passed → (n ≤ (code_on alphabet).positions) × ((code_on alphabet).symbols * n ≤ length reliabilities.now) }
-    ensures { told_checked result ≡ or_line (told_checked checked) (columns (code_on alphabet) n reliabilities.now) }
-{
-    match checked {
-        Checked::Refused(r) => Checked::Refused(r),
-        Checked::Passed => {
-            let bad = first_bad_column(alphabet, reliabilities, n);
-            if bad < n {
-                Checked::Refused(Refusal::Column(bad))
-            } else {
-                Checked::Passed
-            }
-        }
-    }
+    Ok(())
 }

@@ -58,37 +58,45 @@ module _ (C : Code) (h : ℕ) where
       ∙ ap₂ (λ (x : List ℕ) (y : List (ℕ × ℕ)). loaded (numbers C) h x y l) (sym (take-suc (drop j q) b 0 (omega arith))) (sym (map_below (λ (b : ℕ). (d - v * b, b)) b))
       ∙ ap (λ (n : ℕ). loaded (numbers C) h (take n (drop j q)) (some v d n) l) (sym (add-one b))
 
+  -- the last coefficient of a degree
+  pub degree_last : (v d j b : ℕ) (q l now : List ℕ) → j + b < length q → now ≡ loaded (numbers C) h (take b (drop j q)) (some v d b) l → b ≡ d / v
+      → set now ((d - v * b) * h + b) (get_or q (j + b) 0) ≡ loaded (numbers C) h (take (d / v + 1) (drop j q)) (monomials_of v d) l
+  degree_last v d j b q l now k e end =
+      degree_more v d j b q l now k e ∙ ap (λ (n : ℕ). loaded (numbers C) h (take (n + 1) (drop j q)) (some v d (n + 1)) l) end
+
 module _ (v : ℕ) (pos : 0 < v) (D : ℕ) (q : List ℕ) (full : length q ≡ count v D) where
   -- all coefficients are of weighted degree at most D
-  size : length (lower v (suc D)) ≡ length q
-  size = ap (λ (n : ℕ). length (lower v n)) (sym (add-one D)) ∙ (monomials_in_order v pos D).size ∙ sym full
+  size : length (monomials v D) ≡ length q
+  size = (monomials_in_order v pos D).size ∙ sym full
 
   -- the coefficients of degree d are there
   pub degree_within : (d : ℕ) → d ≤ D → length (lower v d) + (d / v + 1) ≤ length q
-  degree_within d l = let a = lower_grows v (suc d) (suc D) (omega arith) in let b = lower_more v d in let c = size in omega arith
+  degree_within d l = let a = lower_grows v (suc d) (D + 1) (omega arith) in let b = lower_more v d in let c = size in omega arith
+
+-- so many coefficients are of degree at most d
+pub counted_more : (v d j : ℕ) → j ≡ length (lower v d) → j + (d / v + 1) ≡ length (lower v (d + 1))
+counted_more v d j e = ap (λ (n : ℕ). n + (d / v + 1)) e ∙ sym (lower_more v d) ∙ ap (λ (n : ℕ). length (lower v n)) (sym (add-one d))
 
 module _ (C : Code) (v : ℕ) (pos : 0 < v) (D : ℕ) (q : List ℕ) (full : length q ≡ count v D) (h : ℕ) (zs : List ℕ) where
   -- before the first degree
   pub load_none : zs ≡ loaded (numbers C) h (take 0 q) (lower v 0) zs
   load_none = sym (loaded_none C h (lower v 0) zs)
 
-  -- one degree more
-  pub load_more : (d j : ℕ) (p r : List ℕ) → d ≤ D → j ≡ length (lower v d) → p ≡ loaded (numbers C) h (take j q) (lower v d) zs
-      → r ≡ loaded (numbers C) h (take (d / v + 1) (drop j q)) (monomials_of v d) p
-      → (j + (d / v + 1) ≡ length (lower v (d + 1))) × (r ≡ loaded (numbers C) h (take (j + (d / v + 1)) q) (lower v (d + 1)) zs)
-  load_more d j p r l ej ep er =
-      let w = degree_within v pos D q full d l in (
-        ap (λ (n : ℕ). n + (d / v + 1)) ej ∙ sym (lower_more v d) ∙ ap (λ (n : ℕ). length (lower v n)) (sym (add-one d)),
+  module _ (d j : ℕ) (p r : List ℕ) (within : d ≤ D) (ej : j ≡ length (lower v d)) (ep : p ≡ loaded (numbers C) h (take j q) (lower v d) zs)
+      (er : r ≡ loaded (numbers C) h (take (d / v + 1) (drop j q)) (monomials_of v d) p) where
+    -- one degree more
+    pub load_more : r ≡ loaded (numbers C) h (take (j + (d / v + 1)) q) (lower v (d + 1)) zs
+    load_more =
+        let w = degree_within v pos D q full d within in
         er ∙ ap (loaded (numbers C) h (take (d / v + 1) (drop j q)) (monomials_of v d)) ep
-            ∙ sym (loaded_append C h (take j q) (lower v d) (take (d / v + 1) (drop j q)) (monomials_of v d) zs (length-take-le j q (omega arith) ∙ ej))
-            ∙ ap₂ (λ (x : List ℕ) (y : List (ℕ × ℕ)). loaded (numbers C) h x y zs) (sym (take-add j (d / v + 1) q))
-            (sym (join_below (monomials_of v) d) ∙ ap (lower v) (sym (add-one d))),
-      )
+        ∙ sym (loaded_append C h (take j q) (lower v d) (take (d / v + 1) (drop j q)) (monomials_of v d) zs (length-take-le j q (omega arith) ∙ ej))
+        ∙ ap₂ (λ (x : List ℕ) (y : List (ℕ × ℕ)). loaded (numbers C) h x y zs) (sym (take-add j (d / v + 1) q))
+        (sym (join_below (monomials_of v) d) ∙ ap (lower v) (sym (add-one d)))
 
-  -- after the last degree
-  pub load_all : (d j : ℕ) (p : List ℕ) → d ≡ D + 1 → j ≡ length (lower v d) → p ≡ loaded (numbers C) h (take j q) (lower v d) zs
-      → p ≡ loaded (numbers C) h q (monomials v D) zs
-  load_all d j p ed ej ep =
-      let s = size v pos D q full in
-      let f : j ≡ length q = ej ∙ ap (λ (n : ℕ). length (lower v n)) (ed ∙ add-one D) ∙ s in
-      ep ∙ ap₂ (λ (x : List ℕ) (y : List (ℕ × ℕ)). loaded (numbers C) h x y zs) (take_all j q (omega arith)) (ap (lower v) ed)
+    -- the last degree
+    pub load_last : d ≡ D → r ≡ loaded (numbers C) h q (monomials v D) zs
+    load_last ed =
+        let s = size v pos D q full in
+        let m : lower v (d + 1) ≡ monomials v D = ap (λ (n : ℕ). lower v (n + 1)) ed in
+        let f : j + (d / v + 1) ≡ length q = counted_more v d j ej ∙ ap length m ∙ s in
+        load_more ∙ ap₂ (λ (x : List ℕ) (y : List (ℕ × ℕ)). loaded (numbers C) h x y zs) (take_all (j + (d / v + 1)) q (omega arith)) m

@@ -3,9 +3,8 @@
 use mathlib.Core.Bool.{Bool, true, false, cond}
 use mathlib.Core.List.{List, [], ◌∷◌, ◌++◌, map, flat_map, append_assoc, append-nil}
 use mathlib.Core.Path.{◌≡◌, refl, sym, ◌∙◌, ap, ap₂, subst}
-use Prim.Native.Nat.{ℕ, zero, suc, ◌+◌, ◌-◌, ◌*◌, ◌≤◌, ◌<◌}
-use native.Mathlib.Decide.{dec_lt}
-use native.Mathlib.Nat.{add-zero, mul-le-mul_left, mul-le-mul_right}
+use Prim.Native.Nat.{ℕ, zero, suc, ◌+◌, ◌-◌, ◌≤◌, ◌<◌}
+use native.Mathlib.Nat.{add-zero}
 use native.Mathlib.Numerals.{add-one}
 use native.Mathlib.Omega.{arith}
 use borrow.Author.Tests.{eq-eqb, ne_eqb}
@@ -24,7 +23,7 @@ use Rattle.root_tree.proofs.Levels.{search_handed, under_handed}
 use Rattle.root_tree.proofs.Search.{branch, search_zero, search_suc}
 use Rattle.root_tree.specs.Columns.{first, columns}
 use Rattle.root_tree.specs.Tree.{constants_zero, begins, next, search}
-use Rattle.substitution.specs.Array.{places, polynomial, Handed}
+use Rattle.substitution.specs.Array.{polynomial, Handed}
 use Rattle.memory.proofs.Laid.{laid_none, laid_behind}
 use Rattle.memory.specs.Laid.{laid}
 use Rattle.roots.specs.Rows.{DegreeWithin, rows_after}
@@ -114,37 +113,9 @@ module _ (C : Code) (row : List ℕ) (k left : ℕ) (M : List (List ℕ)) (z : l
       → (at ≡ at + length (rows_after (take (k - left) row) (search C left M))) × (d ≡ laid d at (rows_after (take (k - left) row) (search C left M)))
   leaf_nothing e d at = (rw (leaf_none e) (sym (add-zero at)), rw (leaf_none e) (laid_none d at))
 
--- a level that is not the last
-pub positive : (n : ℕ) → (n ≡ 0 → ⊥) → 0 < n
-positive n f =
-    elim (dec_lt 0 n) [
-      | yes l ↦ l
-      | no m ↦ absurd (f (omega arith))
-    ]
-
--- levels left fall
-pub fewer : (n t : ℕ) → n ≡ t → 0 < n → n - 1 < t
-fewer n t e h = omega arith
-
--- and stay within the row
-pub fewer_fit : (n k : ℕ) → n ≤ k → n - 1 ≤ k
-fewer_fit n k h = omega arith
-
--- the lent memory keeps its length
-pub same_room : (a n m : ℕ) → m ≡ n → a ≤ n → a ≤ m
-same_room a n m e h = omega arith
-
 -- a row has an entry for each symbol of a message
 pub row_holds : (w : Alphabet) (row : List ℕ) (k : ℕ) → length row ≡ most_symbols → k ≤ (code_on w).positions → k ≤ length row
 row_holds w row k e h = let z = sized w in let p = z.points in let m = z.most in omega arith
-
--- there are no more columns than places
-pub columns_fit : (h w : ℕ) → 0 < h → w * h ≤ places → w ≤ places
-columns_fit h w pos l = let m : w * 1 ≤ w * h = mul-le-mul_left w pos in omega arith
-
--- and none of them is higher
-pub height_fits : (h w : ℕ) → 0 < w → w * h ≤ places → h ≤ places
-height_fits h w pos l = let m : 1 * h ≤ w * h = mul-le-mul_right h pos in omega arith
 
 -- ---- one symbol tried
 

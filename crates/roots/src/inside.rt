@@ -7,7 +7,6 @@ ghost use Rattle.definitions.specs.Code.{Symbols};
 ghost use Rattle.definitions.specs.Limits.{greatest_count};
 ghost use Rattle.definitions.specs.Polynomial.{monomials_of, monomials, is_zero};
 ghost use Rattle.definitions.specs.Roots.{roots_of};
-ghost use Rattle.tables.specs.Table.{Tabled};
 ghost use Rattle.root_tree.specs.Tree.{zeros, search};
 ghost use Rattle.substitution.specs.Array.{places, polynomial};
 ghost use Rattle.memory.specs.Laid.{laid};
@@ -25,10 +24,8 @@ fn load_degree(p: &mut [u8], coefficients: &[u8], j: usize, d: usize, v: usize, 
     requires v_in_bounds { j + (d / v + 1) ≤ length coefficients.now }
     ensures { LoadedOfEither h (take (d / v + 1) (drop j coefficients.now)) (monomials_of v d) p.old p.new }
 {
-    let mut b = 0;
-    while b <= d / v {
+    for b in 0..=d / v {
         p[(d - v * b) * h + b] = coefficients[j + b];
-        b += 1;
     }
 }
 
@@ -41,11 +38,9 @@ fn load(coefficients: &[u8], degree: usize, v: usize) -> [u8; PLACES]
     let mut p = [0u8; PLACES];
     let h = degree / v + 1;
     let mut j = 0;
-    let mut d = 0;
-    while d <= degree {
+    for d in 0..=degree {
         load_degree(&mut p, coefficients, j, d, v, h);
         j += d / v + 1;
-        d += 1;
     }
     p
 }
@@ -53,7 +48,6 @@ fn load(coefficients: &[u8], degree: usize, v: usize) -> [u8; PLACES]
 // Every way to go on from the prefix of k - left symbols in `row`: writes the rows from `at` on, and answers the place after them.
 fn search(
     alphabet: Alphabet,
-    table: &[u8],
     p: [u8; PLACES],
     degree: usize,
     h: usize,
@@ -63,7 +57,6 @@ fn search(
     out: &mut [u8],
     at: usize,
 ) -> usize
-    requires tabled { Tabled (code_on alphabet) table.now }
     requires symbols { Symbols (code_on alphabet) p }
     requires h_nonzero { (0 < h) × ((degree + 1) * h ≤ places) × (left ≤ k) × (k ≤ (code_on alphabet).positions) }
     requires degree_within { DegreeWithin (code_on alphabet) (left - 1) degree h p × (at + length (rows_after (take (k - left) row) (search (code_on alphabet) left (polynomial (code_on alphabet) h (degree + 1) p))) ≤ length out.old) }
@@ -78,32 +71,18 @@ fn search(
         return at;
     }
     let mut end = at;
-    let mut g = 0u8;
-    let greatest = alphabet.greatest_symbol();
-    while g <= greatest {
-        if substitution::first_value(alphabet, table, &p, h, g) == 0 {
+    for g in 0..=alphabet.greatest_symbol() {
+        if substitution::first_value(alphabet, &p, h, g) == 0 {
             let mut next = row;
             next[k - left] = g;
-            let rest = substitution::handed(alphabet, table, p, h, degree + 1, g);
-            end = search(
-                alphabet,
-                table,
-                rest,
-                degree,
-                h,
-                next,
-                k,
-                left - 1,
-                out,
-                end,
-            );
+            let rest = substitution::handed(alphabet, p, h, degree + 1, g);
+            end = search(alphabet, rest, degree, h, next, k, left - 1, out, end);
         }
-        g += 1;
     }
     end
 }
 
-// The rows of all y-roots, to the front of out; answers how many there are. Each alphabet lays its own table.
+// The rows of all y-roots, to the front of out; answers how many there are.
 pub fn roots_into(
     alphabet: Alphabet,
     degree: usize,
@@ -122,10 +101,5 @@ pub fn roots_into(
     let loaded = load(coefficients, degree, k - 1);
     let p = substitution::freed(&loaded, h, degree + 1);
     let row = [0u8; ROW];
-    if let Alphabet::ThirtyTwo = alphabet {
-        let table = tables::products_of_thirty_two();
-        return search(Alphabet::ThirtyTwo, &table, p, degree, h, row, k, k, out, 0) / k;
-    }
-    let table = tables::products_of_sixteen();
-    search(Alphabet::Sixteen, &table, p, degree, h, row, k, k, out, 0) / k
+    search(alphabet, p, degree, h, row, k, k, out, 0) / k
 }

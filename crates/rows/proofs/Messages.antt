@@ -1,20 +1,23 @@
--- What the tests on messages say, and two messages of one length compared at the first place where they differ.
+-- What the tests on messages say, and that the library's comparisons of two slices are these tests.
 -- Assumes nothing.
 use mathlib.Core.Bool.{Bool, true, false, cond, false≢true}
 use mathlib.Core.List.{List, [], ◌∷◌}
 use mathlib.Core.Logic.{◌⊎◌, inl, inr, ⊎_elim}
 use mathlib.Core.Path.{◌≡◌, refl, sym, ◌∙◌, ap, ap₂, subst}
-use Prim.Native.Nat.{ℕ, zero, suc, ◌+◌, ◌<◌}
-use native.Mathlib.Decide.{dec_lt}
-use native.Mathlib.Nat.{suc_inj, suc-ne-zero, le_of_suc-le-suc, not-suc-le-zero}
+use Prim.Native.Nat.{ℕ, ◌<◌}
+use native.Mathlib.Nat.{suc_inj, suc-ne-zero}
 use native.Mathlib.Omega.{arith}
-use borrow.Author.Tests.{ltb-true, eqb-true, eqb-false, lt-ltb, eq-eqb, ne_eqb}
+use borrow.Author.Tests.{ltb-true, eqb-true, lt-ltb, eq-eqb, ne_eqb}
 use lib.Dec.{eqb, ltb}
-use lib.ListN.{length, get_or}
-use lib.Seq.{ext_get_or}
-use Rattle.definitions.proofs.Messages.{Before, before_irreflexive}
+use lib.ListN.{length}
+use Rattle.std.proofs.Common.{Some, ◌&&◌}
+use Rattle.std.proofs.lemmas.Bool.Decides.{nat_tests}
+use Rattle.std.proofs.lemmas.Cmp.{same_from_slice_cmp_tested}
+use Rattle.std.specs.Cmp.Lexicographic.{slice_partial_cmp}
+use Rattle.std.specs.Ordering.{nat_cmp, is_lt, is_some_and}
+use lib.Pointwise.{pointwise}
+use Rattle.definitions.proofs.Messages.{Before}
 use Rattle.definitions.proofs.Tools.{split, both}
-use Rattle.rows.specs.Differ.{Differ}
 use Rattle.rows.specs.Rows.{comes_before, same}
 
 -- two numbers decide where they differ, and what comes after them where they are equal
@@ -64,35 +67,31 @@ same_means [] (y ∷ g) e = absurd (false≢true e)
 same_means (x ∷ f) [] e = absurd (false≢true e)
 same_means (x ∷ f) (y ∷ g) e = let b = both (eqb x y) (same f g) e in ap₂ ◌∷◌ (eqb-true x y b.0) (same_means f g b.1)
 
--- they agree at one place more
-pub agree_more : (f g : List ℕ) (i : ℕ) → ((j : ℕ) → j < i → get_or f j 0 ≡ get_or g j 0) → get_or f i 0 ≡ get_or g i 0 → (j : ℕ) → j < i + 1 → get_or f j 0 ≡ get_or g j 0
-agree_more f g i h e j l = elim (dec_lt j i) [ yes k ↦ h j k | no n ↦ (let at : i ≡ j = omega arith in subst (λ (x : ℕ). get_or f x 0 ≡ get_or g x 0) at e) ]
+-- the library's `==` of two slices tells whether they are one message
+pub same_tested : (f g : List ℕ) → pointwise eqb f g ≡ same f g
+unfolding same
+same_tested [] [] = refl
+same_tested [] (y ∷ g) = refl
+same_tested (x ∷ f) [] = refl
+same_tested (x ∷ f) (y ∷ g) = ap (λ (b : Bool). eqb x y && b) (same_tested f g)
 
--- what is told of the tails
-later : (a b : ℕ) (f g : List ℕ) (d : ℕ) → Differ (a ∷ f) (b ∷ g) (suc d) → Differ f g d
-later a b f g d p = record { within = le_of_suc-le-suc p.within; agree = λ j h. p.agree (suc j) (omega arith); differ = λ h. p.differ (omega arith) }
+-- the library's `<` of two slices, of which a shorter one comes first
+abbrev less : List ℕ → List ℕ → Bool
+less [] [] = false
+less [] (y ∷ g) = true
+less (x ∷ f) [] = false
+less (x ∷ f) (y ∷ g) = cond (eqb x y) (less f g) (ltb x y)
 
--- where they differ nowhere they are one message
-equal : (f g : List ℕ) (d : ℕ) → length f ≡ length g → Differ f g d → d ≡ length f → f ≡ g
-equal f g d e p h = ext_get_or 0 f g e (λ j l. p.agree j (omega arith))
+less_tested : (f g : List ℕ) (r : Bool) → r ≡ is_some_and is_lt (slice_partial_cmp (λ x y. Some (nat_cmp x y)) f g) → r ≡ less f g
+less_tested = same_from_slice_cmp_tested nat_cmp is_lt less refl (λ _ _. refl) (λ _ _. refl) (λ x y xs ys o h. grind (arith, nat_tests))
 
-pub same_by_difference : (f g : List ℕ) (d : ℕ) → length f ≡ length g → Differ f g d → eqb d (length f) ≡ same f g
-same_by_difference f g d e p =
-    split (eqb d (length f)) (λ t. t ∙ sym (ap (same f) (sym (equal f g d e p (eqb-true d (length f) t))) ∙ same_self f))
-    (λ t.
-    let other = eqb-false d (length f) t in
-    let low = p.within in
-    t ∙ sym (split (same f g) (λ y. absurd (p.differ (omega arith) (ap (λ (l : List ℕ). get_or l d 0) (same_means f g y)))) (λ n. n)))
-
--- and neither comes before the other
-pub before_same : (f g : List ℕ) (d : ℕ) → length f ≡ length g → Differ f g d → d ≡ length f → false ≡ comes_before f g
-before_same f g d e p h =
-    sym (split (comes_before f g) (λ y. absurd (before_irreflexive f (subst (Before f) (sym (equal f g d e p h)) (before_means f g y)))) (λ n. n))
-
--- where they differ the smaller symbol comes before the other
-pub before_by_difference : (f g : List ℕ) (d : ℕ) → length f ≡ length g → Differ f g d → d < length f → ltb (get_or f d 0) (get_or g d 0) ≡ comes_before f g
+less_before : (f g : List ℕ) → length f ≡ length g → less f g ≡ comes_before f g
 unfolding comes_before
-before_by_difference [] g d e p h = absurd (not-suc-le-zero h)
-before_by_difference (a ∷ f) [] d e p h = absurd (suc-ne-zero (length f) e)
-before_by_difference (a ∷ f) (b ∷ g) zero e p h = rw (ne_eqb a b (p.differ h))
-before_by_difference (a ∷ f) (b ∷ g) (suc d) e p h = rw (eq-eqb a b (p.agree 0 (omega arith))) (before_by_difference f g d (suc_inj e) (later a b f g d p) (le_of_suc-le-suc h))
+less_before [] [] e = refl
+less_before [] (y ∷ g) e = absurd (suc-ne-zero (length g) (sym e))
+less_before (x ∷ f) [] e = refl
+less_before (x ∷ f) (y ∷ g) e = ap (λ (b : Bool). cond (eqb x y) b (ltb x y)) (less_before f g (suc_inj e))
+
+-- at one length it tells whether the first message comes before the second
+pub before_compared : (f g : List ℕ) (r : Bool) → length f ≡ length g → r ≡ is_some_and is_lt (slice_partial_cmp (λ x y. Some (nat_cmp x y)) f g) → r ≡ comes_before f g
+before_compared f g r e h = less_tested f g r h ∙ less_before f g e

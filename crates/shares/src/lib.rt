@@ -13,10 +13,11 @@ use alphabet::Alphabet;
 fn times(reliability: u16, multiplicity: u8) -> usize
     ensures { result ≡ reliability * (multiplicity + 1) }
 {
-    numbers::long(reliability) * (numbers::wide(multiplicity) + 1)
+    usize::from(reliability) * (usize::from(multiplicity) + 1)
 }
 
 // The place whose quotient is larger, the earlier one where they tie.
+#[tactic(auto, using(plans::proofs::Leads::later_wins, plans::proofs::Leads::earlier_wins))]
 pub fn better(reliabilities: &[u16], multiplicities: &[u8], earlier: usize, later: usize) -> usize
     requires { (earlier < length reliabilities.now) × (later < length reliabilities.now) × (length multiplicities.now ≡ length reliabilities.now) }
     ensures { result ≡ cond (beats reliabilities.now multiplicities.now later earlier) later earlier }
@@ -27,6 +28,7 @@ pub fn better(reliabilities: &[u16], multiplicities: &[u8], earlier: usize, late
 }
 
 // The best place of a position's symbols.
+#[tactic(auto, using(plans::proofs::Leads::leads_itself))]
 pub fn best_of_column(
     alphabet: Alphabet,
     reliabilities: &[u16],
@@ -39,10 +41,8 @@ pub fn best_of_column(
     let symbols = alphabet.symbols();
     let first = symbols * i;
     let mut leading = first;
-    let mut b = 1;
-    while b < symbols {
-        leading = better(reliabilities, multiplicities, leading, first + b);
-        b += 1;
+    for place in first + 1..first + symbols {
+        leading = better(reliabilities, multiplicities, leading, place);
     }
     leading
 }

@@ -21,10 +21,8 @@ fn lay_leaders(
     requires { Columns (code_on alphabet) n reliabilities.now multiplicities.now × (length leaders.old ≡ (code_on alphabet).positions) }
     ensures { Led (code_on alphabet) reliabilities.now multiplicities.now n leaders.new }
 {
-    let mut i = 0;
-    while i < n {
+    for i in 0..n {
         leaders[i] = shares::best_of_column(alphabet, reliabilities, multiplicities, i);
-        i += 1;
     }
 }
 
@@ -40,10 +38,8 @@ fn best(
     ensures { (result ≡ best reliabilities.now multiplicities.now) × (result < length reliabilities.now) }
 {
     let mut leading = leaders[0];
-    let mut i = 1;
-    while i < n {
-        leading = shares::better(reliabilities, multiplicities, leading, leaders[i]);
-        i += 1;
+    for &leader in &leaders[1..n] {
+        leading = shares::better(reliabilities, multiplicities, leading, leader);
     }
     leading
 }
@@ -62,10 +58,7 @@ fn step(
     ensures led { Led (code_on alphabet) reliabilities.now multiplicities.new n leaders.new }
 {
     let b = best(alphabet, n, reliabilities, multiplicities, leaders);
-    if reliabilities[b] == 0 {
-        return true;
-    }
-    if multiplicities[b] == GREATEST_ENTRY {
+    if reliabilities[b] == 0 || multiplicities[b] == GREATEST_ENTRY {
         return true;
     }
     multiplicities[b] += 1;
@@ -88,14 +81,12 @@ fn plan_with(
     ensures memory { multiplicities.new ≡ plan reliabilities.now steps }
 {
     lay_leaders(alphabet, n, reliabilities, multiplicities, leaders);
-    let mut s = 0;
-    while s < steps {
+    for s in 0..steps {
         if step(alphabet, n, reliabilities, multiplicities, leaders) {
             return s;
         }
-        s += 1;
     }
-    s
+    steps
 }
 
 // From zeros; it answers the steps done.

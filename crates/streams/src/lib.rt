@@ -2,22 +2,15 @@
 
 #![tactic(auto)]
 
-ghost use Rattle.std.specs.Prelude.{IsTrue, ◌≡◌, ◌↔◌};
+ghost use Rattle.std.specs.Prelude.{IsTrue, OnOk, ◌≡◌, ◌↔◌};
 ghost use Rattle.std.specs.Io.KnownBytes.{Appends};
 ghost use Rattle.std.specs.IoError.{error_kind};
 ghost use Rattle.streams.specs.Moved.{Within, ReadsSome, ReadsFull, WritesSome};
 
-use std::io::{Error, ErrorKind, Read, Write};
+use std::io::{Error, ErrorKind, Read, Result, Write};
 
 // So often a call is tried: more often than any machine can, but every function ends.
-const TRIES: u64 = 18446744073709551615;
-
-// So many bytes were moved, or a call failed.
-#[derive(Clone, Copy)]
-pub enum Moved {
-    Bytes(usize),
-    Failed,
-}
+const TRIES: u64 = u64::MAX;
 
 fn interrupted(error: &Error) -> bool
     ensures { IsTrue result ↔ (error_kind error.now ≡ ErrorKind.Interrupted) }
@@ -25,71 +18,61 @@ fn interrupted(error: &Error) -> bool
     error.kind() == ErrorKind::Interrupted
 }
 
-fn read_some<R: Read>(reader: &mut R, buf: &mut [u8]) -> Moved
+fn read_some<R: Read>(reader: &mut R, buf: &mut [u8]) -> Result<usize>
     ensures within { Within result buf.new }
     ensures bytes { ReadsSome (R.remaining reader.old) (R.remaining reader.new) result buf.new }
 {
     for _ in 0..TRIES {
         match reader.read(buf) {
-            Ok(count) => return Moved::Bytes(count),
-            Err(error) => {
-                if !interrupted(&error) {
-                    return Moved::Failed;
-                }
-            }
+            Err(error) if interrupted(&error) => {}
+            answer => return answer,
         }
     }
-    Moved::Failed
+    Err(ErrorKind::Interrupted.into())
 }
 
-fn write_some<W: Write>(writer: &mut W, buf: &[u8]) -> Moved
+fn write_some<W: Write>(writer: &mut W, buf: &[u8]) -> Result<usize>
     ensures within { Within result buf.now }
     ensures bytes { WritesSome (W.contents writer.old) (W.contents writer.new) result buf.now }
 {
     for _ in 0..TRIES {
         match writer.write(buf) {
-            Ok(count) => return Moved::Bytes(count),
-            Err(error) => {
-                if !interrupted(&error) {
-                    return Moved::Failed;
-                }
-            }
+            Err(error) if interrupted(&error) => {}
+            answer => return answer,
         }
     }
-    Moved::Failed
+    Err(ErrorKind::Interrupted.into())
 }
 
-// Reads until buf is full or the input ends. Nothing more is asked for once buf is full.
-pub fn read_full<R: Read>(reader: &mut R, buf: &mut [u8]) -> Moved
+// Reads until buf is full or the input ends, and answers how many bytes. Nothing more is asked for once buf is full.
+pub fn read_full<R: Read>(reader: &mut R, buf: &mut [u8]) -> Result<usize>
     ensures within { Within result buf.new }
     ensures bytes { ReadsFull (R.remaining reader.old) (R.remaining reader.new) result buf.new }
 {
     let mut done = 0;
+    // A `while`, since a call tells how many bytes it moved.
     while done < buf.len() {
-        let Moved::Bytes(more) = read_some(reader, &mut buf[done..]) else {
-            return Moved::Failed;
-        };
+        let more = read_some(reader, &mut buf[done..])?;
         if more == 0 {
             break;
         }
         done += more;
     }
-    Moved::Bytes(done)
+    Ok(done)
 }
 
-// Whether all of buf was written.
-pub fn write_all<W: Write>(writer: &mut W, buf: &[u8]) -> bool
-    ensures { IsTrue result → Appends (W.contents writer.old) (W.contents writer.new) buf.now }
+// Writes all of buf. A call that takes nothing counts as failed.
+pub fn write_all<W: Write>(writer: &mut W, buf: &[u8]) -> Result<()>
+    ensures { OnOk result (Appends (W.contents writer.old) (W.contents writer.new) buf.now) }
 {
     let mut done = 0;
+    // A `while`, since a call tells how many bytes it moved.
     while done < buf.len() {
-        let Moved::Bytes(taken) = write_some(writer, &buf[done..]) else {
-            return false;
-        };
+        let taken = write_some(writer, &buf[done..])?;
         if taken == 0 {
-            return false;
+            return Err(ErrorKind::WriteZero.into());
         }
         done += taken;
     }
-    true
+    Ok(())
 }

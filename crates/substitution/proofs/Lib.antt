@@ -1,3 +1,3 @@
-pub mod Columns
+pub mod Constants
 pub mod Shifting
 pub mod Substitution

@@ -6,9 +6,7 @@ use mathlib.Core.Logic.{◌≢◌}
 use mathlib.Core.Path.{◌≡◌, refl, sym, ◌∙◌, ap, ap₂, subst}
 use Prim.Native.Nat.{ℕ, suc, ◌+◌, ◌*◌, ◌^◌, ◌≤◌, ◌<◌}
 use native.Mathlib.Decide.{dec_lt, ℕ_discrete}
-use native.Mathlib.Nat.{not-suc-le-zero}
 use native.Mathlib.Omega.{arith}
-use borrow.Author.Tests.{eq-eqb, ne_eqb}
 use lib.Bits.{bit_and}
 use lib.Dec.{eqb}
 use lib.ListN.{length, get_or, drop, set}
@@ -18,7 +16,7 @@ use Rattle.algebra.specs.FieldOf.{FieldOf}
 use Rattle.definitions.specs.Code.{Symbols}
 use Rattle.definitions.specs.Field.{Code, numbers}
 use Rattle.root_tree.proofs.Arrays.{place_once, place_within, take_short, columns_within, columns_above, columns_at}
-use Rattle.root_tree.proofs.Folding.{Left, left_all, left_more, left_none}
+use Rattle.root_tree.proofs.Folding.{Left, left_more, left_none}
 use Rattle.root_tree.proofs.Roots.{columns_symbols}
 use Rattle.root_tree.specs.Columns.{coefficient}
 use Rattle.root_tree.specs.Fold.{folded}
@@ -27,10 +25,6 @@ use Rattle.substitution.specs.Array.{polynomial, Added, Folded, Shifted}
 -- ---- a multiple of one entry added to another, column by column
 
 module _ (C : Code) (h w to from c : ℕ) (l : List ℕ) where
-  -- in no column yet
-  pub added_none : Added C h w 0 to from c l l
-  added_none = record { hit = λ a p. absurd (not-suc-le-zero p); miss = λ a t p q n. refl }
-
   -- in one column more
   pub added_more : (a y : ℕ) (r : List ℕ) → Added C h w a to from c l r → a < w → to < h → from < h → to ≢ from → w * h ≤ length r
       → y ≡ C.plus (get_or r (a * h + to) 0) (C.times c (get_or r (a * h + from) 0)) → Added C h w (a + 1) to from c l (set r (a * h + to) y)
@@ -53,55 +47,10 @@ module _ (C : Code) (h w to from c : ℕ) (l : List ℕ) where
 -- ---- a fold, entry by entry
 
 module _ (C : Code) (h w bit c : ℕ) (l : List ℕ) where
-  -- column a of an array
-  abbrev column : ℕ → ℕ → ℕ
-  column a t = get_or l (a * h + t) 0
-
   -- the entries before n are folded
   pub record FoldedTo (n : ℕ) (r : List ℕ) : Type 0 where
     pub done : (a t : ℕ) → a < w → t < n → t < h → get_or r (a * h + t) 0 ≡ folded (numbers C) bit c (λ j. get_or l (a * h + j) 0) t
     pub rest : (a t : ℕ) → a < w → n ≤ t → t < h → get_or r (a * h + t) 0 ≡ get_or l (a * h + t) 0
-
-  -- none yet
-  pub folded_none : FoldedTo 0 l
-  folded_none = record { done = λ a t p q. absurd (not-suc-le-zero q); rest = λ a t p q m. refl }
-
-  -- where an entry has not the bit
-  folded_without : (a t : ℕ) → bit_and t bit ≡ 0 → C.plus (column a t) (C.times c (column a (t + bit))) ≡ folded (numbers C) bit c (column a) t
-  folded_without a t e = sym (ap (λ (b : Bool). cond b (C.plus (column a t) (C.times c (column a (t + bit)))) (column a t)) (eq-eqb (bit_and t bit) 0 e))
-
-  -- where it has
-  folded_with : (a t : ℕ) → bit_and t bit ≢ 0 → column a t ≡ folded (numbers C) bit c (column a) t
-  folded_with a t n = sym (ap (λ (b : Bool). cond b (C.plus (column a t) (C.times c (column a (t + bit)))) (column a t)) (ne_eqb (bit_and t bit) 0 n))
-
-  module _ (n : ℕ) (r : List ℕ) (d : FoldedTo n r) (inside : n + bit < h) where
-    -- one entry more, which has not the bit
-    pub folded_more : (q : List ℕ) → bit_and n bit ≡ 0 → 0 < bit → Added C h w w n (n + bit) c r q → FoldedTo (n + 1) q
-    folded_more q e pos k =
-        record {
-          done = λ a t ha lt ht. elim (ℕ_discrete t n) [
-            | yes is ↦
-                subst (λ (j : ℕ). get_or q (a * h + j) 0 ≡ folded (numbers C) bit c (column a) j) (sym is)
-                (k.hit a ha
-                ∙ ap₂ (λ (x y : ℕ). C.plus x (C.times c y)) (d.rest a n ha (omega arith) (omega arith)) (d.rest a (n + bit) ha (omega arith) inside)
-                ∙ folded_without a n e)
-            | no m ↦ k.miss a t ha ht (λ _ is. m is) ∙ d.done a t ha (omega arith) ht
-          ];
-          rest = λ a t ha lt ht. k.miss a t ha ht (λ _ is. let z : ⊥ = omega arith in z) ∙ d.rest a t ha (omega arith) ht;
-        }
-
-    -- and which has it
-    pub folded_kept : bit_and n bit ≢ 0 → FoldedTo (n + 1) r
-    folded_kept m =
-        record {
-          done = λ a t ha lt ht. elim (ℕ_discrete t n) [
-            | yes is ↦
-                subst (λ (j : ℕ). get_or r (a * h + j) 0 ≡ folded (numbers C) bit c (column a) j) (sym is)
-                (d.rest a n ha (omega arith) (omega arith) ∙ folded_with a n m)
-            | no no_more ↦ d.done a t ha (omega arith) ht
-          ];
-          rest = λ a t ha lt ht. d.rest a t ha (omega arith) ht;
-        }
 
   -- where nothing is added, an entry stays
   stays : (F : FieldOf C) → c < C.symbols → (x y : ℕ) → x < C.symbols → y ≡ 0 → (b : Bool) → cond b (C.plus x (C.times c y)) x ≡ x
@@ -132,10 +81,6 @@ module _ (C : Code) (F : FieldOf C) (h w g : ℕ) (l : List ℕ) where
   abbrev pub LeftOf : ℕ → ℕ → List ℕ → Type 0
   LeftOf bit c r =
       (a : ℕ) → a < w → Left C F (suc h) g (coefficient (numbers C) (polynomial C h w l) a) bit c (coefficient (numbers C) (polynomial C h w r) a)
-
-  -- all
-  pub left_of_all : LeftOf 1 g l
-  left_of_all a ha = left_all C F (suc h) g (coefficient (numbers C) (polynomial C h w l) a)
 
   -- one fold more
   pub left_of_more : (k bit c : ℕ) (r q : List ℕ) → bit ≡ 2 ^ k → c < C.symbols → Symbols C r → Folded C h w bit c r q → LeftOf bit c r → LeftOf (bit * 2) (C.times c c) q

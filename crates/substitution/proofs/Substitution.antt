@@ -2,7 +2,7 @@
 -- Assumes nothing.
 use mathlib.Core.Bool.{true, false, not}
 use mathlib.Core.List.{List, [], ◌++◌}
-use mathlib.Core.Logic.{◌⊎◌, inl, inr}
+use mathlib.Core.Logic.{◌⊎◌, ◌≢◌, inl, inr}
 use mathlib.Core.Path.{◌≡◌, refl, sym, ◌∙◌, ap, subst}
 use Prim.Native.Nat.{ℕ, zero, suc, ◌+◌, ◌-◌, ◌*◌, ◌/◌, ◌≤◌, ◌<◌}
 use native.Mathlib.Decide.{dec_lt, ℕ_discrete}
@@ -14,7 +14,6 @@ use lib.ListN.{length, get_or, take, drop, set, length-drop, get_or-append}
 use lib.Seq.{get_or-take, get_or-drop, get_or-set_same, get_or-set_other, get_or-append-add, length-take-le}
 use Rattle.algebra.proofs.Elements.{zero_symbol}
 use Rattle.algebra.specs.FieldOf.{FieldOf}
-use Rattle.definitions.proofs.Loops.{row_within}
 use Rattle.definitions.proofs.Tools.{smallest_le, smallest_fails, smallest_passes, smallest_is}
 use Rattle.definitions.proofs.Symbols.{append_symbols, replicate_symbols, drop_symbols, take_symbols}
 use Rattle.definitions.proofs.Zeros.{is_zero_of_zeros, is_zero_false}
@@ -28,15 +27,13 @@ use Rattle.root_tree.proofs.Levels.{strip_at, substitute_cell}
 use Rattle.root_tree.proofs.Roots.{zeros_at, columns_symbols}
 use Rattle.root_tree.specs.Columns.{columns}
 use Rattle.root_tree.specs.Tree.{zeros}
+use Rattle.std.specs.List.{AllWithin, HoldsAt}
+use Rattle.std.specs.Prelude.{Option, Some, None, MatchOption, unwrap_or}
 use Rattle.substitution.specs.Array.{places, polynomial, Shifted, Laid, Spread, Substituted, Freed, is_other}
 
 -- ---- a column laid
 
 module _ (h w a : ℕ) (col l : List ℕ) where
-  -- nothing laid
-  pub laid_none : Laid h w a 0 col l l
-  laid_none = record { hit = λ t p. absurd (not-suc-le-zero p); miss = λ s t p q n. refl }
-
   -- one entry more
   pub laid_more : (b : ℕ) (r : List ℕ) → Laid h w a b col l r → b < h → a + b < w → w * h ≤ length r
       → Laid h w a (b + 1) col l (set r ((a + b) * h + b) (get_or col b 0))
@@ -56,14 +53,6 @@ module _ (h w a : ℕ) (col l : List ℕ) where
             get_or-set_other r ((a + b) * h + b) (s * h + t) (get_or col b 0) 0
             (λ e. let g = place_once h s t (a + b) b q hb e in let g0 = g.0 in let g1 = g.1 in n (omega arith) (omega arith))
             ∙ d.miss s t p q (λ x e. n (omega arith) e);
-      }
-
-  -- what passes the last column is left out
-  pub laid_end : (b : ℕ) (r : List ℕ) → Laid h w a b col l r → w ≤ a + b → Laid h w a h col l r
-  laid_end b r d o =
-      record {
-        hit = λ t p q. d.hit t (omega arith) q;
-        miss = λ s t p q n. d.miss s t p q (λ x e. n q e);
       }
 
 -- ---- x y for y, column by column
@@ -102,22 +91,22 @@ spread_shifted C F h w c p x q hc sp shifted d s t hs ht =
 
 -- ---- the first coefficient other than zero
 
-module _ (p : List ℕ) (n : ℕ) where
-  -- one is found
-  pub other_found : (i : ℕ) → i < n → ((j : ℕ) → j < i → is_other p j ≡ false) → (get_or p i 0 ≡ 0 → ⊥) → i ≡ smallest (is_other p) n
-  other_found i h f k = sym (smallest_is (is_other p) n i (omega arith) f (λ _. ap not (ne_eqb (get_or p i 0) 0 k)))
-
-  -- a zero is passed
-  pub zero_passed : (i : ℕ) → ((j : ℕ) → j < i → is_other p j ≡ false) → get_or p i 0 ≡ 0 → (j : ℕ) → j < i + 1 → is_other p j ≡ false
-  zero_passed i f z j h =
-      elim (dec_lt j i) [
-        | yes l ↦ f j l
-        | no m ↦ let e : j ≡ i = omega arith in subst (λ (x : ℕ). is_other p x ≡ false) (sym e) (ap not (eq-eqb (get_or p i 0) 0 z))
-      ]
-
-  -- there is none
-  pub none_other : (i : ℕ) → i ≤ n → n ≤ i → ((j : ℕ) → j < i → is_other p j ≡ false) → i ≡ smallest (is_other p) n
-  none_other i h l f = sym (smallest_is (is_other p) n i h f (λ k. let z : ⊥ = omega arith in absurd z))
+-- where one is found it is the first, and where none is found there is none
+pub first_found : (p : List ℕ) (n : ℕ) (r : Option ℕ) → n ≤ length p
+    → MatchOption r (AllWithin (λ (x : ℕ). x ≡ 0) (take n p) 0 (length (take n p)))
+    (λ i. (i < length (take n p)) × HoldsAt (λ (x : ℕ). x ≢ 0) (take n p) i × AllWithin (λ (x : ℕ). x ≡ 0) (take n p) 0 i)
+    → unwrap_or r n ≡ smallest (is_other p) n
+first_found p n None room none =
+    let long = length-take-le n p room in
+    sym (smallest_is (is_other p) n n (omega arith)
+    (λ j h. ap not (eq-eqb (get_or p j 0) 0 (sym (get_or-take n p j 0 h) ∙ none j 0 (omega arith) (omega arith))))
+    (λ k. let z : ⊥ = omega arith in absurd z))
+first_found p n (Some i) room (h, other, before) =
+    let long = length-take-le n p room in
+    let m : i < n = omega arith in
+    sym (smallest_is (is_other p) n i (omega arith)
+    (λ j l. ap not (eq-eqb (get_or p j 0) 0 (sym (get_or-take n p j 0 (omega arith)) ∙ before j 0 (omega arith) l)))
+    (λ _. ap not (ne_eqb (get_or p i 0) 0 (λ e. other 0 (get_or-take n p i 0 m ∙ e)))))
 
 -- ---- stripping
 
@@ -197,9 +186,13 @@ module _ (C : Code) (h w : ℕ) (pos : 0 < h) (p : List ℕ) (full : length p �
             ]
       ]
 
-  -- the entries from the first column on that is not zero, moved to the front
-  pub freed_moved : (r : List ℕ) → r ≡ take (w * h - u * h) (drop (u * h) p) ++ drop (w * h - u * h) (zeros places) → Freed C h w p r
-  freed_moved r e s t =
+  -- so many entries stand from that column on
+  moved_length : length (take (w * h - u * h) (drop (u * h) p)) ≡ w * h - u * h
+  moved_length = let low = u_low in let most = smallest_le (is_other p) (w * h) in length-take-le (w * h - u * h) (drop (u * h) p) (rw (length-drop (u * h) p) (omega arith))
+
+  -- the entries from the first column on that is not zero, moved to the front, are what is freed
+  moved_freed : (r : List ℕ) → r ≡ take (w * h - u * h) (drop (u * h) p) ++ drop (w * h - u * h) (zeros places) → Freed C h w p r
+  moved_freed r e s t =
       elim (dec_lt s w) [
         | yes hs ↦ elim (dec_lt t h) [
           | yes ht ↦
@@ -210,7 +203,7 @@ module _ (C : Code) (h w : ℕ) (pos : 0 < h) (p : List ℕ) (full : length p �
                 | yes k ↦
                     let a = place_within h (u + s) t w k ht in
                     let b : (u + s) * h ≡ u * h + s * h = add-mul u s h in
-                    let f : s * h + t < length (take (w * h - u * h) (drop (u * h) p)) = rw front (omega arith) in
+                    let f : s * h + t < length (take (w * h - u * h) (drop (u * h) p)) = rw moved_length (omega arith) in
                     get_or-append (take (w * h - u * h) (drop (u * h) p)) (drop (w * h - u * h) (zeros places)) 0 (s * h + t) f
                     ∙ get_or-take (w * h - u * h) (drop (u * h) p) (s * h + t) 0 (omega arith) ∙ get_or-drop (u * h) p (s * h + t) 0
                     ∙ ap (λ (n : ℕ). get_or p n 0) (omega arith) ∙ sym (columns_within (numbers C) h w p (u + s) t k ht)
@@ -218,7 +211,7 @@ module _ (C : Code) (h w : ℕ) (pos : 0 < h) (p : List ℕ) (full : length p �
                     let a : w * h ≤ (u + s) * h = mul-le-mul_right h (omega arith) in
                     let b : (u + s) * h ≡ u * h + s * h = add-mul u s h in
                     let m : ℕ = s * h + t - (w * h - u * h) in
-                    let g : s * h + t ≡ length (take (w * h - u * h) (drop (u * h) p)) + m = rw front (omega arith) in
+                    let g : s * h + t ≡ length (take (w * h - u * h) (drop (u * h) p)) + m = rw moved_length (omega arith) in
                     ap (λ (n : ℕ). get_or (take (w * h - u * h) (drop (u * h) p) ++ drop (w * h - u * h) (zeros places)) n 0) g
                     ∙ get_or-append-add (take (w * h - u * h) (drop (u * h) p)) (drop (w * h - u * h) (zeros places)) m 0
                     ∙ get_or-drop (w * h - u * h) (zeros places) m 0 ∙ zeros_at places (w * h - u * h + m)
@@ -233,10 +226,13 @@ module _ (C : Code) (h w : ℕ) (pos : 0 < h) (p : List ℕ) (full : length p �
             columns_beyond (numbers C) h w r s t (omega arith)
             ∙ sym (strip_at C (polynomial C h w p) u before_zero first_other_column s t ∙ columns_beyond (numbers C) h w p (u + s) t (omega arith))
       ]
-    where
-      -- what is moved
-      front : length (take (w * h - u * h) (drop (u * h) p)) ≡ w * h - u * h
-      front = length-take-le (w * h - u * h) (drop (u * h) p) (rw (length-drop (u * h) p) (omega arith))
+
+  -- and so they are where the first entry other than zero was found, or none
+  pub freed_moved : (first : ℕ) (r : List ℕ) → first ≡ i
+      → (let moved = take (w * h - first / h * h) (drop (first / h * h) p) in r ≡ moved ++ drop (length moved) (zeros places)) → Freed C h w p r
+  freed_moved first r e m =
+      let same = subst (λ (j : ℕ). let moved = take (w * h - j / h * h) (drop (j / h * h) p) in r ≡ moved ++ drop (length moved) (zeros places)) e m in
+      moved_freed r (same ∙ ap (λ (n : ℕ). take (w * h - u * h) (drop (u * h) p) ++ drop n (zeros places)) moved_length)
 
 module _ (C : Code) (F : FieldOf C) where
   -- zeros are symbols
@@ -245,11 +241,8 @@ module _ (C : Code) (F : FieldOf C) where
   zeros_symbols n = replicate_symbols C n 0 (zero_symbol C F)
 
   -- entries copied to the front of zeros are symbols
-  pub copied_symbols : (p : List ℕ) (n from size : ℕ) → Symbols C p → Symbols C (take n (drop from p) ++ drop n (zeros size))
-  copied_symbols p n from size s =
-      append_symbols C (take n (drop from p)) (drop n (zeros size)) (take_symbols C (zero_symbol C F) n (drop from p) (drop_symbols C from p s))
-      (drop_symbols C n (zeros size) (zeros_symbols size))
-
--- a column lies within the array
-pub column_within : (a h w : ℕ) → a < w → a * h + h ≤ w * h
-column_within a h w l = let r = row_within h a w (h * w) l (omega arith) in omega arith
+  pub copied_symbols : (p r : List ℕ) (n from k size : ℕ) → r ≡ take n (drop from p) ++ drop k (zeros size) → Symbols C p → Symbols C r
+  copied_symbols p r n from k size e s =
+      subst (Symbols C) (sym e)
+      (append_symbols C (take n (drop from p)) (drop k (zeros size)) (take_symbols C (zero_symbol C F) n (drop from p) (drop_symbols C from p s))
+      (drop_symbols C k (zeros size) (zeros_symbols size)))

@@ -1,7 +1,7 @@
 // The products and the inverses of all symbols of either alphabet: the product of a and b is at a times the number of symbols, plus b.
 use alphabet::MOST_SYMBOLS;
 
-pub const PRODUCTS_OF_SIXTEEN: [u8; 256] = [
+pub static PRODUCTS_OF_SIXTEEN: [u8; 256] = [
     0, 0, 0, 0, 0, 0, 0, 0, 0, 0, 0, 0, 0, 0, 0, 0, 0, 1, 2, 3, 4, 5, 6, 7, 8, 9, 10, 11, 12, 13,
     14, 15, 0, 2, 4, 6, 8, 10, 12, 14, 3, 1, 7, 5, 11, 9, 15, 13, 0, 3, 6, 5, 12, 15, 10, 9, 11, 8,
     13, 14, 7, 4, 1, 2, 0, 4, 8, 12, 3, 7, 11, 15, 6, 2, 14, 10, 5, 1, 13, 9, 0, 5, 10, 15, 7, 2,
@@ -14,7 +14,7 @@ pub const PRODUCTS_OF_SIXTEEN: [u8; 256] = [
     5, 10,
 ];
 
-pub const PRODUCTS_OF_THIRTY_TWO: [u8; 1024] = [
+pub static PRODUCTS_OF_THIRTY_TWO: [u8; 1024] = [
     0, 0, 0, 0, 0, 0, 0, 0, 0, 0, 0, 0, 0, 0, 0, 0, 0, 0, 0, 0, 0, 0, 0, 0, 0, 0, 0, 0, 0, 0, 0, 0,
     0, 1, 2, 3, 4, 5, 6, 7, 8, 9, 10, 11, 12, 13, 14, 15, 16, 17, 18, 19, 20, 21, 22, 23, 24, 25,
     26, 27, 28, 29, 30, 31, 0, 2, 4, 6, 8, 10, 12, 14, 16, 18, 20, 22, 24, 26, 28, 30, 5, 7, 1, 3,
@@ -58,12 +58,12 @@ pub const PRODUCTS_OF_THIRTY_TWO: [u8; 1024] = [
 ];
 
 // Zero has none; nothing is read behind the symbols.
-pub const INVERSES_OF_SIXTEEN: [u8; MOST_SYMBOLS] = [
+pub static INVERSES_OF_SIXTEEN: [u8; MOST_SYMBOLS] = [
     0, 1, 9, 14, 13, 11, 7, 6, 15, 2, 12, 5, 10, 4, 3, 8, 0, 0, 0, 0, 0, 0, 0, 0, 0, 0, 0, 0, 0, 0,
     0, 0,
 ];
 
-pub const INVERSES_OF_THIRTY_TWO: [u8; MOST_SYMBOLS] = [
+pub static INVERSES_OF_THIRTY_TWO: [u8; MOST_SYMBOLS] = [
     0, 1, 18, 28, 9, 23, 14, 12, 22, 4, 25, 16, 7, 15, 6, 13, 11, 24, 2, 29, 30, 26, 8, 5, 17, 10,
     21, 31, 3, 19, 20, 27,
 ];

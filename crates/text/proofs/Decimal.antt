@@ -8,9 +8,7 @@ use native.Mathlib.Omega.{arith}
 use native.Mathlib.Nat.{pow-suc}
 use borrow.Author.Tests.{lt-ltb, le-ltb}
 use Rattle.io.specs.Digits.{hex_digit_ascii, last_digits, IsDigitCount}
-use lib.ListN.{length, take}
-use Rattle.text.specs.Rooms.{greatest_digits}
-use Rattle.text.specs.Text.{decimal_within, decimal, Puts}
+use Rattle.text.specs.Text.{decimal_within, decimal}
 
 -- the clauses of the decimal text
 pub within_none : (x : ℕ) → decimal_within zero x ≡ []
@@ -36,16 +34,6 @@ power_more k = pow-suc 10 k
 above : (k : ℕ) → k < 10 ^ k
 above zero = omega arith
 above (suc k) = let ih = above k in let e = power_more k in omega arith
-
--- a number with more digits is not smaller
-fewer : (m k x : ℕ) → x < 10 ^ m → 10 ^ k ≤ x → k < m
-fewer zero k x l h = let a = above k in let z : ⊥ = omega arith in absurd z
-fewer (suc m) zero x l h = omega arith
-fewer (suc m) (suc k) x l h =
-    let em = power_more m in
-    let ek = power_more k in
-    let rest = fewer m k (x / 10) (omega arith) (omega arith) in
-    omega arith
 
 within : (k w x : ℕ) → x < 10 ^ suc k → (0 < k → 10 ^ k ≤ x) → k < w → last_digits 10 (suc k) x ≡ decimal_within w x
 within k zero x l f h = let z : ⊥ = omega arith in absurd z
@@ -76,21 +64,3 @@ decimal_is x (suc (suc k)) f =
     let least : 10 ^ suc k ≤ x = least_is x k f in
     let a = above (suc k) in
     within (suc k) (suc x) x f.1 (λ _. least) (omega arith)
-
--- no machine number has more than twenty digits
-pub twenty : (x k : ℕ) → IsDigitCount 10 1 x k → x < 18446744073709551616 → k ≤ greatest_digits
-twenty x zero f h = omega arith
-twenty x (suc zero) f h = omega arith
-twenty x (suc (suc k)) f h =
-    let least : 10 ^ suc k ≤ x = least_is x k f in
-    let few : suc k < greatest_digits = fewer greatest_digits (suc k) x (omega arith) least in
-    omega arith
-
--- the digits that were found, put in memory
-pub decimal_put : (out after text : List ℕ) (at x y k end : ℕ) → y ≡ x → y < 18446744073709551616 → IsDigitCount 10 1 y k → take k text ≡ last_digits 10 k y
-    → k ≡ length (take k text) → Puts out at (take k text) end after → Puts out at (decimal x) end after × (end ≤ at + greatest_digits)
-decimal_put out after text at x y k end e h f d size p =
-    let words : take k text ≡ decimal x = d ∙ decimal_is y k f ∙ ap decimal e in
-    let few : k ≤ greatest_digits = twenty y k f h in
-    let last : end ≡ at + length (take k text) = p.0 in
-    (subst (λ (w : List ℕ). Puts out at w end after) words p, omega arith)

@@ -2,22 +2,16 @@
 -- Assumes nothing.
 use mathlib.Core.List.{List, [], ◌∷◌, ◌++◌, append-nil}
 use mathlib.Core.Path.{◌≡◌, refl, sym, ◌∙◌, ap, subst}
-use Prim.Native.Nat.{ℕ, suc, ◌+◌, ◌*◌, ◌-◌, ◌≤◌, ◌<◌}
+use Prim.Native.Nat.{ℕ, suc, ◌+◌, ◌≤◌, ◌<◌}
 use native.Mathlib.Numerals.{add-one}
 use native.Mathlib.Omega.{arith}
-use lib.ListN.{length, take, drop, get_or, length-append, length-drop}
-use lib.Seq.{length-take-le, take_all, take_at, take-suc}
-use Rattle.alphabet.specs.Codes.{most_positions}
+use lib.ListN.{length, take, drop, get_or, length-append}
+use lib.Seq.{length-take-le, take_at, take-suc}
 use Rattle.definitions.proofs.Joined.{join_nil, join_cons, join_append}
 use Rattle.definitions.specs.Field.{Code}
-use Rattle.memory.proofs.Laid.{length_laid, laid_none, laid_behind, laid_within, laid_front}
+use Rattle.memory.proofs.Laid.{laid_none, laid_behind, laid_within, laid_front}
 use Rattle.memory.specs.Laid.{laid}
-use Rattle.text.specs.Rooms.{row_room, longest_row_room}
-use Rattle.text.specs.Text.{Puts, symbol_text, message_text, row_line, line_of, row_lines}
-
--- words that are laid are put
-pub puts : (out after words : List ℕ) (at : ℕ) → at + length words ≤ length out → after ≡ laid out at words → Puts out at words (at + length words) after
-puts out after words at fits e = (refl, ap length e ∙ length_laid out at words fits, e)
+use Rattle.text.specs.Text.{Puts, symbol_text, message_text, line_of, row_lines}
 
 -- words behind words, in the promises
 pub puts_more : (out middle after u w : List ℕ) (at end last : ℕ) → at ≤ length out → Puts out at u end middle → Puts middle end w last after
@@ -64,17 +58,6 @@ text_more C message out middle after at end last j h l p q =
     ∙ join_append (symbol_text C) (take j message) (x ∷ []) ∙ ap (λ (u : List ℕ). message_text C (take j message) ++ u) one in
     subst (λ (w : List ℕ). Puts out at w last after) (sym e) (puts_more out middle after (message_text C (take j message)) (symbol_text C x) at end last h p q)
 
-pub text_whole : (C : Code) (message out after : List ℕ) (at end j : ℕ) → j ≡ length message → Puts out at (message_text C (take j message)) end after
-    → Puts out at (message_text C message) end after
-text_whole C message out after at end j e p = subst (λ (l : List ℕ). Puts out at (message_text C l) end after) (take_all j message (omega arith)) p
-
--- row j, as the part of the memory that is lent, has k symbols
-pub lent_row_length : (rows : List ℕ) (k j : ℕ) → k * j + k ≤ length rows → length (take (k * j + k - k * j) (drop (k * j) rows)) ≡ k
-lent_row_length rows k j h =
-    let size : k * j + k - k * j ≡ k = omega arith in
-    let rest = length-drop (k * j) rows in
-    ap (λ (n : ℕ). length (take n (drop (k * j) rows))) size ∙ length-take-le k (drop (k * j) rows) (omega arith)
-
 -- the lines of rows: no row, and one row more
 module _ (C : Code) (k : ℕ) (rows scores : List ℕ) where
   pub none_lines : row_lines C k rows scores 0 ≡ []
@@ -93,17 +76,6 @@ module _ (C : Code) (k : ℕ) (rows scores : List ℕ) where
   lines_more out middle after at end last j h p q =
       let e : row_lines C k rows scores (j + 1) ≡ row_lines C k rows scores j ++ line_of C k rows scores j = ap (λ (n : ℕ). row_lines C k rows scores n) (add-one j) ∙ more_lines j in
       subst (λ (w : List ℕ). Puts out at w last after) (sym e) (puts_more out middle after (row_lines C k rows scores j) (line_of C k rows scores j) at end last h p q)
-
-  -- a row is the part of the memory that was lent
-  pub row_put : (out after : List ℕ) (at j score end : ℕ) → k ≤ most_positions → score ≡ get_or scores j 0 → k * j + k ≤ length rows
-      → Puts out at (row_line C score (take (k * j + k - k * j) (drop (k * j) rows))) end after
-      → end ≤ at + row_room (length (take (k * j + k - k * j) (drop (k * j) rows))) → Puts out at (line_of C k rows scores j) end after × (end ≤ at + longest_row_room)
-  row_put out after at j score end hk es h p l =
-      let size : k * j + k - k * j ≡ k = omega arith in
-      let long = lent_row_length rows k j h in
-      let same : row_line C score (take (k * j + k - k * j) (drop (k * j) rows)) ≡ line_of C k rows scores j =
-      ap (λ (n : ℕ). row_line C score (take n (drop (k * j) rows))) size ∙ ap (λ (s : ℕ). row_line C s (take k (drop (k * j) rows))) es in
-      (subst (λ (w : List ℕ). Puts out at w end after) same p, omega arith)
 
 -- what is put ends within the memory
 pub puts_within : (out after w : List ℕ) (at end : ℕ) → at ≤ length out → Puts out at w end after → (end ≤ length after) × (end ≡ length (take end after))

@@ -29,19 +29,13 @@ fn put(out: &mut [u8], at: usize, words: &[u8]) -> usize
     at + words.len()
 }
 
-fn wide(x: usize) -> u64
-    ensures { (result ≡ x) × (result < 18446744073709551616) }
-{
-    x as u64
-}
-
 fn put_decimal(out: &mut [u8], at: usize, x: usize) -> usize
     requires { at + greatest_digits ≤ length out.old }
     ensures text { Puts out.old at (decimal x) result out.new }
     ensures short { result ≤ at + greatest_digits }
 {
     let mut digits = [0u8; GREATEST_DIGITS];
-    let count = io::decimal(wide(x), &mut digits);
+    let count = io::decimal(x as u64, &mut digits);
     put(out, at, &digits[..count])
 }
 
@@ -76,10 +70,8 @@ fn put_symbols(alphabet: Alphabet, out: &mut [u8], at: usize, message: &[u8]) ->
     ensures short { result ≤ at + 2 * length message.now }
 {
     let mut end = at;
-    let mut j = 0;
-    while j < message.len() {
-        end = put_symbol(alphabet, out, end, message[j]);
-        j += 1;
+    for &x in message {
+        end = put_symbol(alphabet, out, end, x);
     }
     end
 }
@@ -135,9 +127,8 @@ fn put_row_of(
     ensures short { result ≤ at + longest_row_room }
 {
     let from = k * j;
-    let to = from + k;
-    let score = numbers::long(scores[j]);
-    put_row(alphabet, out, at, score, &rows[from..to])
+    let score = usize::from(scores[j]);
+    put_row(alphabet, out, at, score, &rows[from..from + k])
 }
 
 // The lines of the first `count` rows of k symbols.
@@ -154,10 +145,8 @@ pub fn put_rows(
     ensures { Puts out.old at (row_lines (code_on alphabet) k rows.now scores.now count) result out.new }
 {
     let mut end = at;
-    let mut j = 0;
-    while j < count {
+    for j in 0..count {
         end = put_row_of(alphabet, out, end, k, j, rows, scores);
-        j += 1;
     }
     end
 }

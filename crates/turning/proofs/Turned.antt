@@ -5,7 +5,7 @@ use mathlib.Core.Path.{◌≡◌, sym, ◌∙◌, ap}
 use Prim.Native.Nat.{ℕ, ◌+◌, ◌-◌, ◌*◌, ◌≤◌}
 use native.Mathlib.Nat.{mul-le-mul_left, min-le_right}
 use native.Mathlib.Omega.{arith}
-use lib.ListN.{length, take, drop, replicate, length-append, length-take}
+use lib.ListN.{length, take, drop, replicate, length-take}
 use lib.Seq.{take_at, take-append-le, length-take-le}
 use Rattle.definitions.proofs.Held.{length_filled, filled_front, cost_filled}
 use Rattle.definitions.specs.Field.{Code}
@@ -45,16 +45,6 @@ module _ {C : Code} {used p : ℕ} {e now : List ℕ} (c : Turning C used p e no
       let each = c.each in
       c.zeros
       ∙ ap (λ (zeros : List ℕ). take used e ++ zeros ++ drop (used + length (replicate {A = ℕ} (p - used) 0)) e) (zeros_behind C (take used e) (p - used) (omega arith))
-
-  -- there are as many entries as places
-  pub turning_within : p ≤ length now
-  turning_within =
-      let f = full in
-      let both = ap length whole ∙ length-append (filled C (take used e)) _ in
-      omega arith
-
-  pub length_turning : length (take p now) ≡ p
-  length_turning = length-take-le p now turning_within
 
   -- so the bytes are turned into a record
   pub turned : (price : ℕ) → price ≡ cost (take p now) → Turned (take used e) price now

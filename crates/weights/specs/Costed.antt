@@ -1,10 +1,10 @@
 -- The numbers that document 01 gives to each case of the answer of cost and bound.
 -- Assumes nothing.
+use Rattle.std.specs.Prelude.{Result}
 use Rattle.definitions.specs.Answers.{Answer, costed}
-use Rattle.refusals.specs.Refusal.{told_refusal}
-use Rattle.weights.specs.declared.Costed.{Costed}
-use Rattle.weights.specs.declared.Costed.TheVariants.{Of, Refused}
+use Rattle.refusals.specs.Told.{told}
+use Rattle.refusals.specs.declared.Refusal.{Refusal}
+use Rattle.weights.specs.declared.Costs.{Costs}
 
-abbrev pub told_costed : Costed → Answer
-told_costed (Of cost bound) = costed cost bound
-told_costed (Refused r) = told_refusal r
+abbrev pub told_costed : Result Costs Refusal → Answer
+told_costed r = told (λ (c : Costs). costed c.cost c.bound) r

@@ -13,18 +13,17 @@ fn multiplicity_of(level: usize, reliability: u16) -> u8
     requires { level ≤ greatest_level }
     ensures { result ≡ multiplicity level reliability }
 {
-    (level * numbers::long(reliability) / GREATEST_SUM) as u8
+    (level * usize::from(reliability) / GREATEST_SUM) as u8
 }
 
 // The multiplicity of each reliability, to the front of out.
+#[tactic(auto, using(crate::proofs::Weighing::multiplicity_more))]
 pub fn multiplicities_into(level: usize, reliabilities: &[u16], out: &mut [u8])
     requires { (level ≤ greatest_level) × (length reliabilities.now ≤ length out.old) }
     ensures { out.new ≡ matrix level reliabilities.now ++ drop (length reliabilities.now) out.old }
 {
-    let mut i = 0;
-    while i < reliabilities.len() {
-        out[i] = multiplicity_of(level, reliabilities[i]);
-        i += 1;
+    for (i, &reliability) in reliabilities.iter().enumerate() {
+        out[i] = multiplicity_of(level, reliability);
     }
 }
 

@@ -4,7 +4,10 @@ use Rattle.streams.proofs.write_all.Given as goal
 
 -- As many bytes as were written lie within the memory, and the writer has them.
 abbrev pub invariant-loop-done : goal.invariant-loop-done
-invariant-loop-done g l = (l.done ≤ length l.buf) × Appends (g.W.Write.contents l.initial.writer) (g.W.Write.contents l.writer) (take l.done l.buf)
+invariant-loop-done g l = record {
+  within : l.done ≤ length l.buf;
+  bytes : Appends (g.W.Write.contents l.initial.writer) (g.W.Write.contents l.writer) (take l.done l.buf);
+}
 
 -- each turn that goes on leaves fewer bytes to be written
 abbrev pub decreases-loop-done : goal.decreases-loop-done

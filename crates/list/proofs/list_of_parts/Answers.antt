@@ -1,0 +1,10 @@
+-- The stored numbers are among what the lines pass: so the stored cost is that of the entries.
+use Rattle.alphabet.specs.Codes.{code_on}
+use Rattle.definitions.specs.Held.{held}
+use Rattle.matrix.proofs.Stored.{stored_priced}
+use Rattle.list.proofs.list_of_parts.Goals as goal
+
+pub list_priced-requires-clause-front_costs : goal.list_priced-requires-clause-front_costs
+list_priced-requires-clause-front_costs c =
+    let a = c.args in
+    stored_priced (code_on a.alphabet) (held a.n a.cost a.totals.now a.entries.now) a.k c.rightly.ensures c.in_ok-refuse_if-2.ensures c.in_ok-sizes.ensures
