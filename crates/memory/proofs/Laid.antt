@@ -4,10 +4,11 @@ use mathlib.Core.List.{List, [], ◌∷◌, ◌++◌, append_assoc, append-nil}
 use mathlib.Core.Path.{◌≡◌, sym, ◌∙◌, ap}
 use Prim.Native.Nat.{ℕ, ◌+◌, ◌≤◌, ◌<◌}
 use native.Mathlib.Nat.{add-zero}
+use native.Mathlib.Numerals.{add-one}
 use native.Mathlib.Omega.{arith}
 use borrow.Rule.Slice.PartMut.{put_mid}
-use lib.ListN.{length, take, drop, set, length-append, length-drop, take-append-drop}
-use lib.Seq.{length-take-le, take_at, drop-append-add, drop-drop}
+use lib.ListN.{length, take, drop, get_or, set, length-append, length-drop, take-append-drop}
+use lib.Seq.{length-take-le, take_at, take-suc, drop-append-add, drop-drop}
 use Rattle.definitions.proofs.Loops.{put_more}
 use Rattle.memory.specs.Laid.{laid}
 
@@ -46,6 +47,14 @@ laid_more out at part x h =
     put_more 0 (take at out ++ part) out (at + length part) x (length_front out at part (omega arith)) h
     ∙ ap (λ (l : List ℕ). l ++ drop (at + length part + 1) out) (append_assoc (take at out) part (x ∷ []))
     ∙ ap (λ (n : ℕ). take at out ++ (part ++ (x ∷ [])) ++ drop n out) end
+
+-- a turn of a loop that lays one entry of a part after the other
+pub laid_turned : (out part now : List ℕ) (at j x : ℕ) → at + j < length out → j < length part → now ≡ laid out at (take j part) → x ≡ get_or part j 0
+    → set now (at + j) x ≡ laid out at (take (j + 1) part)
+laid_turned out part now at j x h l e ex =
+    let size : length (take j part) ≡ j = length-take-le j part (omega arith) in
+    rw (e, ex, add-one, take-suc part j 0 l)
+    (ap (λ (n : ℕ). set (laid out at (take j part)) (at + n) (get_or part j 0)) (sym size) ∙ laid_more out at (take j part) (get_or part j 0) (omega arith))
 
 -- what a part of the memory was changed to is laid there
 pub laid_part : (out : List ℕ) (at many : ℕ) (part now : List ℕ) → now ≡ part → many ≡ length part → put_mid at many out now ≡ laid out at part

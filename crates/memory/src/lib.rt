@@ -7,13 +7,14 @@ ghost use Rattle.definitions.specs.Polynomial.{is_zero};
 ghost use Rattle.memory.specs.Laid.{laid};
 ghost use Rattle.memory.specs.Same.{same_up_to};
 
-// The part, in place of what lies from a place on.
-#[tactic(auto, using(crate::proofs::Laid::laid_part))]
+// The part, in place of what lies from a place on; by a loop, since `copy_from_slice` would call for memory that may overlap.
 pub fn put(out: &mut [u8], at: usize, part: &[u8])
     requires { at + length part.now ≤ length out.old }
     ensures { out.new ≡ laid out.old at part.now }
 {
-    out[at..at + part.len()].copy_from_slice(part);
+    for j in 0..part.len() {
+        out[at + j] = part[j];
+    }
 }
 
 // Zeros, so many in place of what lies from a place on.
