@@ -70,8 +70,11 @@ pub fn first_above(greatest: u8, list: &[u8]) -> Option<usize>
 
 // No product is made, so no number is too large.
 pub fn is_product(given: usize, each: usize, many: usize) -> bool
-    requires { 0 < each }
     ensures { result ≡ eqb given (each * many) }
 {
-    given % each == 0 && given / each == many
+    if each == 0 {
+        given == 0
+    } else {
+        given % each == 0 && given / each == many
+    }
 }

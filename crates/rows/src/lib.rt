@@ -87,7 +87,6 @@ fn all_new(k: usize, rows: &[u8], count: usize) -> bool
 }
 
 fn is_list(k: usize, rows: &[u8], scores: &[u16]) -> bool
-    requires { 0 < k }
     ensures { result ≡ is_list k rows.now scores.now }
 {
     refusals::is_product(rows.len(), k, scores.len())
@@ -96,7 +95,6 @@ fn is_list(k: usize, rows: &[u8], scores: &[u16]) -> bool
 }
 
 pub fn list_checked(k: usize, rows: &[u8], scores: &[u16]) -> Result<(), Refusal>
-    requires { 0 < k }
     ensures { Tries (list_line k rows.now scores.now) result }
 {
     checks::refuse_if(!is_list(k, rows, scores), Refusal::Length)
