@@ -20,24 +20,24 @@ fn sum_of(column: &[u16]) -> usize
     column.iter().map(|&x| usize::from(x)).sum()
 }
 
-// The reliabilities of position i, summed.
-#[tactic(auto, using(crate::proofs::Passed::part_sum))]
+// The reliabilities of position i, summed. The list may end within them.
 fn column_sum(alphabet: Alphabet, reliabilities: &[u16], i: usize) -> usize
-    requires { (i < (code_on alphabet).positions) × ((code_on alphabet).symbols * i + (code_on alphabet).symbols ≤ length reliabilities.now) }
+    requires { (code_on alphabet).symbols * i ≤ length reliabilities.now }
     ensures { result ≡ sum_of_column (code_on alphabet) reliabilities.now i }
 {
     let symbols = alphabet.symbols();
     let first = symbols * i;
-    sum_of(&reliabilities[first..first + symbols])
+    let many = symbols.min(reliabilities.len() - first);
+    sum_of(&reliabilities[first..first + many])
 }
 
-// Refused at the first position whose reliabilities sum to more than 4,096.
-#[tactic(auto, using(crate::proofs::Passed::columns_passed))]
+// Refused at the first position whose reliabilities sum to more than 4,096. Behind the end of the list a position has none.
+#[tactic(auto, using(crate::proofs::Passed::columns_ended, alphabet::proofs::Sizes::sized))]
 pub fn columns_checked(alphabet: Alphabet, reliabilities: &[u16], n: usize) -> Result<(), Refusal>
-    requires { (n ≤ (code_on alphabet).positions) × ((code_on alphabet).symbols * n ≤ length reliabilities.now) }
     ensures { Tries (columns (code_on alphabet) n reliabilities.now) result }
 {
-    for position in 0..n {
+    let reached = reliabilities.len().div_ceil(alphabet.symbols());
+    for position in 0..n.min(reached) {
         let sum = column_sum(alphabet, reliabilities, position);
         checks::refuse_if(GREATEST_SUM < sum, Refusal::Column(position))?;
     }

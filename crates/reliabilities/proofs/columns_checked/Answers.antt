@@ -1,4 +1,4 @@
--- What the loop has passed says where the line is given; where none is left, the law of the passed columns closes the return.
+-- What the loop has passed says where the line is given, and that it is passed where no column is left that begins within the list.
 use Rattle.std.proofs.Common.{rules}
 use Rattle.alphabet.specs.Codes.{code_on}
 use Rattle.reliabilities.proofs.Passed.{columns_given}
