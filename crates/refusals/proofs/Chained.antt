@@ -20,7 +20,7 @@ pub data Came (table : List Line) : List Line → Outcome → Type 0 where
   start : Came table table passed
   ◌▸◌ : {l : Line} {rest : List Line} {o p : Outcome} → Came table (l ∷ rest) o → p ≡ or_line o l → Came table rest p
 
--- what that says of the table: each of these lines was passed, or the first that is given is the refusal
+-- what a chain says of its table: each of these lines was passed, or the first that is given is the refusal
 abbrev pub So : List Line → List Line → Outcome → Type 0
 So table rest passed = Passed table rest
 So table rest (refused_at number place) = Gives table number place

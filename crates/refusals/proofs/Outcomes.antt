@@ -1,6 +1,6 @@
 -- What a check promises is one line more of its table, and a function whose checks are the lines of a table in turn has tried the table.
 -- Assumes nothing.
-use mathlib.Core.Bool.{true}
+use mathlib.Core.Bool.{true, false}
 use mathlib.Core.List.{List, [], ◌∷◌}
 use mathlib.Core.Path.{◌≡◌, refl, sym, ◌∙◌, ap}
 use Prim.Native.Nat.{ℕ, ◌≤◌, ◌<◌}
@@ -26,6 +26,10 @@ refused_there r number place e = ap (λ (a : Answer). refused_at a.number a.plac
 pub one_line : {T : Type 0} (l : Line) (r : Result T Refusal) → Tries l r → told_checked r ≡ or_line passed l
 one_line l (Ok _) e = rw e refl
 one_line l (Err r) t = rw t.0 (refused_there r l.number l.place t.1)
+
+-- where it lets the call pass, they are passed lines still
+pub line_passed : (l : Line) → l.given ≡ false → passed ≡ or_line passed l
+line_passed l e = one_line {T = Unit} l (Ok tt) e
 
 -- so where the lines before were passed it takes the chain one line on
 pub line_tried : {T : Type 0} {table rest : List Line} (l : Line) (r : Result T Refusal) → CameTo table (l ∷ rest) passed → Tries l r → CameTo table rest (told_checked r)
