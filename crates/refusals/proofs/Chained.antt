@@ -21,26 +21,26 @@ pub data Came (table : List Line) : List Line → Outcome → Type 0 where
   ◌▸◌ : {l : Line} {rest : List Line} {o p : Outcome} → Came table (l ∷ rest) o → p ≡ or_line o l → Came table rest p
 
 -- what a chain says of its table: each of these lines was passed, or the first that is given is the refusal
-abbrev pub So : List Line → List Line → Outcome → Type 0
-So table rest passed = Passed table rest
-So table rest (refused_at number place) = Gives table number place
+abbrev pub Verdict : List Line → List Line → Outcome → Type 0
+Verdict table rest passed = Passed table rest
+Verdict table rest (refused_at number place) = Gives table number place
 
 module _ (table : List Line) where
-  one_more : (l : Line) (rest : List Line) (o : Outcome) → So table (l ∷ rest) o → So table rest (or_line o l)
+  one_more : (l : Line) (rest : List Line) (o : Outcome) → Verdict table (l ∷ rest) o → Verdict table rest (or_line o l)
   one_more l rest passed came = split l.given (λ y. rw y (onward came (stop y))) (λ n. rw n (came ▹ n))
   one_more l rest (refused_at number place) g = g
 
-  pub so_tried : (o : Outcome) → So table [] o → o ≡ tried table refused_at passed
-  so_tried passed came = accepts refused_at passed (all_passed came)
-  so_tried (refused_at number place) g = gives refused_at passed g
+  pub verdict_tried : (o : Outcome) → Verdict table [] o → o ≡ tried table refused_at passed
+  verdict_tried passed came = accepts refused_at passed (all_passed came)
+  verdict_tried (refused_at number place) g = gives refused_at passed g
 
-so : {table rest : List Line} {o : Outcome} → Came table rest o → So table rest o
-so start = begun
-so (◌▸◌ {l = l} {rest = rest} {o = o} came e) = subst (So _ rest) (sym e) (one_more _ l rest o (so came))
+verdict : {table rest : List Line} {o : Outcome} → Came table rest o → Verdict table rest o
+verdict start = begun
+verdict (◌▸◌ {l = l} {rest = rest} {o = o} came e) = subst (Verdict _ rest) (sym e) (one_more _ l rest o (verdict came))
 
 -- every line was tried
 pub all_tried : {table : List Line} {o : Outcome} → Came table [] o → o ≡ tried table refused_at passed
-all_tried {table} {o} came = so_tried table o (so came)
+all_tried {table} {o} came = verdict_tried table o (verdict came)
 
 -- a refusal is its number and place, and nothing else
 pub told_is : (r : Refusal) → told_refusal r ≡ refused (told_refusal r).number (told_refusal r).place
@@ -66,14 +66,14 @@ passed_too rest (came ▹ e) = passed_too rest came ▹ e
 
 -- what a chain over the front of a table says of the call, once it is known whether it passed
 module _ {T : Type 0} {front : List Line} {c : Result T Refusal} (came : Came front [] (told_checked c)) where
-  verdict : (d : Result T Refusal) → c ≡ d → So front [] (told_checked d)
-  verdict d e = subst (λ (x : Result T Refusal). So front [] (told_checked x)) e (so came)
+  verdict_of : (d : Result T Refusal) → c ≡ d → Verdict front [] (told_checked d)
+  verdict_of d e = subst (λ (x : Result T Refusal). Verdict front [] (told_checked x)) e (verdict came)
 
   pub accepted : {x : T} → c ≡ Ok x → Accepts front
-  accepted {x} e = all_passed (verdict (Ok x) e)
+  accepted {x} e = all_passed (verdict_of (Ok x) e)
 
   pub given : {r : Refusal} → c ≡ Err r → Gives front (told_refusal r).number (told_refusal r).place
-  given {r} e = verdict (Err r) e
+  given {r} e = verdict_of (Err r) e
 
   -- whatever is made of a refusal: the memory that is left
   pub stops {ℓ} : {A : Type ℓ} (rest : List Line) (refuse : ℕ → ℕ → A) (accept : A) {r : Refusal} → c ≡ Err r
@@ -87,4 +87,4 @@ module _ {T : Type 0} {front : List Line} {c : Result T Refusal} (came : Came fr
   -- the rest decides
   pub goes_on {ℓ} : {A : Type ℓ} (rest : List Line) (refuse : ℕ → ℕ → A) (accept : A) {x : T} → c ≡ Ok x
       → tried rest refuse accept ≡ tried (front ++ rest) refuse accept
-  goes_on rest refuse accept {x} e = passed_on refuse accept (passed_too rest (verdict (Ok x) e))
+  goes_on rest refuse accept {x} e = passed_on refuse accept (passed_too rest (verdict_of (Ok x) e))

@@ -11,7 +11,7 @@ use Rattle.definitions.proofs.Table.{stop}
 use Rattle.definitions.specs.Answers.{Answer, refused}
 use Rattle.definitions.specs.Refusals.{Line, tried}
 use Rattle.refusals.proofs.Chain.{Came, onward}
-use Rattle.refusals.proofs.Chained.{Came as CameTo, ◌▸◌, so_tried}
+use Rattle.refusals.proofs.Chained.{Came as CameTo, ◌▸◌, verdict_tried}
 use Rattle.refusals.specs.Checked.{passed, refused_at, or_line, told_checked}
 use Rattle.refusals.specs.Refusal.{told_refusal}
 use Rattle.refusals.specs.Tries.{Tries}
@@ -42,8 +42,8 @@ pub data Tried (table : List Line) {T : Type 0} : Result T Refusal → Type 0 wh
 
 -- so what it has come to is what the table gives
 pub all_tried : {T : Type 0} {table : List Line} {r : Result T Refusal} → Tried table r → told_checked r ≡ tried table refused_at passed
-all_tried {table = table} (all x came) = so_tried table passed came
-all_tried {table = table} (one r l rest came t) = refused_there r l.number l.place t.1 ∙ so_tried table (refused_at l.number l.place) (onward came (stop t.0))
+all_tried {table = table} (all x came) = verdict_tried table passed came
+all_tried {table = table} (one r l rest came t) = refused_there r l.number l.place t.1 ∙ verdict_tried table (refused_at l.number l.place) (onward came (stop t.0))
 
 module _ {T : Type 0} (c : Result T Refusal) where
   -- after a refusal it stays
