@@ -1,14 +1,19 @@
--- The search for the number of powers of y within the bound.
+-- The powers of y that are counted, and the search for their number within the bound.
 -- Assumes nothing.
 use mathlib.Core.Path.{◌≡◌, sym}
 use Prim.Native.Nat.{ℕ, suc, ◌+◌, ◌-◌, ◌*◌, ◌/◌, ◌≤◌, ◌<◌}
 use mir.Syntax.{w64}
 use mir.Val.{Fits}
-use native.Mathlib.Nat.{div-lt_iff_lt-mul, le-div_iff_mul-le, mul_comm, mul-le-mul}
+use native.Mathlib.Nat.{div-le_self, div-lt_iff_lt-mul, le-div_iff_mul-le, mul_comm, mul-le-mul}
 use native.Mathlib.Numerals.{add-one}
 use native.Mathlib.Omega.{arith}
 use Rattle.bound.proofs.Direct.{direct, largest_is}
+use Rattle.definitions.proofs.Monomials.{power_within}
 use Rattle.definitions.specs.Bound.{bound}
+
+-- a power of y that is counted
+pub power_counted : (v d b : ℕ) → b ≤ d / v → (v * b ≤ d) × (b ≤ d)
+power_counted v d b h = let quotient = div-le_self d v in (power_within v d b h, omega arith)
 
 module _ (v C m : ℕ) (pos : 0 < v) (within : m * (m - 1) ≤ 2 * C / v) where
   -- v m (m - 1) is at most twice the cost

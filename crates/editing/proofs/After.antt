@@ -23,6 +23,10 @@ use Rattle.std.specs.Prelude.{Result, Ok, Err}
 use Rattle.matrix.specs.Record.{held_by}
 use Rattle.refusals.proofs.Unique.{refusal_number}
 
+-- what is promised of an outcome with the whole record
+abbrev RecordEdited : List Line → Held → Held → Edited → Type 0
+RecordEdited table before after r = (told_priced r.outcome ≡ edit_answer table after) × (held_by r.matrix ≡ edited table before after)
+
 module _ (before after : Held) (outcome : Result ℕ Refusal) (totals entries : List ℕ) where
   -- nothing is refused
   accepted : told_priced outcome ≡ costed after.cost 0 → totals ≡ after.totals → entries ≡ after.entries
@@ -55,8 +59,8 @@ module _ (before after : Held) (outcome : Result ℕ Refusal) (totals entries : 
   pub record_promised : (table : List Line) → numbered table ≡ true → {r : Edited}
       → (r.outcome ≡ outcome) × (held_by r.matrix ≡ record_after outcome before.n before.cost after.n totals entries)
       → told_priced outcome ≡ edit_answer table after → totals ≡ (edited table before after).totals → entries ≡ (edited table before after).entries
-      → held_by r.matrix ≡ edited table before after
-  record_promised table some whole e et ee = whole.1 ∙ record_is table some e et ee
+      → RecordEdited table before after r
+  record_promised table some whole e et ee = (ap told_priced whole.0 ∙ e, whole.1 ∙ record_is table some e et ee)
 
 -- of a record that was refused only the parts count
 pub totals_kept : (table : List Line) (before other after : Held) → before.totals ≡ other.totals → (edited table before after).totals ≡ (edited table other after).totals
@@ -81,5 +85,5 @@ module _ (C : Code) (n : ℕ) (after : Held) (sized : after.n ≡ n) (outcome : 
   pub made_promised : (table : List Line) → numbered table ≡ true → (none : List ℕ) → none ≡ replicate C.positions 0 → {r : Edited}
       → (r.outcome ≡ outcome) × (held_by r.matrix ≡ record_after outcome 2 0 n totals entries)
       → told_priced outcome ≡ edit_answer table after → totals ≡ (edited table (held n 0 none (no_entries C)) after).totals
-      → entries ≡ (edited table (held n 0 none (no_entries C)) after).entries → held_by r.matrix ≡ edited table (no_matrix C) after
-  made_promised table some none en whole e et ee = whole.1 ∙ made_is table some none en e et ee
+      → entries ≡ (edited table (held n 0 none (no_entries C)) after).entries → RecordEdited table (no_matrix C) after r
+  made_promised table some none en whole e et ee = (ap told_priced whole.0 ∙ e, whole.1 ∙ made_is table some none en e et ee)

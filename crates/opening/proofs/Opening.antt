@@ -1,31 +1,41 @@
 -- Where a row is opened the list that is judged holds it; anything else opens none.
 -- Assumes nothing.
-use mathlib.Core.Bool.{true, false≢true}
+use mathlib.Core.Bool.{true, false, false≢true}
 use mathlib.Core.List.{List, [], ◌∷◌}
-use mathlib.Core.Path.{◌≡◌, sym, ap}
+use mathlib.Core.Path.{◌≡◌, refl, sym, ap}
 use Prim.Native.Nat.{ℕ, ◌*◌, ◌≤◌}
 use native.Mathlib.Nat.{mul-le-mul, mul-one, le_refl}
 use native.Mathlib.Omega.{arith}
 use borrow.Author.Tests.{eqb-true, eq-eqb, ne_eqb}
 use lib.ListN.{length}
+use Rattle.std.specs.Prelude.{Result, Ok, Err}
 use Rattle.counter.proofs.Both.{both_full}
 use Rattle.counter.proofs.Judging.{open_some}
 use Rattle.opening.specs.Handing.{is_open}
 use Rattle.counter.specs.Judging.{to_open, judged, apart, of_judged, both_judged, judge_table, both_table, judge_answer, both_answer}
-use Rattle.counter.specs.Verdict.{verdict_number}
+use Rattle.counter.specs.Verdict.{verdict_number, told_verdict}
 use Rattle.counter.specs.declared.Settings.{Settings}
 use Rattle.counter.specs.declared.Verdict.{Verdict}
-use Rattle.counter.specs.declared.Verdict.TheVariants.{Open}
+use Rattle.counter.specs.declared.Verdict.TheVariants.{Open, Ask, Nothing}
 use Rattle.definitions.proofs.Table.{Accepts, next, end, size_means, sizes_mean}
 use Rattle.definitions.proofs.Tools.{split}
 use Rattle.definitions.specs.Answers.{Answer, refused, valued}
 use Rattle.definitions.specs.Field.{Code}
 use Rattle.definitions.specs.Refusals.{Line, tried}
+use Rattle.refusals.proofs.Chained.{told_is}
+use Rattle.refusals.specs.declared.Refusal.{Refusal}
 use Rattle.rows.proofs.Rows.{list_line_means}
 
 -- the answer whose verdict is Open opens
 pub opens : {v : Verdict} {answer : Answer} → v ≡ Open → valued (verdict_number v) ≡ answer → is_open answer ≡ true
 opens e h = ap is_open (sym (rw e at h))
+
+-- a verdict that is not Open opens none, and no refusal does
+pub other_verdict : (v : Result Verdict Refusal) → (v ≡ Ok Open → ⊥) → is_open (told_verdict v) ≡ false
+other_verdict (Ok Open) n = absurd (n refl)
+other_verdict (Ok Ask) n = refl
+other_verdict (Ok Nothing) n = refl
+other_verdict (Err r) n = ap is_open (told_is r)
 
 -- a table that gives Open accepts: no refusal has a value
 open_accepts : (table : List Line) (value : ℕ) → is_open (tried table refused (valued value)) ≡ true → Accepts table × (value ≡ to_open)

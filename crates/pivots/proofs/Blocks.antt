@@ -133,20 +133,24 @@ module _ (C : Code) where
   listed_rows R L j n m places c h s l =
       (listed_targets R L j n _ _ _ h l, λ i g. subst (λ (x : ℕ). x < C.symbols) (sym (l.factor i g)) (s.symbols (get_or places i 0) j))
 
+-- in more columns
+pub lower_more : (C : Code) → FieldOf C → (from mid to R j n : ℕ) (x : ℕ → ℕ) (places c : List ℕ) (o m b : List (List ℕ)) → from ≤ mid → mid ≤ to
+    → Listed R j n x (λ i. get_or places i 0) (λ i. get_or c i 0) → LoweredIn C from mid R j x o m → DoneIn C mid to j n places c m b → LoweredIn C from to R j x o b
+lower_more C F from mid to R j n x places c o m b low high listed d e = record {
+  size = e.size ∙ d.size;
+  system = e.system;
+  columns = between_more (Lowered (numbers C) R j x) from mid to (entry_of o) (entry_of m) (entry_of b) low high d.columns
+      (done_lowered C mid to j (λ i. get_or places i 0) (λ i. get_or c i 0) F R n x (entry_of m) (entry_of b) (λ t k. d.system.symbols t k) listed e.done);
+}
+
 -- in one block more
-pub lower_more : (C : Code) → FieldOf C → (p q R j n : ℕ) (x : ℕ → ℕ) (places c : List ℕ) (o m b : List (List ℕ)) → q ≤ p
+pub lower_block : (C : Code) → FieldOf C → (p q R j n : ℕ) (x : ℕ → ℕ) (places c : List ℕ) (o m b : List (List ℕ)) → q ≤ p
     → Listed R j n x (λ i. get_or places i 0) (λ i. get_or c i 0) → LoweredIn C (q * block) (p * block) R j x o m
     → DoneIn C (p * block) (p * block + block) j n places c m b → LoweredIn C (q * block) ((p + 1) * block) R j x o b
-lower_more C F p q R j n x places c o m b h listed d e =
+lower_block C F p q R j n x places c o m b h listed d e =
     let f : p * block + block ≡ (p + 1) * block = omega arith in
-    let one = done_lowered C (p * block) (p * block + block) j (λ i. get_or places i 0) (λ i. get_or c i 0) F R n x (entry_of m) (entry_of b) (λ t k. d.system.symbols t k) listed e.done in
-    record {
-      size = e.size ∙ d.size;
-      system = e.system;
-      columns = subst (λ (k : ℕ). Between (Lowered (numbers C) R j x) (q * block) k (entry_of o) (entry_of b)) f
-          (between_more (Lowered (numbers C) R j x) (q * block) (p * block) (p * block + block) (entry_of o) (entry_of m) (entry_of b) (omega arith) (omega arith)
-          d.columns one);
-    }
+    subst (λ (k : ℕ). LoweredIn C (q * block) k R j x o b) f
+    (lower_more C F (q * block) (p * block) (p * block + block) R j n x places c o m b (omega arith) (omega arith) listed d e)
 
 -- ---- the step
 

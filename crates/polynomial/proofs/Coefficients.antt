@@ -7,8 +7,8 @@ use mathlib.Core.Path.{◌≡◌, sym, ◌∙◌, ap, subst}
 use Prim.Native.Nat.{ℕ, suc, ◌*◌, ◌≤◌, ◌<◌}
 use native.Mathlib.Decide.{dec_lt}
 use native.Mathlib.Omega.{arith}
-use lib.ListN.{length, take, drop, get_or}
-use lib.Seq.{sets, length-sets}
+use lib.ListN.{length, take, drop, get_or, set, length-set}
+use lib.Seq.{sets, length-sets, get_or-set_other}
 use Rattle.algebra.specs.FieldOf.{FieldOf}
 use Rattle.conditions.specs.MaskedRows.{masked_rows}
 use Rattle.definitions.proofs.Bound.{bound_le, bound_is_least}
@@ -28,6 +28,17 @@ use Rattle.polynomial.proofs.Conditions.{length_conditions, conditions_symbols, 
 use Rattle.polynomial.specs.Found.{Given, Found}
 use Rattle.blocks.specs.Row.{width, block, blocks_for}
 use Rattle.matrix.specs.Columns.{matrix_of, matrix_cost}
+
+-- ---- the leading coefficient
+
+-- what stays behind the 1 and the zeros stood there before the 1
+pub led_whole : (j n : ℕ) (out now : List ℕ) → j < n → Led j n (set out j 1) now → Led j n out now
+led_whole j n out now low l = record {
+  size = l.size ∙ length-set out j 1;
+  one = l.one;
+  zeros = l.zeros;
+  kept = λ k g. l.kept k g ∙ get_or-set_other out j k 1 0 (λ e. omega arith);
+}
 
 -- ---- what is given is within the limits of the functions
 

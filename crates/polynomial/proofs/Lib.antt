@@ -4,3 +4,4 @@ pub mod Loaded
 pub mod Coefficients
 pub mod Conditions
 pub mod Front
+pub mod Systems

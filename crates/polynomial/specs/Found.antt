@@ -1,11 +1,19 @@
 -- What the inner functions are given, and what they leave: the polynomial that interpolates, and the place of its leading monomial.
 -- Assumes nothing.
 use Rattle.std.specs.Prelude.{List, ◌++◌, ◌≡◌, ℕ, ◌*◌, ◌≤◌, ◌<◌, length, drop}
+use Rattle.blocks.specs.Row.{block}
 use Rattle.definitions.specs.Bound.{bound, count}
 use Rattle.definitions.specs.Field.{Code}
 use Rattle.definitions.specs.Limits.{greatest_limit}
 use Rattle.definitions.specs.Polynomial.{Interpolates, leading}
 use Rattle.matrix.specs.Columns.{matrix_of, matrix_cost}
+
+-- the rows of the middle and of the upper one of four systems: no tag costs more up to level 3, and up to level 4
+abbrev pub middle_rows : ℕ
+middle_rows = 6 * block
+
+abbrev pub upper_rows : ℕ
+upper_rows = 10 * block
 
 -- a matrix within limits, its cost, its bound and how many coefficients that has, for which there is room
 pub record Given (C : Code) (a : List (List ℕ)) (v D w cost : ℕ) (out : List ℕ) : Type 0 where

@@ -1,19 +1,22 @@
--- What the list of a proposal answers and leaves, by each of the lines that refuse.
+-- What the list of a proposal answers and leaves: by each of the lines that are left, and where it lists.
 -- Assumes nothing.
-use mathlib.Core.Bool.{false, not}
+use mathlib.Core.Bool.{true, false, not}
 use mathlib.Core.List.{List}
 use mathlib.Core.Path.{◌≡◌, ap}
 use Prim.Native.Nat.{ℕ, ◌-◌, ◌≤◌, ◌<◌}
 use native.Mathlib.Omega.{arith}
 use borrow.Author.Tests.{lt-ltb, le-ltb}
 use Rattle.definitions.proofs.Table.{Gives, stop, pass, gives}
-use Rattle.definitions.specs.Answers.{refused}
+use Rattle.definitions.specs.Answers.{refused, counted}
 use Rattle.definitions.specs.Bound.{bound}
 use Rattle.definitions.specs.Field.{Code}
+use Rattle.definitions.specs.Listing.{list_of}
 use Rattle.definitions.specs.Proposals.{is_yes, within_bound, proposed}
 use Rattle.definitions.specs.Refusals.{cost_within}
 use Rattle.definitions.specs.Weights.{cost}
-use Rattle.list_within.specs.Within.{Answered}
+use Rattle.list_within.proofs.Answers.{listed}
+use Rattle.list_within.specs.Within.{Lists, Answered}
+use Rattle.proposal_within.proofs.Answers.{lines_passed}
 use Rattle.proposal_within.specs.Lines.{list_lines}
 
 module _ (C : Code) (n k G D : ℕ) (q m rows scores : List ℕ) (cheap : cost m ≤ G) where
@@ -38,3 +41,9 @@ module _ (C : Code) (n k G D : ℕ) (q m rows scores : List ℕ) (cheap : cost m
     pub refused_by_proposal : is_yes C n (k - 1) D m q ≡ false → Answered C (list_lines C n k G D q m) n k m rows scores (refused 10 0) rows scores
     refused_by_proposal e =
         refused_at_lem (pass {l = cost_within G m} paid (pass {l = within_bound (k - 1) m D} low (stop {l = proposed C n (k - 1) D m q} (ap not e))))
+
+    -- a yes
+    pub listed_by_proposal : is_yes C n (k - 1) D m q ≡ true → {count : ℕ} {rows_after scores_after : List ℕ}
+        → Lists C n k m (list_of C n k m) rows scores count rows_after scores_after
+        → Answered C (list_lines C n k G D q m) n k m rows scores (counted count) rows_after scores_after
+    listed_by_proposal e w = listed C n k m rows scores (lines_passed C n k G D q m cheap within e) _ _ _ w

@@ -13,5 +13,5 @@ returns-clause-matrix c =
     let m = held_by a.first in
     let other = held_by a.second in
     let made = c.add-outcome.ensures in
-    record_promised m (held_of sixteen m.n (with_added m.entries other.entries)) c.add-outcome.result _ _
-    (add_table sixteen m other) refl c.recorded.ensures made.answer made.total_memory made.entry_memory
+    (record_promised m (held_of sixteen m.n (with_added m.entries other.entries)) c.add-outcome.result _ _
+    (add_table sixteen m other) refl c.recorded.ensures made.answer made.total_memory made.entry_memory).1

@@ -12,5 +12,5 @@ returns-clause-matrix c =
     let a = c.args in
     let m = held_by a.m in
     let made = c.clear_column-outcome.ensures in
-    record_promised m (held_of sixteen m.n (without_column sixteen m.entries a.position)) c.clear_column-outcome.result _ _
-    (clear_table sixteen m a.position) refl c.recorded.ensures made.answer made.total_memory made.entry_memory
+    (record_promised m (held_of sixteen m.n (without_column sixteen m.entries a.position)) c.clear_column-outcome.result _ _
+    (clear_table sixteen m a.position) refl c.recorded.ensures made.answer made.total_memory made.entry_memory).1

@@ -10,5 +10,5 @@ pub returns-clause-matrix : goal.returns-clause-matrix
 returns-clause-matrix c =
     let n = c.args.n in
     let made = c.fresh-outcome.ensures in
-    made_promised sixteen n (held_of sixteen n (no_entries sixteen)) refl c.fresh-outcome.result _ _ (fresh_table sixteen n) refl _ refl c.recorded.ensures
-    made.answer made.total_memory made.entry_memory
+    (made_promised sixteen n (held_of sixteen n (no_entries sixteen)) refl c.fresh-outcome.result _ _ (fresh_table sixteen n) refl _ refl c.recorded.ensures
+    made.answer made.total_memory made.entry_memory).1

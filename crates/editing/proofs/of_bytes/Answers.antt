@@ -11,5 +11,5 @@ returns-clause-matrix c =
     let n = c.args.n in
     let bytes = c.args.bytes.now in
     let made = c.of_bytes-outcome.ensures in
-    made_promised sixteen n (held_of sixteen n (filled sixteen bytes)) refl c.of_bytes-outcome.result _ _ (bytes_table sixteen n bytes) refl _ refl c.recorded.ensures
-    made.answer made.total_memory made.entry_memory
+    (made_promised sixteen n (held_of sixteen n (filled sixteen bytes)) refl c.of_bytes-outcome.result _ _ (bytes_table sixteen n bytes) refl _ refl c.recorded.ensures
+    made.answer made.total_memory made.entry_memory).1

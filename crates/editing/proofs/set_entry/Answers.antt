@@ -12,5 +12,5 @@ returns-clause-matrix c =
     let a = c.args in
     let m = held_by a.m in
     let made = c.set_entry-outcome.ensures in
-    record_promised m (held_of sixteen m.n (with_entry sixteen m.entries a.position a.symbol a.entry)) c.set_entry-outcome.result _ _
-    (set_table sixteen m a.position a.symbol a.entry) refl c.recorded.ensures made.answer made.total_memory made.entry_memory
+    (record_promised m (held_of sixteen m.n (with_entry sixteen m.entries a.position a.symbol a.entry)) c.set_entry-outcome.result _ _
+    (set_table sixteen m a.position a.symbol a.entry) refl c.recorded.ensures made.answer made.total_memory made.entry_memory).1

@@ -1,7 +1,7 @@
 -- The rows that are not zero in column j are listed first. Each pass takes from them in one block
 -- more, by the factors that stood in column j at the entry.
 use Rattle.std.proofs.Common.{◌≡◌, ◌/◌, ◌≤◌, length, arith}
-use Rattle.pivots.proofs.Blocks.{lower_more, listed_rows}
+use Rattle.pivots.proofs.Blocks.{lower_block, listed_rows}
 use Rattle.instances.proofs.Codes.{field_on}
 use Rattle.blocks.specs.Row.{block}
 use Rattle.pivots.proofs.clear.Goals as goal
@@ -15,7 +15,7 @@ clear_block-requires-clause-target_rows c =
 
 pub loop-next-preserved : goal.loop-next-preserved
 loop-next-preserved c =
-    lower_more _ (field_on c.args.alphabet) c.loop-next.next (c.args.j / block) _ _ _ _ _ _ _ _ _ c.loop-next.auto.next c.factors-n.ensures.1
+    lower_block _ (field_on c.args.alphabet) c.loop-next.next (c.args.j / block) _ _ _ _ _ _ _ _ _ c.loop-next.auto.next c.factors-n.ensures.1
     c.loop-next.invariant c.clear_block.ensures
 
 -- The loop has ended at next = blocks, so the rows are cleared in all blocks from that of column j on.
