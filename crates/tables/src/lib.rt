@@ -17,7 +17,7 @@ use alphabet::{Alphabet, MOST_SYMBOLS};
 pub const ALPHA: u8 = 2;
 
 // All products of an alphabet's symbols: the product of a and b is at a times the number of symbols, plus b.
-fn products(alphabet: Alphabet) -> &'static [u8]
+pub fn products(alphabet: Alphabet) -> &'static [u8]
     ensures { Tabled (code_on alphabet) result.now }
 {
     match alphabet {

@@ -7,6 +7,10 @@ use Rattle.definitions.specs.Refusals.{symbols}
 use Rattle.refusals.proofs.Tried.{on_ok}
 use Rattle.field.proofs.operands_checked.Goals as goal
 
+-- It is the line of both.
+pub returns-clause-tried : goal.returns-clause-tried
+returns-clause-tried c = c.symbols_of.ensures.tried
+
 -- Where the line is passed, so are both operands.
 pub returns-clause-symbols : goal.returns-clause-symbols
 returns-clause-symbols c =

@@ -1,5 +1,5 @@
 -- The rows found are those of all roots, at most as many as a list has; ranked above the threshold, they are what is listed.
-use Rattle.std.proofs.Common.{ℕ, ◌*◌, ◌≤◌, List, length, replicate, arith}
+use Rattle.std.proofs.Common.{ℕ, ◌*◌, ◌-◌, ◌/◌, ◌≤◌, List, length, replicate, arith}
 use Rattle.alphabet.proofs.Sizes.{sized}
 use Rattle.alphabet.specs.Codes.{code_on, most_positions}
 use Rattle.definitions.proofs.Symbols.{replicate_symbols}
@@ -12,6 +12,15 @@ use Rattle.list_within.proofs.roots_above.Goals as goal
 -- the memory for the rows, before they are found
 memory : List ℕ
 memory = replicate (greatest_rows * most_positions) 0
+
+-- It has room for as many rows as the roots can be.
+pub roots_into-many-requires-clause-coefficients_len : goal.roots_into-many-requires-clause-coefficients_len
+roots_into-many-requires-clause-coefficients_len c =
+    let a = c.args in
+    let f = c.requires.rooted in
+    let z = f.sized in
+    let w = sized a.alphabet in
+    (f.full, rows_fit most_positions a.k (a.degree / (a.k - 1)) (omega arith) f.low)
 
 -- It held zeros, and holds the symbols of the roots in front now.
 pub ranked-requires-clause-symbols : goal.ranked-requires-clause-symbols

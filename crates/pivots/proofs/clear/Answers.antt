@@ -15,7 +15,7 @@ clear_block-requires-clause-target_rows c =
 
 pub loop-next-preserved : goal.loop-next-preserved
 loop-next-preserved c =
-    lower_block _ (field_on c.args.alphabet) c.loop-next.next (c.args.j / block) _ _ _ _ _ _ _ _ _ c.loop-next.auto.next c.factors-n.ensures.1
+    lower_block _ (field_on c.args.alphabet) c.loop-next.next (c.args.j / block) _ _ _ _ _ _ _ _ _ (omega arith) c.factors-n.ensures.1
     c.loop-next.invariant c.clear_block.ensures
 
 -- The loop has ended at next = blocks, so the rows are cleared in all blocks from that of column j on.
