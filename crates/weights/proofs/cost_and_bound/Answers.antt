@@ -1,10 +1,14 @@
 -- The lines of the table say what the bound asks for.
-use Rattle.std.proofs.Common.{arith}
+use Rattle.std.proofs.Common.{rules, arith}
 use Rattle.alphabet.specs.Codes.{code_on}
 use Rattle.definitions.proofs.Table.{sizes_mean, entries_mean}
 use Rattle.turning.proofs.Turned.{bytes_within}
 use Rattle.weights.proofs.Weighing.{cost_fits}
 use Rattle.weights.proofs.cost_and_bound.Goals as goal
+
+-- The line of the entries refuses what is above the greatest one, and nothing else.
+pub returns-in_err-symbols : goal.returns-in_err-symbols
+returns-in_err-symbols c = search rules
 
 -- The cost of the record is that of the bytes.
 pub bound-bound-requires : goal.bound-bound-requires
