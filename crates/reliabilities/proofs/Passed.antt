@@ -79,8 +79,6 @@ part_sum l first (suc many) =
     ]
 
 -- a part that is cut where the list ends is the whole part
-pub cut_sum : (l : List ℕ) (first many cut : ℕ) → cut ≡ min many (length l - first)
-    → sum_by (λ (x : ℕ). x) (take (first + cut - first) (drop first l)) ≡ sum many (λ (b : ℕ). get_or l (first + b) 0)
-cut_sum l first many cut e =
-    let same : first + cut - first ≡ min many (length l - first) = omega (arith, e) in
-    rw (same, ← length-drop first l, take_min many (drop first l)) (part_sum l first many)
+pub cut_sum : (l : List ℕ) (first many end : ℕ) → end - first ≡ min many (length l - first)
+    → sum_by (λ (x : ℕ). x) (take (end - first) (drop first l)) ≡ sum many (λ (b : ℕ). get_or l (first + b) 0)
+cut_sum l first many end e = rw (e, ← length-drop first l, take_min many (drop first l)) (part_sum l first many)

@@ -27,8 +27,11 @@ fn column_sum(alphabet: Alphabet, reliabilities: &[u16], i: usize) -> usize
 {
     let symbols = alphabet.symbols();
     let first = symbols * i;
-    let many = symbols.min(reliabilities.len() - first);
-    sum_of(&reliabilities[first..first + many])
+    if first + symbols <= reliabilities.len() {
+        sum_of(&reliabilities[first..first + symbols])
+    } else {
+        sum_of(&reliabilities[first..])
+    }
 }
 
 // Refused at the first position whose reliabilities sum to more than 4,096. Behind the end of the list a position has none.

@@ -13,9 +13,8 @@ fn multiplicity_of(level: usize, reliability: u16) -> u8
     requires { level ≤ greatest_level }
     ensures { result ≡ multiplicity level reliability }
 {
-    // A level of eight bits: so the product is a short one, and more of them are made at a time.
-    let level = usize::from(level as u8);
-    (level * usize::from(reliability) / GREATEST_SUM) as u8
+    // In 32 bits, of which the machine multiplies more at a time.
+    (level as u32 * u32::from(reliability) / GREATEST_SUM as u32) as u8
 }
 
 // The multiplicity of each reliability, to the front of out.
